@@ -16,7 +16,7 @@ use Rattle.abi_cookie.specs.declared.answers.ArrayAnswer.TheVariants.{Abstract, 
 use Rattle.abi_cookie.specs.Cookies.{NeedsCookie, IsCookie, some_cookie, no_cookie, array_bytes}
 use Rattle.abi_cookie.specs.ArrayTexts.{array_text}
 use Rattle.abi_cookie.specs.Answers.{most_bytes, IsArrayAnswer, of_abstract, too_large, told}
-use Rattle.abi_cookie.specs.invariants.Marks.{mark, has_destructor, AreMarked}
+use Rattle.abi_cookie.specs.invariants.Marks.{mark_of_class, has_destructor, AreMarked}
 use Rattle.abi_cookie.proofs.Marking.{none_marked, one_marked}
 
 -- marks for the first classes
@@ -49,7 +49,7 @@ decide_needs : (h : Classes) → IsHierarchy h → (c : ClassId) → c.0 < lengt
 decide_needs h keeps c known =
     let all = some_marks h keeps (length h) (omega arith) in
     let is = all.are.each c known in
-    decide_as (decide_flag (mark all.marks c)) is.0 is.1
+    decide_as (decide_flag (mark_of_class all.marks c)) is.0 is.1
 
 some_size : (h : Classes) → IsHierarchy h → (l : Places) (c : ClassId) → c.0 < length h → (cookie : ℕ) × IsCookie h l c cookie
 some_size h keeps l c known = ⊎_elim (λ need. (max 8 (l.align c), some_cookie need)) (λ none_needed. (0, no_cookie none_needed)) (decide_needs h keeps c known)

@@ -11,13 +11,13 @@ use Rattle.byte_memory.specs.declared.memory.Region.{Region}
 use Rattle.byte_memory.specs.declared.memory.MemoryFault.{MemoryFault}
 use Rattle.byte_memory.specs.declared.memory.MemoryFault.TheVariants.{Closed, NoMemory}
 use Rattle.byte_memory.specs.Bits.{number_from}
-use Rattle.byte_memory.specs.Regions.{starts, shut, holds, fault_in, fault_at, close_fault, IsAscending}
+use Rattle.byte_memory.specs.Regions.{starts, shut, holds_bytes, fault_in, fault_at, close_fault, IsAscending}
 use Rattle.byte_memory.specs.Store.{Store, Closes, answer, load_of, close_of}
 use Rattle.byte_memory.proofs.Ascending.{find-last}
 use Rattle.byte_memory.proofs.Reached.{holds-address}
 use Rattle.byte_memory.proofs.ByBits.{number_from-kept}
 use Rattle.abi_cookie.specs.Cookies.{array_bytes}
-use Rattle.abi_cookie.specs.Arrays.{IsArray, IsRefusal, DiffersBehind, element_at, elements, ended_elements}
+use Rattle.abi_cookie.specs.Arrays.{IsArray, IsCloseRefusal, DiffersBehind, element_at, elements, ended_elements}
 use Rattle.abi_cookie.proofs.Elements.{reverse-more, elements-length, ended-some}
 use Rattle.abi_cookie.proofs.Stores.{wide-cookie}
 
@@ -25,14 +25,14 @@ use Rattle.abi_cookie.proofs.Stores.{wide-cookie}
 load-refused : (memory : Store) (at n : ℕ) (fault : MemoryFault) → fault_at memory.regions at n ≡ Some fault → load_of memory at n ≡ Err fault
 load-refused memory at n fault is = ap (λ (f : Option MemoryFault). answer at f (number_from memory.bit (8 * at) (8 * n))) is
 
-inside-holds : (region : Region) (at n : ℕ) → region.start ≤ at → at + n ≤ region.start + region.size → holds at n region ≡ true
+inside-holds : (region : Region) (at n : ℕ) → region.start ≤ at → at + n ≤ region.start + region.size → holds_bytes at n region ≡ true
 inside-holds region at n low high = grind (arith, nat_tests)
 
 closed-bytes : (rs : List Region) (region : Region) (at n : ℕ) → IsAscending rs → find (starts region.start) rs ≡ Some region → region.is_open ≡ false → 0 < n → region.start ≤ at → at + n ≤ region.start + region.size → fault_at rs at n ≡ Some (Closed at)
 closed-bytes rs region at n up there shut_is some low high =
     let has = find_passes (starts region.start) rs region there in
     let index = index_of rs region has.0 in
-    let found : find (holds at n) rs ≡ Some region = find-last (λ (q : Region). q.start) (λ (q : Region). q.size) rs at (holds at n) index.0 region up (holds-address rs at n some) index.1 (inside-holds region at n low high) in
+    let found : find (holds_bytes at n) rs ≡ Some region = find-last (λ (q : Region). q.start) (λ (q : Region). q.size) rs at (holds_bytes at n) index.0 region up (holds-address rs at n some) index.1 (inside-holds region at n low high) in
     ap (fault_in at) found ∙ ap (λ (b : Bool). if b then None else Some (Closed at)) shut_is
 
 low-count : (start first cookie : ℕ) → first ≡ start + cookie → 8 ≤ cookie → start ≤ first - 8

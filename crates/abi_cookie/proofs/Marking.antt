@@ -18,7 +18,7 @@ use Rattle.cxx_hierarchy.specs.Declarations.{is_implicit}
 use Rattle.cxx_hierarchy.specs.Hierarchies.{IsHierarchy}
 use Rattle.cxx_hierarchy.specs.VirtualBases.{IsDirectBase}
 use Rattle.abi_cookie.specs.Cookies.{NeedsCookie, declared, by_base, by_member}
-use Rattle.abi_cookie.specs.invariants.Marks.{mark, mark_of_type, has_destructor, AreMarked}
+use Rattle.abi_cookie.specs.invariants.Marks.{mark_of_class, mark_of_type, has_destructor, AreMarked}
 
 not_true : (b : Bool) → not b ≡ true → b ≡ false
 not_true true e = cc
@@ -36,7 +36,7 @@ or_cases false b e = inr e
 record IsMarkedObject (marks : List Bool) (type : FieldType ClassId) : Type 0 where
   class : ClassId
   is : type ≡ Object class
-  marked : mark marks class ≡ true
+  marked : mark_of_class marks class ≡ true
 
 marked_object : (marks : List Bool) (type : FieldType ClassId) → mark_of_type marks type ≡ true → IsMarkedObject marks type
 marked_object marks (Value type) e = cc
@@ -50,7 +50,7 @@ module _ (h : Classes) (keeps : IsHierarchy h) (marks : List Bool) (c : ClassId)
   own_members : members_of h c ≡ class.members
   own_members = ap members_in at
 
-  base_needs : HasAny (λ (base : Base ClassId). mark marks base.class) class.bases → NeedsCookie h c
+  base_needs : HasAny (λ (base : Base ClassId). mark_of_class marks base.class) class.bases → NeedsCookie h c
   base_needs any =
       let listed : Contains (bases_of h c) any.item = subst (λ (bases : List (Base ClassId)). Contains bases any.item) (sym own_bases) (contains_from_has class.bases any.item any.has) in
       by_base c any.item.class any.item.is_virtual (record { base = any.item; listed = listed; class = refl; way = refl }) ((are.each any.item.class (keeps.bases c any.item listed)).0 any.passes)
@@ -65,27 +65,27 @@ module _ (h : Classes) (keeps : IsHierarchy h) (marks : List Bool) (c : ClassId)
   needs e = ⊎_elim
       (λ first. ⊎_elim
       (λ own. declared c class at (not_true (is_implicit class.destructor) own))
-      (λ bases. base_needs (any_has (λ (base : Base ClassId). mark marks base.class) class.bases bases))
-      (or_cases (not (is_implicit class.destructor)) (list_any (λ (base : Base ClassId). mark marks base.class) class.bases) first))
+      (λ bases. base_needs (any_has (λ (base : Base ClassId). mark_of_class marks base.class) class.bases bases))
+      (or_cases (not (is_implicit class.destructor)) (list_any (λ (base : Base ClassId). mark_of_class marks base.class) class.bases) first))
       (λ members. member_needs (any_has (λ (member : Member ClassId). mark_of_type marks member.ty) class.members members))
-      (or_cases (not (is_implicit class.destructor) || list_any (λ (base : Base ClassId). mark marks base.class) class.bases) (list_any (λ (member : Member ClassId). mark_of_type marks member.ty) class.members) e)
+      (or_cases (not (is_implicit class.destructor) || list_any (λ (base : Base ClassId). mark_of_class marks base.class) class.bases) (list_any (λ (member : Member ClassId). mark_of_type marks member.ty) class.members) e)
 
   by_own : is_implicit class.destructor ≡ false → has_destructor marks class ≡ true
-  by_own e = or_left (not (is_implicit class.destructor) || list_any (λ (base : Base ClassId). mark marks base.class) class.bases) (list_any (λ (member : Member ClassId). mark_of_type marks member.ty) class.members)
-      (or_left (not (is_implicit class.destructor)) (list_any (λ (base : Base ClassId). mark marks base.class) class.bases) (not_false (is_implicit class.destructor) e))
+  by_own e = or_left (not (is_implicit class.destructor) || list_any (λ (base : Base ClassId). mark_of_class marks base.class) class.bases) (list_any (λ (member : Member ClassId). mark_of_type marks member.ty) class.members)
+      (or_left (not (is_implicit class.destructor)) (list_any (λ (base : Base ClassId). mark_of_class marks base.class) class.bases) (not_false (is_implicit class.destructor) e))
 
   by_bases : (base : Base ClassId) → Contains (bases_of h c) base → NeedsCookie h base.class → has_destructor marks class ≡ true
   by_bases base listed need =
       let has : Has class.bases base = has_from_contains class.bases base (subst (λ (bases : List (Base ClassId)). Contains bases base) own_bases listed) in
-      or_left (not (is_implicit class.destructor) || list_any (λ (base : Base ClassId). mark marks base.class) class.bases) (list_any (λ (member : Member ClassId). mark_of_type marks member.ty) class.members)
-      (or_right (not (is_implicit class.destructor)) (list_any (λ (base : Base ClassId). mark marks base.class) class.bases)
-      (has_any (λ (base : Base ClassId). mark marks base.class) class.bases base has ((are.each base.class (keeps.bases c base listed)).1 need)))
+      or_left (not (is_implicit class.destructor) || list_any (λ (base : Base ClassId). mark_of_class marks base.class) class.bases) (list_any (λ (member : Member ClassId). mark_of_type marks member.ty) class.members)
+      (or_right (not (is_implicit class.destructor)) (list_any (λ (base : Base ClassId). mark_of_class marks base.class) class.bases)
+      (has_any (λ (base : Base ClassId). mark_of_class marks base.class) class.bases base has ((are.each base.class (keeps.bases c base listed)).1 need)))
 
   by_members : (d : ClassId) (m : Member ClassId) → Contains (members_of h c) m → m.ty ≡ Object d → NeedsCookie h d → has_destructor marks class ≡ true
   by_members d m listed type need =
       let has : Has class.members m = has_from_contains class.members m (subst (λ (members : List (Member ClassId)). Contains members m) own_members listed) in
       let marked : mark_of_type marks m.ty ≡ true = ap (mark_of_type marks) type ∙ (are.each d (keeps.objects c d m listed type)).1 need in
-      or_right (not (is_implicit class.destructor) || list_any (λ (base : Base ClassId). mark marks base.class) class.bases) (list_any (λ (member : Member ClassId). mark_of_type marks member.ty) class.members)
+      or_right (not (is_implicit class.destructor) || list_any (λ (base : Base ClassId). mark_of_class marks base.class) class.bases) (list_any (λ (member : Member ClassId). mark_of_type marks member.ty) class.members)
       (has_any (λ (member : Member ClassId). mark_of_type marks member.ty) class.members m has marked)
 
 pub needed : (h : Classes) → IsHierarchy h → (marks : List Bool) (c : ClassId) (class : Class) → class_at h c ≡ Some class → AreMarked h marks c.0 → NeedsCookie h c → has_destructor marks class ≡ true
@@ -111,7 +111,7 @@ one_marked h keeps marks new c class at are kept here = record {
       (λ small. subst (λ (b : Bool). (b ≡ true) ↔ NeedsCookie h d) (sym (kept d.0 small)) (are.each d small))
       (λ past.
       let same : c ≡ d = same_id c d (omega arith) in
-      subst (λ (x : ClassId). (mark new x ≡ true) ↔ NeedsCookie h x) same
+      subst (λ (x : ClassId). (mark_of_class new x ≡ true) ↔ NeedsCookie h x) same
       (λ marked. needs h keeps marks c class at are (sym here ∙ marked), λ need. here ∙ needed h keeps marks c class at are need))
       (cases_lt d.0 c.0);
 }

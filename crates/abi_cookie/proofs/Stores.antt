@@ -17,7 +17,7 @@ use Rattle.byte_memory.proofs.Lists.{find-first, slice_get-push_cases}
 use Rattle.byte_memory.proofs.Reached.{fault_at-inside}
 use Rattle.byte_memory.proofs.ByBits.{number_from-stored_bytes}
 use Rattle.abi_cookie.specs.Cookies.{array_bytes}
-use Rattle.abi_cookie.specs.Arrays.{AreOpened, IsArray, MakesArray, counted}
+use Rattle.abi_cookie.specs.Arrays.{AreOpened, IsArray, MakesArray, count_stored}
 
 -- the region that was opened
 abbrev pub opened : ℕ → ℕ → Region
@@ -47,14 +47,14 @@ load-stored memory at n value reached fits =
     ∙ ap (answer at None) (number_from-stored_bytes n memory.bit at value ∙ ap Some small)
 
 -- the regions do not change when the count is stored
-pub counted-regions : (memory : Store) (cookie n first : ℕ) → (counted memory cookie n first).regions ≡ memory.regions
+pub counted-regions : (memory : Store) (cookie n first : ℕ) → (count_stored memory cookie n first).regions ≡ memory.regions
 counted-regions memory cookie n first = by_test (nat_eq cookie 0)
   where
     by_test : (b : Bool) → (if b then memory else store_of memory (first - 8) 8 n).regions ≡ memory.regions
     by_test true = refl
     by_test false = refl
 
-counted-some : (memory : Store) (cookie n first : ℕ) → 0 < cookie → counted memory cookie n first ≡ store_of memory (first - 8) 8 n
+counted-some : (memory : Store) (cookie n first : ℕ) → 0 < cookie → count_stored memory cookie n first ≡ store_of memory (first - 8) 8 n
 counted-some memory cookie n first some =
     let test : nat_eq cookie 0 ≡ false = grind (arith, nat_tests) in
     ap (λ (b : Bool). if b then memory else store_of memory (first - 8) 8 n) test

@@ -36,19 +36,19 @@ pub record IsArray (memory : Store) (size cookie n first : ℕ) : Type 0 where
   pub count : 0 < cookie → region.is_open ≡ true → load_of memory (first - 8) 8 ≡ Ok n
 
 -- the memory after the count was stored before `first`, where there is a cookie
-abbrev pub counted : Store → ℕ → ℕ → ℕ → Store
-counted memory cookie n first = if nat_eq cookie 0 then memory else store_of memory (first - 8) 8 n
+abbrev pub count_stored : Store → ℕ → ℕ → ℕ → Store
+count_stored memory cookie n first = if nat_eq cookie 0 then memory else store_of memory (first - 8) 8 n
 
 -- a region was opened for n elements, element 0 lies behind its cookie, and the count was stored; nothing else changed
 pub record MakesArray (old new : Store) (size cookie n first : ℕ) : Type 0 where
   pub start : ℕ
   pub room : IsRoom old start (array_bytes size cookie n)
   pub behind : first ≡ start + cookie
-  pub new_is : new ≡ counted (open_of old start (array_bytes size cookie n)) cookie n first
+  pub new_is : new ≡ count_stored (open_of old start (array_bytes size cookie n)) cookie n first
 
 -- why a region that starts there is not closed: it is closed already, or else there was no memory for the addresses
-abbrev pub IsRefusal : Store → ℕ → MemoryFault → Type 0
-IsRefusal memory start fault = (close_fault memory.regions start ≡ Some fault) ⊎ ((close_fault memory.regions start ≡ None) × (fault ≡ NoMemory))
+abbrev pub IsCloseRefusal : Store → ℕ → MemoryFault → Type 0
+IsCloseRefusal memory start fault = (close_fault memory.regions start ≡ Some fault) ⊎ ((close_fault memory.regions start ≡ None) × (fault ≡ NoMemory))
 
 -- nothing but bits behind `first` differs
 pub record DiffersBehind (old new : Store) (first : ℕ) : Type 0 where

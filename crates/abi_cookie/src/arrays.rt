@@ -4,7 +4,7 @@ ghost use Rattle.std.specs.Prelude.{◌≡◌, ℕ, ◌+◌, ◌-◌, ◌*◌, �
 ghost use Rattle.byte_memory.specs.Regions.{close_fault, fault_at, total_of, rounded};
 ghost use Rattle.byte_memory.specs.Store.{Closes, load_of};
 ghost use Rattle.abi_cookie.specs.Cookies.{array_bytes};
-ghost use Rattle.abi_cookie.specs.Arrays.{AreOpened, IsArray, IsRefusal, MakesArray, counted, elements, ended_elements};
+ghost use Rattle.abi_cookie.specs.Arrays.{AreOpened, IsArray, IsCloseRefusal, MakesArray, count_stored, elements, ended_elements};
 
 use crate::cookies::COUNT_BYTES;
 use byte_memory::{Memory, MemoryFault};
@@ -47,7 +47,7 @@ fn store_count<M: Memory>(memory: &mut M, first: u64, cookie: u32, count: u32)
     requires behind { cookie ≤ first }
     requires multiple { cookie % 8 ≡ 0 }
     requires reached { 0 < cookie → fault_at (M.meaning memory.old).regions (first - 8) 8 ≡ None }
-    ensures { M.meaning memory.new ≡ counted (M.meaning memory.old) cookie count first }
+    ensures { M.meaning memory.new ≡ count_stored (M.meaning memory.old) cookie count first }
 {
     if cookie == 0 {
         return;
@@ -83,7 +83,7 @@ pub fn delete_array<M: Memory>(
     ensures ended { OnOk result ((n : ℕ) → IsArray (M.meaning memory.old) size cookie n first →
         ended.new ≡ ended.old ++ ended_elements first size cookie n) }
     ensures closed { OnOk result (Closes (M.meaning memory.old) (M.meaning memory.new) (first - cookie)) }
-    ensures refused { IfErr result (IsRefusal (M.meaning memory.old) (first - cookie)) }
+    ensures refused { IfErr result (IsCloseRefusal (M.meaning memory.old) (first - cookie)) }
     ensures kept { OnErr result ((M.meaning memory.new ≡ M.meaning memory.old) × (ended.new ≡ ended.old)) }
 {
     end_elements(memory, first, size, cookie, ended)?;
@@ -106,7 +106,7 @@ fn end_elements<M: Memory>(
     ensures ended { OnOk result ((n : ℕ) → IsArray (M.meaning memory.now) size cookie n first →
         ended.new ≡ ended.old ++ ended_elements first size cookie n) }
     ensures reached { OnOk result (0 < cookie → close_fault (M.meaning memory.now).regions (first - cookie) ≡ None) }
-    ensures refused { IfErr result (IsRefusal (M.meaning memory.now) (first - cookie)) }
+    ensures refused { IfErr result (IsCloseRefusal (M.meaning memory.now) (first - cookie)) }
     ensures kept { OnErr result (ended.new ≡ ended.old) }
 {
     if cookie == 0 {

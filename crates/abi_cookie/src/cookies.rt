@@ -7,7 +7,7 @@ ghost use Rattle.cxx_hierarchy.specs.declared.records.ClassId.{ClassId};
 ghost use Rattle.cxx_hierarchy.specs.declared.records.Member.{Member};
 ghost use Rattle.abi_sound.specs.Places.{places_of};
 ghost use Rattle.abi_cookie.specs.Cookies.{NeedsCookie, IsCookie};
-ghost use Rattle.abi_cookie.specs.invariants.Marks.{mark, mark_of_type, has_destructor};
+ghost use Rattle.abi_cookie.specs.invariants.Marks.{mark_of_class, mark_of_type, has_destructor};
 
 use abi_sound::SoundLayout;
 use cxx_hierarchy::{Base, ClassId, ClassRec, FieldType, Hierarchy, Member};
@@ -20,7 +20,7 @@ pub const COUNT_BYTES: u32 = 8;
 
 /// Whether a class is marked.
 fn is_marked(marks: &[bool], c: ClassId) -> bool
-    ensures { result ≡ mark marks.now c }
+    ensures { result ≡ mark_of_class marks.now c }
 {
     match marks.get(c.0 as usize) {
         Some(mark) => *mark,
@@ -40,7 +40,7 @@ fn is_marked_type(marks: &[bool], ty: &FieldType<ClassId>) -> bool
 
 /// Whether a base is marked.
 fn is_marked_base(marks: &[bool], bases: &[Base<ClassId>]) -> bool
-    ensures { result ≡ list_any (λ (base : Base ClassId). mark marks.now base.class) bases.now }
+    ensures { result ≡ list_any (λ (base : Base ClassId). mark_of_class marks.now base.class) bases.now }
 {
     bases.iter().any(|base| is_marked(marks, base.class))
 }

@@ -6,8 +6,8 @@ use Rattle.abi_dyncast.specs.declared.parts.Part.{Part}
 use Rattle.abi_dyncast.specs.declared.parts.Edge.{Edge}
 use Rattle.abi_dyncast.specs.declared.work.Goal.{Goal}
 use Rattle.abi_dyncast.specs.declared.work.Found.{Found}
-use Rattle.abi_dyncast.specs.Graph.{Graph, any_edge, public_edge, Leads, stays, steps, LeadsToSome}
-use Rattle.abi_dyncast.specs.invariants.Finding.{IsSource, IsOfTarget, Tells, is_source, found_at, joined}
+use Rattle.abi_dyncast.specs.Graph.{Graph, any_edge, public_edge, LeadsByEdges, stays, steps, LeadsToSome}
+use Rattle.abi_dyncast.specs.invariants.Finding.{IsSource, IsOfTarget, TellsBelow, is_source, found_itself, found_with_base}
 
 -- the part is such a one itself, or one of its first k edges leads to one
 data FindsTo (g : Graph) (allow : Edge → Bool) (Q : Part → Type 0) (part : Part) (k : ℕ) : Type 0 where
@@ -56,7 +56,7 @@ end_flag g allow Q part own o = (λ e. up (o.0 e), λ f. o.1 (back part f.end f.
     up (self q) = record { end = part; leads = stays part; is = q }
     up (by i lt a f) = record { end = f.end; leads = steps part f.end i lt a f.leads; is = f.is }
 
-    back : (part end : Part) → Leads g allow part end → Q end → FindsTo g allow Q part (g.count part)
+    back : (part end : Part) → LeadsByEdges g allow part end → Q end → FindsTo g allow Q part (g.count part)
     back _ _ (stays part) q = self q
     back _ _ (steps part end i lt a l) q = by i lt a (record { end = end; leads = l; is = q })
 
@@ -70,21 +70,21 @@ source_test g goal part = (
 target_test : (g : Graph) (goal : Goal) (part : Part) → (nat_eq (g.class part) goal.target ≡ true) ↔ IsOfTarget g goal part
 target_test g goal part = (λ t. eqb-true (g.class part) goal.target t, λ e. eq-eqb (g.class part) goal.target e)
 
-pub tells_start : (g : Graph) (goal : Goal) (part : Part) (class : ℕ) → class ≡ g.class part → TellsTo g goal part 0 (found_at goal part.at class)
-tells_start g goal part class e = subst (λ c. TellsTo g goal part 0 (found_at goal part.at c)) (sym e) (record {
+pub tells_start : (g : Graph) (goal : Goal) (part : Part) (class : ℕ) → class ≡ g.class part → TellsTo g goal part 0 (found_itself goal part.at class)
+tells_start g goal part class e = subst (λ c. TellsTo g goal part 0 (found_itself goal part.at c)) (sym e) (record {
   source = start_flag g any_edge (IsSource g goal) part (is_source goal part.at (g.class part)) (source_test g goal part);
   public_source = start_flag g public_edge (IsSource g goal) part (is_source goal part.at (g.class part)) (source_test g goal part);
   public_target = start_flag g public_edge (IsOfTarget g goal) part (nat_eq (g.class part) goal.target) (target_test g goal part);
 })
 
-pub tells_step : (g : Graph) (goal : Goal) (part : Part) (k : ℕ) (own below : Found) → TellsTo g goal part k own → Tells g goal (g.edge part k).part below → TellsTo g goal part (k + 1) (joined own below (g.edge part k).is_public)
+pub tells_step : (g : Graph) (goal : Goal) (part : Part) (k : ℕ) (own below : Found) → TellsTo g goal part k own → TellsBelow g goal (g.edge part k).part below → TellsTo g goal part (k + 1) (found_with_base own below (g.edge part k).is_public)
 tells_step g goal part k own below o b = record {
   source = step_flag g any_edge (IsSource g goal) part k own.source below.source o.source b.source;
   public_source = step_flag g public_edge (IsSource g goal) part k own.public_source below.public_source o.public_source b.public_source;
   public_target = step_flag g public_edge (IsOfTarget g goal) part k own.public_target below.public_target o.public_target b.public_target;
 }
 
-pub tells_end : (g : Graph) (goal : Goal) (part : Part) (found : Found) → TellsTo g goal part (g.count part) found → Tells g goal part found
+pub tells_end : (g : Graph) (goal : Goal) (part : Part) (found : Found) → TellsTo g goal part (g.count part) found → TellsBelow g goal part found
 tells_end g goal part found o = record {
   source = end_flag g any_edge (IsSource g goal) part found.source o.source;
   public_source = end_flag g public_edge (IsSource g goal) part found.public_source o.public_source;

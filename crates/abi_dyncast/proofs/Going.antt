@@ -11,10 +11,10 @@ use Rattle.abi_dyncast.specs.declared.parts.Edge.{Edge}
 use Rattle.abi_dyncast.specs.declared.work.Goal.{Goal}
 use Rattle.abi_dyncast.specs.declared.work.Found.{Found}
 use Rattle.abi_dyncast.specs.declared.work.Entry.{Entry}
-use Rattle.abi_dyncast.specs.Graph.{Graph, graph_of, any_edge, Leads, stays, steps}
+use Rattle.abi_dyncast.specs.Graph.{Graph, graph_of, any_edge, LeadsByEdges, stays, steps}
 use Rattle.abi_dyncast.specs.invariants.Chain.{IsMet, IsEachOnce}
-use Rattle.abi_dyncast.specs.invariants.Finding.{Tells, found_at, joined}
-use Rattle.abi_dyncast.specs.invariants.Walks.{AreDone, IsReady, Visited}
+use Rattle.abi_dyncast.specs.invariants.Finding.{TellsBelow, found_itself, found_with_base}
+use Rattle.abi_dyncast.specs.invariants.Walks.{AreDone, MayBeginWalk, Visited}
 use Rattle.abi_dyncast.proofs.OnceLists.{each_once, once_short}
 use Rattle.abi_dyncast.proofs.Entries.{part_in, met_entry, met_left, met_cases, none_met, one_there, one_met, last_met, met_part}
 use Rattle.abi_dyncast.proofs.Findings.{TellsTo, tells_start, tells_step, tells_end}
@@ -26,13 +26,13 @@ pub record Going (g : Graph) (goal : Goal) (part : Part) (k : ℕ) (found : Foun
   pub more : List Entry
   pub is : new ≡ old ++ more
   pub low : (other : Part) → IsMet more other → g.class other < g.class part
-  pub below : (other : Part) → IsMet more other → Leads g any_edge part other
+  pub below : (other : Part) → IsMet more other → LeadsByEdges g any_edge part other
   pub met : (i : ℕ) → i < k → IsMet new (g.edge part i).part
   pub done : AreDone g goal new
 
 -- a part that was met
-pub found_tells : (g : Graph) (goal : Goal) (part : Part) (entries : List Entry) (e : Entry) → AreDone g goal entries → Contains entries e × (e.part ≡ part) → Tells g goal part e.found
-found_tells g goal part entries e done f = subst (λ p. Tells g goal p e.found) f.1 (done.tells e f.0)
+pub found_tells : (g : Graph) (goal : Goal) (part : Part) (entries : List Entry) (e : Entry) → AreDone g goal entries → Contains entries e × (e.part ≡ part) → TellsBelow g goal part e.found
+found_tells g goal part entries e done f = subst (λ p. TellsBelow g goal p e.found) f.1 (done.tells e f.0)
 
 pub found_visited : (g : Graph) (goal : Goal) (part : Part) (entries : List Entry) (e : Entry) → AreDone g goal entries → Contains entries e × (e.part ≡ part) → Visited g goal part entries entries
 found_visited g goal part entries e done f = record {
@@ -45,7 +45,7 @@ found_visited g goal part entries e done f = record {
 }
 
 -- no edge is done
-pub going_from : (g : Graph) (goal : Goal) (part : Part) (class : ℕ) (found : Found) (entries : List Entry) → AreDone g goal entries → class ≡ g.class part → found ≡ found_at goal part.at class → Going g goal part 0 found entries entries
+pub going_from : (g : Graph) (goal : Goal) (part : Part) (class : ℕ) (found : Found) (entries : List Entry) → AreDone g goal entries → class ≡ g.class part → found ≡ found_itself goal part.at class → Going g goal part 0 found entries entries
 going_from g goal part class found entries done e f = record {
   tells = subst (λ x. TellsTo g goal part 0 x) (sym f) (tells_start g goal part class e);
   more = [];
@@ -57,14 +57,14 @@ going_from g goal part class found entries done e f = record {
 }
 
 -- all that was met is among the parts of a walk
-going_inside : (image : ℕ → Option ℕ) (memory : Store) (goal : Goal) (room : ℕ) (part : Part) (k : ℕ) (found : Found) (old new : List Entry) → (ready : IsReady image memory goal room old part) → Going (graph_of image memory) goal part k found old new → (other : Part) → IsMet new other → Contains ready.parts other
+going_inside : (image : ℕ → Option ℕ) (memory : Store) (goal : Goal) (room : ℕ) (part : Part) (k : ℕ) (found : Found) (old new : List Entry) → (ready : MayBeginWalk image memory goal room old part) → Going (graph_of image memory) goal part k found old new → (other : Part) → IsMet new other → Contains ready.parts other
 going_inside image memory goal room part k found old new ready going other m = ⊎_elim
     (λ a. ready.inside other a)
     (λ b. leads_inside (graph_of image memory) any_edge ready.parts part other ready.are (going.below other b) ready.has)
     (met_cases old going.more other (subst (λ xs. IsMet xs other) going.is m))
 
 -- the next walk can begin
-pub going_ready : (image : ℕ → Option ℕ) (memory : Store) (goal : Goal) (room : ℕ) (part : Part) (k : ℕ) (found : Found) (old new : List Entry) → IsReady image memory goal room old part → Going (graph_of image memory) goal part k found old new → k < (graph_of image memory).count part → IsReady image memory goal room new ((graph_of image memory).edge part k).part
+pub going_ready : (image : ℕ → Option ℕ) (memory : Store) (goal : Goal) (room : ℕ) (part : Part) (k : ℕ) (found : Found) (old new : List Entry) → MayBeginWalk image memory goal room old part → Going (graph_of image memory) goal part k found old new → k < (graph_of image memory).count part → MayBeginWalk image memory goal room new ((graph_of image memory).edge part k).part
 going_ready image memory goal room part k found old new ready going lt = record {
   parts = ready.parts;
   are = ready.are;
@@ -75,7 +75,7 @@ going_ready image memory goal room part k found old new ready going lt = record 
   done = going.done;
 }
 
-going_step : (g : Graph) (goal : Goal) (part : Part) (k : ℕ) (found below : Found) (old mid new : List Entry) → Going g goal part k found old mid → k < g.count part → g.class (g.edge part k).part < g.class part → Tells g goal (g.edge part k).part below → Visited g goal (g.edge part k).part mid new → Going g goal part (k + 1) (joined found below (g.edge part k).is_public) old new
+going_step : (g : Graph) (goal : Goal) (part : Part) (k : ℕ) (found below : Found) (old mid new : List Entry) → Going g goal part k found old mid → k < g.count part → g.class (g.edge part k).part < g.class part → TellsBelow g goal (g.edge part k).part below → Visited g goal (g.edge part k).part mid new → Going g goal part (k + 1) (found_with_base found below (g.edge part k).is_public) old new
 going_step g goal part k found below old mid new going lt falls tells v = record {
   tells = tells_step g goal part k found below going.tells tells;
   more = going.more ++ v.more;
@@ -93,10 +93,10 @@ going_step g goal part k found below old mid new going lt falls tells v = record
 }
 
 -- one edge more, over what the code has
-pub going_next : (g : Graph) (goal : Goal) (part : Part) (k : ℕ) (found below next : Found) (way : Edge) (old mid new : List Entry) → Going g goal part k found old mid → k < g.count part → g.class (g.edge part k).part < g.class part → way ≡ g.edge part k → next ≡ joined found below way.is_public → Tells g goal way.part below → Visited g goal way.part mid new → Going g goal part (k + 1) next old new
+pub going_next : (g : Graph) (goal : Goal) (part : Part) (k : ℕ) (found below next : Found) (way : Edge) (old mid new : List Entry) → Going g goal part k found old mid → k < g.count part → g.class (g.edge part k).part < g.class part → way ≡ g.edge part k → next ≡ found_with_base found below way.is_public → TellsBelow g goal way.part below → Visited g goal way.part mid new → Going g goal part (k + 1) next old new
 going_next g goal part k found below next way old mid new going lt falls is joins tells v =
-    let e : next ≡ joined found below (g.edge part k).is_public = joins ∙ ap (λ (w : Edge). joined found below w.is_public) is in
-    let t = subst (λ (w : Edge). Tells g goal w.part below) is tells in
+    let e : next ≡ found_with_base found below (g.edge part k).is_public = joins ∙ ap (λ (w : Edge). found_with_base found below w.is_public) is in
+    let t = subst (λ (w : Edge). TellsBelow g goal w.part below) is tells in
     let u = subst (λ (w : Edge). Visited g goal w.part mid new) is v in
     subst (λ f. Going g goal part (k + 1) f old new) (sym e) (going_step g goal part k found below old mid new going lt falls t u)
 
@@ -108,7 +108,7 @@ going_new g goal part k found old new going none m = ⊎_elim
     (met_cases old going.more part (subst (λ xs. IsMet xs part) going.is m))
 
 -- there is room for it
-pub going_room : (image : ℕ → Option ℕ) (memory : Store) (goal : Goal) (room : ℕ) (part : Part) (k : ℕ) (found : Found) (old new : List Entry) → IsReady image memory goal room old part → Going (graph_of image memory) goal part k found old new → IsEachOnce new → (IsMet old part → ⊥) → length new < room
+pub going_room : (image : ℕ → Option ℕ) (memory : Store) (goal : Goal) (room : ℕ) (part : Part) (k : ℕ) (found : Found) (old new : List Entry) → MayBeginWalk image memory goal room old part → Going (graph_of image memory) goal part k found old new → IsEachOnce new → (IsMet old part → ⊥) → length new < room
 going_room image memory goal room part k found old new ready going once none =
     let fresh = going_new (graph_of image memory) goal part k found old new going none in
     let short = once_short (part ∷ map part_in new) ready.parts (λ h. fresh (met_part new part h), each_once part_in new once) (λ other h. has_from_contains ready.parts other (⊎_elim
@@ -126,11 +126,11 @@ going_end g goal e old new going class = record {
   more = going.more ++ e ∷ [];
   is = ap (λ xs. xs ++ e ∷ []) going.is ∙ append_assoc old going.more (e ∷ []);
   low = λ other m. ⊎_elim (λ a. let l = going.low other a in omega arith) (λ b. let l : g.class e.part ≡ g.class other = ap g.class (one_met e other b) in omega arith) (met_cases going.more (e ∷ []) other m);
-  below = λ other m. ⊎_elim (λ a. going.below other a) (λ b. subst (λ p. Leads g any_edge e.part p) (one_met e other b) (stays e.part)) (met_cases going.more (e ∷ []) other m);
+  below = λ other m. ⊎_elim (λ a. going.below other a) (λ b. subst (λ p. LeadsByEdges g any_edge e.part p) (one_met e other b) (stays e.part)) (met_cases going.more (e ∷ []) other m);
   met = last_met new e;
   done = record {
     class = λ x h. ⊎_elim (λ a. going.done.class x a) (λ b. subst (λ (y : Entry). y.class ≡ g.class y.part) (one_there x e b) class) (Contains-append_cases new (e ∷ []) x h);
-    tells = λ x h. ⊎_elim (λ a. going.done.tells x a) (λ b. subst (λ (y : Entry). Tells g goal y.part y.found) (one_there x e b) (tells_end g goal e.part e.found going.tells)) (Contains-append_cases new (e ∷ []) x h);
+    tells = λ x h. ⊎_elim (λ a. going.done.tells x a) (λ b. subst (λ (y : Entry). TellsBelow g goal y.part y.found) (one_there x e b) (tells_end g goal e.part e.found going.tells)) (Contains-append_cases new (e ∷ []) x h);
     below = λ other i m lt. met_left new (e ∷ []) (g.edge other i).part (⊎_elim
         (λ a. going.done.below other i a lt)
         (λ b. let same = one_met e other b in subst (λ p. IsMet new (g.edge p i).part) same (going.met i (subst (λ p. i < g.count p) (sym same) lt)))

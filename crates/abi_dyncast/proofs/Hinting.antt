@@ -7,15 +7,15 @@ use Rattle.byte_code.specs.Records.{IsInfoAt}
 use Rattle.byte_code.specs.declared.image.InfoRecord.{InfoRecord}
 use Rattle.abi_dyncast.specs.declared.parts.Part.{Part}
 use Rattle.abi_dyncast.specs.declared.parts.Edge.{Edge}
-use Rattle.abi_dyncast.specs.Rule.{IsCast, down}
-use Rattle.abi_dyncast.specs.Graph.{Graph, graph_of, info_at, any_edge, public_edge, Leads, stays, steps}
-use Rattle.abi_dyncast.specs.Casts.{AreParts, IsTarget, parts_below, view_of, CastsTo, CanCast, CanCastHinted, CountsVisits, IsTrueHint}
+use Rattle.abi_dyncast.specs.Rule.{AnswersCast, down}
+use Rattle.abi_dyncast.specs.Graph.{Graph, graph_of, info_at, any_edge, public_edge, LeadsByEdges, stays, steps}
+use Rattle.abi_dyncast.specs.Casts.{AreClosedParts, IsTargetPart, parts_below, view_at_address, CastsTo, CanCast, CanCastHinted, CountsVisits, IsTrueHint}
 use Rattle.abi_dyncast.specs.invariants.Hinting.{is_at_hint}
 use Rattle.abi_dyncast.specs.invariants.Walks.{ReadsAtMost}
 use Rattle.abi_dyncast.proofs.Ways.{leads_any}
 
 -- what lies below a part is the part itself, or of a lower class
-leads_lower : (g : Graph) (allow : Edge → Bool) (parts : List Part) (part end : Part) → AreParts g parts → Leads g allow part end → Contains parts part → (end ≡ part) ⊎ (g.class end < g.class part)
+leads_lower : (g : Graph) (allow : Edge → Bool) (parts : List Part) (part end : Part) → AreClosedParts g parts → LeadsByEdges g allow part end → Contains parts part → (end ≡ part) ⊎ (g.class end < g.class part)
 leads_lower g allow parts _ _ are (stays part) has = inl refl
 leads_lower g allow parts _ _ are (steps part end i lt a l) has =
     let falls = are.falls part i has lt in
@@ -37,9 +37,9 @@ hinted class view_at at target (pos n) e =
     record { n = n; is = refl; place = eqb-true (view_at + n) at both.0; of_target = eqb-true class target both.1 }
 hinted class view_at at target (negsuc n) e = cc
 
-hint_rule : (g : Graph) (parts : List Part) (view : Part) (at class target : ℕ) (hint : ℤ) → AreParts g parts → Contains parts view → IsTrueHint g view class target hint → IsHinted (g.class view) view.at at target hint → IsCast (parts_below g view at class target) (Some view)
+hint_rule : (g : Graph) (parts : List Part) (view : Part) (at class target : ℕ) (hint : ℤ) → AreClosedParts g parts → Contains parts view → IsTrueHint g view class target hint → IsHinted (g.class view) view.at at target hint → AnswersCast (parts_below g view at class target) (Some view)
 hint_rule g parts view at class target hint are has truth is =
-    let here : IsTarget g target view view = record { below = stays view; class = is.of_target } in
+    let here : IsTargetPart g target view view = record { below = stays view; class = is.of_target } in
     let way = subst (λ (z : ℤ). IsTrueHint g view class target z) is.is truth view here in
     down view (record {
       over = record {
@@ -50,22 +50,22 @@ hint_rule g parts view at class target hint are has truth is =
     })
 
 -- the class of the view is known
-pub class_known : (image : ℕ → Option ℕ) (memory : Store) (room at : ℕ) (given : Part) (info : InfoRecord) → CanCast image memory room at → given ≡ view_of image memory at → ((r : InfoRecord) → IsInfoAt image given.info r → info ≡ r) → info.class ≡ (graph_of image memory).class (view_of image memory at)
+pub class_known : (image : ℕ → Option ℕ) (memory : Store) (room at : ℕ) (given : Part) (info : InfoRecord) → CanCast image memory room at → given ≡ view_at_address image memory at → ((r : InfoRecord) → IsInfoAt image given.info r → info ≡ r) → info.class ≡ (graph_of image memory).class (view_at_address image memory at)
 class_known image memory room at given info can same read =
-    let view = view_of image memory at in
+    let view = view_at_address image memory at in
     let there = subst (λ (p : Part). IsInfoAt image p.info (info_at image view.info)) (sym same) (can.walk.read.info view can.walk.has) in
     ap (λ (r : InfoRecord). r.class) (read (info_at image view.info) there)
 
 -- the view is the answer, by the test of the code
-pub hint_casts : (image : ℕ → Option ℕ) (memory : Store) (room at class target known : ℕ) (hint read : ℤ) (given : Part) (test : Bool) → CanCastHinted image memory room at class target hint → given ≡ view_of image memory at → known ≡ (graph_of image memory).class (view_of image memory at) → read ≡ hint → test ≡ is_at_hint known given.at at target read → test ≡ true → CastsTo image memory at class target (Some given.at)
+pub hint_casts : (image : ℕ → Option ℕ) (memory : Store) (room at class target known : ℕ) (hint read : ℤ) (given : Part) (test : Bool) → CanCastHinted image memory room at class target hint → given ≡ view_at_address image memory at → known ≡ (graph_of image memory).class (view_at_address image memory at) → read ≡ hint → test ≡ is_at_hint known given.at at target read → test ≡ true → CastsTo image memory at class target (Some given.at)
 hint_casts image memory room at class target known hint read given test can same of_class reads is holds =
     let g = graph_of image memory in
     let there : is_at_hint known given.at at target hint ≡ true = subst (λ (z : ℤ). is_at_hint known given.at at target z ≡ true) reads (sym is ∙ holds) in
-    let hinted_view = hinted (g.class (view_of image memory at)) (view_of image memory at).at at target hint
-    (subst (λ (p : Part). is_at_hint (g.class (view_of image memory at)) p.at at target hint ≡ true) same (subst (λ (k : ℕ). is_at_hint k given.at at target hint ≡ true) of_class there)) in
+    let hinted_view = hinted (g.class (view_at_address image memory at)) (view_at_address image memory at).at at target hint
+    (subst (λ (p : Part). is_at_hint (g.class (view_at_address image memory at)) p.at at target hint ≡ true) same (subst (λ (k : ℕ). is_at_hint k given.at at target hint ≡ true) of_class there)) in
     record {
-      answer = Some (view_of image memory at);
-      rule = hint_rule g can.can.walk.parts (view_of image memory at) at class target hint can.can.walk.are can.can.walk.has can.truth hinted_view;
+      answer = Some (view_at_address image memory at);
+      rule = hint_rule g can.can.walk.parts (view_at_address image memory at) at class target hint can.can.walk.are can.can.walk.has can.truth hinted_view;
       is = ap (λ (p : Part). Some p.at) same;
     }
 

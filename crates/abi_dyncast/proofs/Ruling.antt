@@ -8,11 +8,11 @@ use Rattle.abi_dyncast.specs.declared.parts.Part.{Part}
 use Rattle.abi_dyncast.specs.declared.work.Goal.{Goal}
 use Rattle.abi_dyncast.specs.declared.work.Found.{Found}
 use Rattle.abi_dyncast.specs.declared.work.Entry.{Entry}
-use Rattle.abi_dyncast.specs.Rule.{Parts, IsOver, IsDown, IsCast, down, across, nowhere}
-use Rattle.abi_dyncast.specs.Graph.{Graph, graph_of, word_in, pointer_at, moved, any_edge, public_edge, Leads, stays, steps, LeadsToSome}
-use Rattle.abi_dyncast.specs.Casts.{IsNamed, IsTarget, parts_below, view_of, place_in, CastsTo}
+use Rattle.abi_dyncast.specs.Rule.{Parts, IsOver, IsDown, AnswersCast, down, across, nowhere}
+use Rattle.abi_dyncast.specs.Graph.{Graph, graph_of, word_in, pointer_at, moved_address, any_edge, public_edge, LeadsByEdges, stays, steps, LeadsToSome}
+use Rattle.abi_dyncast.specs.Casts.{IsPartAtAddress, IsTargetPart, parts_below, view_at_address, found_address, CastsTo}
 use Rattle.abi_dyncast.specs.invariants.Chain.{IsMet, IsEachOnce}
-use Rattle.abi_dyncast.specs.invariants.Finding.{Tells}
+use Rattle.abi_dyncast.specs.invariants.Finding.{TellsBelow}
 use Rattle.abi_dyncast.specs.invariants.Walks.{AreDone, Visited}
 use Rattle.abi_dyncast.specs.invariants.Deciding.{is_candidate, only_candidate, across_by, decide_by}
 use Rattle.abi_dyncast.proofs.Entries.{met_entry}
@@ -28,10 +28,10 @@ record IsWalked (g : Graph) (goal : Goal) (view : Part) (found : Found) (entries
   done : AreDone g goal entries
   once : IsEachOnce entries
   met : IsMet entries view
-  below : (part : Part) → IsMet entries part → Leads g any_edge view part
-  tells : Tells g goal view found
+  below : (part : Part) → IsMet entries part → LeadsByEdges g any_edge view part
+  tells : TellsBelow g goal view found
 
-walked : (g : Graph) (goal : Goal) (view : Part) (found : Found) (entries : List Entry) → IsEachOnce entries → Visited g goal view [] entries → Tells g goal view found → IsWalked g goal view found entries
+walked : (g : Graph) (goal : Goal) (view : Part) (found : Found) (entries : List Entry) → IsEachOnce entries → Visited g goal view [] entries → TellsBelow g goal view found → IsWalked g goal view found entries
 walked g goal view found entries once v tells = record {
   done = v.done;
   once = once;
@@ -41,11 +41,11 @@ walked g goal view found entries once v tells = record {
 }
 
 -- all that lies below a met part was met
-leads_met : (g : Graph) (goal : Goal) (entries : List Entry) → AreDone g goal entries → (part end : Part) → Leads g any_edge part end → IsMet entries part → IsMet entries end
+leads_met : (g : Graph) (goal : Goal) (entries : List Entry) → AreDone g goal entries → (part end : Part) → LeadsByEdges g any_edge part end → IsMet entries part → IsMet entries end
 leads_met g goal entries d _ _ (stays part) m = m
 leads_met g goal entries d _ _ (steps part end i lt a l) m = leads_met g goal entries d (g.edge part i).part end l (d.below part i m lt)
 
-target_matches : (g : Graph) (goal : Goal) (view : Part) (found : Found) (entries : List Entry) → IsWalked g goal view found entries → Matches entries (is_candidate goal.target false) (IsTarget g goal.target view)
+target_matches : (g : Graph) (goal : Goal) (view : Part) (found : Found) (entries : List Entry) → IsWalked g goal view found entries → Matches entries (is_candidate goal.target false) (IsTargetPart g goal.target view)
 target_matches g goal view found entries w = record {
   sound = λ e h t. record {
     below = w.below e.part (met_entry entries e h);
@@ -68,54 +68,54 @@ over_matches g goal view found entries w = let all = target_matches g goal view 
       };
   complete = λ part q.
       let c = all.complete part q.target in
-      let has : c.0.found.source ≡ true = (w.done.tells c.0 c.1).source.1 (subst (λ p. LeadsToSome g any_edge (IsNamed g goal.at goal.class) p) (sym c.2) q.contains) in
+      let has : c.0.found.source ≡ true = (w.done.tells c.0 c.1).source.1 (subst (λ p. LeadsToSome g any_edge (IsPartAtAddress g goal.at goal.class) p) (sym c.2) q.contains) in
       (c.0, c.1, c.2, and_from (nat_eq c.0.class goal.target) (c.0.found.source || not true) (and_parts (nat_eq c.0.class goal.target) (c.0.found.source || not false) c.3).0 (or_left c.0.found.source (not true) has));
 }
 
 -- where it leads not down
 across_rule : (g : Graph) (goal : Goal) (view : Part) (found : Found) (entries : List Entry) → IsWalked g goal view found entries → ((other : Part) → IsDown (asked g goal view) other → ⊥) →
-    (all : Option Entry) → only_candidate entries goal.target false ≡ all → IsCast (asked g goal view) (across_by all found)
-across_rule g goal view found entries w none None e = nowhere none (λ part a. found_none entries (is_candidate goal.target false) (IsTarget g goal.target view) w.once (target_matches g goal view found entries w) e part a.target)
+    (all : Option Entry) → only_candidate entries goal.target false ≡ all → AnswersCast (asked g goal view) (across_by all found)
+across_rule g goal view found entries w none None e = nowhere none (λ part a. found_none entries (is_candidate goal.target false) (IsTargetPart g goal.target view) w.once (target_matches g goal view found entries w) e part a.target)
 across_rule g goal view found entries w none (Some x) e =
-    let f = found_only entries (is_candidate goal.target false) (IsTarget g goal.target view) x (target_matches g goal view found entries w) e in
-    split (found.public_source && found.public_target) (λ b. IsCast (asked g goal view) (if b then Some x.part else None))
+    let f = found_only entries (is_candidate goal.target false) (IsTargetPart g goal.target view) x (target_matches g goal view found entries w) e in
+    split (found.public_source && found.public_target) (λ b. AnswersCast (asked g goal view) (if b then Some x.part else None))
     (λ t.
     let both = and_parts found.public_source found.public_target t in
     let way = w.tells.public_target.0 both.1 in
-    let there : IsTarget g goal.target view way.end = record { below = leads_any g public_edge view way.end way.leads; class = way.is } in
-    across x.part none (record { source = w.tells.public_source.0 both.0; target = f.1; reached = subst (λ p. Leads g public_edge view p) (f.1.only way.end there) way.leads }))
+    let there : IsTargetPart g goal.target view way.end = record { below = leads_any g public_edge view way.end way.leads; class = way.is } in
+    across x.part none (record { source = w.tells.public_source.0 both.0; target = f.1; reached = subst (λ p. LeadsByEdges g public_edge view p) (f.1.only way.end there) way.leads }))
     (λ t. nowhere none (λ part a.
     let one = w.tells.public_source.1 a.source in
     let two = w.tells.public_target.1 (record { end = part; leads = a.reached; is = a.target.is.class }) in
     let both = and_from found.public_source found.public_target one two in cc))
 
 -- the decision is the rule
-decides : (g : Graph) (goal : Goal) (view : Part) (found : Found) (entries : List Entry) → IsWalked g goal view found entries → IsCast (asked g goal view) (decide_by (only_candidate entries goal.target true) (only_candidate entries goal.target false) found)
+decides : (g : Graph) (goal : Goal) (view : Part) (found : Found) (entries : List Entry) → IsWalked g goal view found entries → AnswersCast (asked g goal view) (decide_by (only_candidate entries goal.target true) (only_candidate entries goal.target false) found)
 decides g goal view found entries w = by_over (only_candidate entries goal.target true) refl
   where
-    by_over : (over : Option Entry) → only_candidate entries goal.target true ≡ over → IsCast (asked g goal view) (decide_by over (only_candidate entries goal.target false) found)
+    by_over : (over : Option Entry) → only_candidate entries goal.target true ≡ over → AnswersCast (asked g goal view) (decide_by over (only_candidate entries goal.target false) found)
     by_over None e = across_rule g goal view found entries w (λ other d. found_none entries (is_candidate goal.target true) (IsOver (asked g goal view)) w.once (over_matches g goal view found entries w) e other d.over) (only_candidate entries goal.target false) refl
     by_over (Some x) e =
         let f = found_only entries (is_candidate goal.target true) (IsOver (asked g goal view)) x (over_matches g goal view found entries w) e in
         let tells = w.done.tells x f.0 in
-        split x.found.public_source (λ b. IsCast (asked g goal view) (if b then Some x.part else across_by (only_candidate entries goal.target false) found))
+        split x.found.public_source (λ b. AnswersCast (asked g goal view) (if b then Some x.part else across_by (only_candidate entries goal.target false) found))
         (λ t. down x.part (record { over = f.1; source = tells.public_source.0 t }))
         (λ t. across_rule g goal view found entries w
-        (λ other d. let same = f.1.only other d.over.is in let p = tells.public_source.1 (subst (λ q. LeadsToSome g public_edge (IsNamed g goal.at goal.class) q) same d.source) in cc)
+        (λ other d. let same = f.1.only other d.over.is in let p = tells.public_source.1 (subst (λ q. LeadsToSome g public_edge (IsPartAtAddress g goal.at goal.class) q) same d.source) in cc)
         (only_candidate entries goal.target false) refl)
 
 -- the view as the code reads it
-pub view_is : (image : ℕ → Option ℕ) (memory : Store) (at point before top to behind info : ℕ) → point ≡ pointer_at memory at → before ≡ point - 16 → top ≡ word_in (image before) → to ≡ moved at top → behind ≡ point - 8 → info ≡ word_in (image behind) → record { at = to; info = info } ≡ view_of image memory at
+pub view_is : (image : ℕ → Option ℕ) (memory : Store) (at point before top to behind info : ℕ) → point ≡ pointer_at memory at → before ≡ point - 16 → top ≡ word_in (image before) → to ≡ moved_address at top → behind ≡ point - 8 → info ≡ word_in (image behind) → record { at = to; info = info } ≡ view_at_address image memory at
 view_is image memory at point before top to behind info a b c d e f =
     let make : ℕ → ℕ → Part = λ x y. record { at = x; info = y } in
     let top_is : top ≡ word_in (image (pointer_at memory at - 16)) = c ∙ ap (λ k. word_in (image k)) (b ∙ ap (λ p. p - 16) a) in
     let info_is : info ≡ word_in (image (pointer_at memory at - 8)) = f ∙ ap (λ k. word_in (image k)) (e ∙ ap (λ p. p - 8) a) in
-    let end : make to info ≡ view_of image memory at = ap (λ x. make x info) (d ∙ ap (moved at) top_is) ∙ ap (make (moved at (word_in (image (pointer_at memory at - 16))))) info_is in
+    let end : make to info ≡ view_at_address image memory at = ap (λ x. make x info) (d ∙ ap (moved_address at) top_is) ∙ ap (make (moved_address at (word_in (image (pointer_at memory at - 16))))) info_is in
     end
 
 -- the answer of the code
-pub cast_is : (image : ℕ → Option ℕ) (memory : Store) (goal : Goal) (view : Part) (found : Found) (before entries slice : List Entry) (result : Option Part) → view ≡ view_of image memory goal.at → before ≡ [] → IsEachOnce entries → Visited (graph_of image memory) goal view before entries → Tells (graph_of image memory) goal view found → slice ≡ entries →
-    result ≡ decide_by (only_candidate slice goal.target true) (only_candidate slice goal.target false) found → CastsTo image memory goal.at goal.class goal.target (place_in result)
+pub cast_is : (image : ℕ → Option ℕ) (memory : Store) (goal : Goal) (view : Part) (found : Found) (before entries slice : List Entry) (result : Option Part) → view ≡ view_at_address image memory goal.at → before ≡ [] → IsEachOnce entries → Visited (graph_of image memory) goal view before entries → TellsBelow (graph_of image memory) goal view found → slice ≡ entries →
+    result ≡ decide_by (only_candidate slice goal.target true) (only_candidate slice goal.target false) found → CastsTo image memory goal.at goal.class goal.target (found_address result)
 cast_is image memory goal view found before entries slice result is empty once visited tells same decided =
     let g = graph_of image memory in
     let v = subst (λ xs. Visited g goal view xs entries) empty visited in
@@ -124,6 +124,6 @@ cast_is image memory goal view found before entries slice result is empty once v
     decided ∙ ap (λ xs. decide_by (only_candidate xs goal.target true) (only_candidate xs goal.target false) found) same in
     record {
       answer = result;
-      rule = subst (λ p. IsCast (parts_below g p goal.at goal.class goal.target) result) is (subst (λ r. IsCast (asked g goal view) r) (sym chosen) rule);
+      rule = subst (λ p. AnswersCast (parts_below g p goal.at goal.class goal.target) result) is (subst (λ r. AnswersCast (asked g goal view) r) (sym chosen) rule);
       is = refl;
     }

@@ -1,7 +1,7 @@
 -- The rule goes over from one kind of parts to another.
 use Rattle.std.proofs.Common.{◌≡◌, Option, Some, None, refl, ap, subst, sym, ◌∙◌}
 use Rattle.std.specs.Prelude.{◌↔◌}
-use Rattle.abi_dyncast.specs.Rule.{Parts, IsDown, IsAcross, IsCast, down, across, nowhere}
+use Rattle.abi_dyncast.specs.Rule.{Parts, IsDown, IsAcross, AnswersCast, down, across, nowhere}
 
 -- the parts of the target class correspond, and the rule's questions have the same answers there
 pub record Corresponds {P Q : Type 0} (a : Parts P) (b : Parts Q) (f : P → Q) : Type 0 where
@@ -19,7 +19,7 @@ made f (Some p) = Some (f p)
 
 pub record IsAnswer {P Q : Type 0} (a : Parts P) (f : P → Q) (given : Option Q) : Type 0 where
   pub answer : Option P
-  pub rule : IsCast a answer
+  pub rule : AnswersCast a answer
   pub is : made f answer ≡ given
 
 down_to : {P Q : Type 0} (a : Parts P) (b : Parts Q) (f : P → Q) → Corresponds a b f → (p : P) → IsDown a p → IsDown b (f p)
@@ -59,7 +59,7 @@ across_from a b f c p target k = record {
   reached = (c.reached p target).1 k.reached;
 }
 
-pub transfer : {P Q : Type 0} (a : Parts P) (b : Parts Q) (f : P → Q) → Corresponds a b f → (given : Option Q) → IsCast b given → IsAnswer a f given
+pub transfer : {P Q : Type 0} (a : Parts P) (b : Parts Q) (f : P → Q) → Corresponds a b f → (given : Option Q) → AnswersCast b given → IsAnswer a f given
 transfer a b f c _ (down q d) =
     let m = c.from q d.over.is.target in
     record {

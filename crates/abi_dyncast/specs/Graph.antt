@@ -20,29 +20,29 @@ abbrev pub word_in : Option ℕ → ℕ
 word_in None = 0
 word_in (Some word) = word
 
-abbrev pub loaded : Result ℕ MemoryFault → ℕ
-loaded (Ok word) = word
-loaded (Err fault) = 0
+abbrev pub loaded_or_zero : Result ℕ MemoryFault → ℕ
+loaded_or_zero (Ok word) = word
+loaded_or_zero (Err fault) = 0
 
 -- the virtual pointer at an address
 abbrev pub pointer_at : Store → ℕ → ℕ
-pointer_at memory at = loaded (load_of memory at 8)
+pointer_at memory at = loaded_or_zero (load_of memory at 8)
 
 -- an address moved by the word of a distance, as addresses wrap
-abbrev pub moved : ℕ → ℕ → ℕ
-moved at word = (at + word) % 2 ^ 64
+abbrev pub moved_address : ℕ → ℕ → ℕ
+moved_address at word = (at + word) % 2 ^ 64
 
 -- the type information at an address: the number of the class, its flags, how many bases it has, and where the first one stands
 abbrev pub info_at : (ℕ → Option ℕ) → ℕ → InfoRecord
 info_at image at = record { class = word_in (image at); flags = word_in (image (at + 8)); bases = word_in (image (at + 16)); first = word_in (image (at + 24)) }
 
 -- the base at an address: its type information, and where it lies and what it is
-abbrev pub base_at : (ℕ → Option ℕ) → ℕ → BaseRecord
-base_at image at = record { info = word_in (image at); offset_flags = signed_of 8 true (word_in (image (at + 8))) }
+abbrev pub base_record_at : (ℕ → Option ℕ) → ℕ → BaseRecord
+base_record_at image at = record { info = word_in (image at); offset_flags = signed_of 8 true (word_in (image (at + 8))) }
 
 -- the two lowest bits of the flags: a virtual base has the first, and a public one the second
-abbrev pub is_virtual : BaseRecord → Bool
-is_virtual base = nat_eq (word_of base.offset_flags % 2) 1
+abbrev pub has_virtual_flag : BaseRecord → Bool
+has_virtual_flag base = nat_eq (word_of base.offset_flags % 2) 1
 
 abbrev pub is_public : BaseRecord → Bool
 is_public base = nat_eq (word_of base.offset_flags / 2 % 2) 1
@@ -54,27 +54,27 @@ offset_word base = word_of (int_div_euclid base.offset_flags (pos 256))
 
 -- where the word of a virtual base stands, for a part at an address
 abbrev pub vbase_at : Store → ℕ → BaseRecord → ℕ
-vbase_at memory at base = moved (pointer_at memory at) (offset_word base)
+vbase_at memory at base = moved_address (pointer_at memory at) (offset_word base)
 
 -- how far a base lies from the part at an address, as a word
 abbrev pub distance_word : (ℕ → Option ℕ) → Store → ℕ → BaseRecord → ℕ
-distance_word image memory at base = if is_virtual base then word_in (image (vbase_at memory at base)) else offset_word base
+distance_word image memory at base = if has_virtual_flag base then word_in (image (vbase_at memory at base)) else offset_word base
 
 abbrev pub edge_by : (ℕ → Option ℕ) → Store → ℕ → BaseRecord → Edge
-edge_by image memory at base = record { part = record { at = moved at (distance_word image memory at base); info = base.info }; is_public = is_public base }
+edge_by image memory at base = record { part = record { at = moved_address at (distance_word image memory at base); info = base.info }; is_public = is_public base }
 
 -- where the record of the i-th base of the class of a part stands
 abbrev pub record_at : (ℕ → Option ℕ) → Part → ℕ → ℕ
 record_at image part i = (info_at image part.info).first + 16 * i
 
-abbrev pub base_of : (ℕ → Option ℕ) → Part → ℕ → BaseRecord
-base_of image part i = base_at image (record_at image part i)
+abbrev pub base_record : (ℕ → Option ℕ) → Part → ℕ → BaseRecord
+base_record image part i = base_record_at image (record_at image part i)
 
 abbrev pub graph_of : (ℕ → Option ℕ) → Store → Graph
 graph_of image memory = record {
   class = λ part. (info_at image part.info).class;
   count = λ part. (info_at image part.info).bases;
-  edge = λ part i. edge_by image memory part.at (base_of image part i);
+  edge = λ part i. edge_by image memory part.at (base_record image part i);
 }
 
 -- edges along which a walk goes
@@ -85,12 +85,12 @@ abbrev pub public_edge : Edge → Bool
 public_edge edge = edge.is_public
 
 -- allowed edges lead from a part to another
-pub data Leads (g : Graph) (allow : Edge → Bool) : Part → Part → Type 0 where
-  stays : (part : Part) → Leads g allow part part
-  steps : (part end : Part) (i : ℕ) → i < g.count part → allow (g.edge part i) ≡ true → Leads g allow (g.edge part i).part end → Leads g allow part end
+pub data LeadsByEdges (g : Graph) (allow : Edge → Bool) : Part → Part → Type 0 where
+  stays : (part : Part) → LeadsByEdges g allow part part
+  steps : (part end : Part) (i : ℕ) → i < g.count part → allow (g.edge part i) ≡ true → LeadsByEdges g allow (g.edge part i).part end → LeadsByEdges g allow part end
 
 -- they lead to one of which something holds
 pub record LeadsToSome (g : Graph) (allow : Edge → Bool) (Q : Part → Type 0) (part : Part) : Type 0 where
   pub end : Part
-  pub leads : Leads g allow part end
+  pub leads : LeadsByEdges g allow part end
   pub is : Q end

@@ -11,7 +11,7 @@ pub record Parts (P : Type 0) : Type 1 where
   pub is_reached : P → Type 0
 
 -- the one of which something holds
-pub record IsOnly {P : Type 0} (Q : P → Type 0) (p : P) : Type 0 where
+pub record IsOnlyOne {P : Type 0} (Q : P → Type 0) (p : P) : Type 0 where
   pub is : Q p
   pub only : (other : P) → Q other → other ≡ p
 
@@ -22,17 +22,17 @@ pub record IsOver {P : Type 0} (s : Parts P) (p : P) : Type 0 where
 
 -- down: exactly one part of the target class contains the source, and the source is a public base of it
 pub record IsDown {P : Type 0} (s : Parts P) (p : P) : Type 0 where
-  pub over : IsOnly (IsOver s) p
+  pub over : IsOnlyOne (IsOver s) p
   pub source : s.is_above p
 
 -- across: the source is a public base of the view, the view has exactly one part of the target class, and that is a public base too
 pub record IsAcross {P : Type 0} (s : Parts P) (p : P) : Type 0 where
   pub source : s.is_seen
-  pub target : IsOnly s.is_target p
+  pub target : IsOnlyOne s.is_target p
   pub reached : s.is_reached p
 
 -- the answer of a cast: where it leads down, else where it leads across, and none where it does neither
-pub data IsCast {P : Type 0} (s : Parts P) : Option P → Type 0 where
-  down : (p : P) → IsDown s p → IsCast s (Some p)
-  across : (p : P) → ((other : P) → IsDown s other → ⊥) → IsAcross s p → IsCast s (Some p)
-  nowhere : ((p : P) → IsDown s p → ⊥) → ((p : P) → IsAcross s p → ⊥) → IsCast s None
+pub data AnswersCast {P : Type 0} (s : Parts P) : Option P → Type 0 where
+  down : (p : P) → IsDown s p → AnswersCast s (Some p)
+  across : (p : P) → ((other : P) → IsDown s other → ⊥) → IsAcross s p → AnswersCast s (Some p)
+  nowhere : ((p : P) → IsDown s p → ⊥) → ((p : P) → IsAcross s p → ⊥) → AnswersCast s None

@@ -5,7 +5,7 @@ ghost use Rattle.byte_code.specs.Images.{word_at};
 ghost use Rattle.byte_code.specs.Readers.{image_of, visits_of};
 ghost use Rattle.byte_code.specs.Records.{IsTableWord};
 ghost use Rattle.abi_dyncast.specs.Graph.{graph_of, pointer_at};
-ghost use Rattle.abi_dyncast.specs.Casts.{room, view_of, CanCast, CanCastHinted, CastsTo, CountsVisits, CanTellWithin, TellsWithin};
+ghost use Rattle.abi_dyncast.specs.Casts.{room, view_at_address, CanCast, CanCastHinted, CastsTo, CountsVisits, CanTellWithin, TellsWithin};
 ghost use Rattle.abi_dyncast.specs.invariants.Deciding.{is_candidate, only_candidate, decide_by};
 ghost use Rattle.abi_dyncast.specs.invariants.Hinting.{is_at_hint};
 ghost use Rattle.abi_dyncast.specs.invariants.Walks.{ReadsAtMost};
@@ -66,7 +66,7 @@ fn view_from<M: Memory>(reader: &BaseReader<'_>, memory: &M, at: u64) -> Part
     requires info { IsSome (word_at (image_of reader.now) (pointer_at (M.meaning memory.now) at - 8)) }
     requires top_word { IsTableWord (word_at (image_of reader.now)) (pointer_at (M.meaning memory.now) at - 16) }
     requires info_word { IsTableWord (word_at (image_of reader.now)) (pointer_at (M.meaning memory.now) at - 8) }
-    ensures { result ≡ view_of (word_at (image_of reader.now)) (M.meaning memory.now) at }
+    ensures { result ≡ view_at_address (word_at (image_of reader.now)) (M.meaning memory.now) at }
 {
     let point = pointer(memory, at);
     let top = table_word(reader, point.saturating_sub(16));
@@ -94,7 +94,7 @@ fn cast_by_walk<M: Memory>(
     goal: Goal,
     view: Part,
 ) -> Option<u64>
-    requires view { view ≡ view_of (word_at (image_of reader.old)) (M.meaning memory.now) goal.at }
+    requires view { view ≡ view_at_address (word_at (image_of reader.old)) (M.meaning memory.now) goal.at }
     requires can { CanCast (word_at (image_of reader.old)) (M.meaning memory.now) (room work.old) goal.at }
     ensures casts { CastsTo (word_at (image_of reader.old)) (M.meaning memory.now) goal.at goal.class goal.target result }
     ensures visits { ReadsAtMost (graph_of (word_at (image_of reader.old)) (M.meaning memory.now)) view (visits_of reader.old) (visits_of reader.new) }
@@ -126,7 +126,7 @@ pub fn cast_hinted<M: Memory>(
 ) -> Option<u64>
     requires { CanCastHinted (word_at (image_of reader.old)) (M.meaning memory.now) (room work.old) at class target hint }
     ensures casts { CastsTo (word_at (image_of reader.old)) (M.meaning memory.now) at class target result }
-    ensures visits { CountsVisits (graph_of (word_at (image_of reader.old)) (M.meaning memory.now)) (view_of (word_at (image_of reader.old)) (M.meaning memory.now) at) at target hint (visits_of reader.old) (visits_of reader.new) }
+    ensures visits { CountsVisits (graph_of (word_at (image_of reader.old)) (M.meaning memory.now)) (view_at_address (word_at (image_of reader.old)) (M.meaning memory.now) at) at target hint (visits_of reader.old) (visits_of reader.new) }
     ensures image { image_of reader.new ≡ image_of reader.old }
     ensures kept { room work.new ≡ room work.old }
 {

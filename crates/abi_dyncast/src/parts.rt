@@ -5,7 +5,7 @@ ghost use Rattle.byte_memory.specs.Store.{Store};
 ghost use Rattle.byte_code.specs.Images.{word_at};
 ghost use Rattle.byte_code.specs.Readers.{image_of, visits_of, raised};
 ghost use Rattle.byte_code.specs.Records.{IsTableWord};
-ghost use Rattle.abi_dyncast.specs.Graph.{graph_of, word_in, pointer_at, moved, info_at, is_virtual, is_public, offset_word, distance_word, vbase_at, edge_by};
+ghost use Rattle.abi_dyncast.specs.Graph.{graph_of, word_in, pointer_at, moved_address, info_at, has_virtual_flag, is_public, offset_word, distance_word, vbase_at, edge_by};
 ghost use Rattle.abi_dyncast.specs.Casts.{CanStep};
 
 use byte_code::{BaseReader, BaseRecord, ImageBytes, InfoRecord};
@@ -56,13 +56,13 @@ pub(crate) fn table_word(reader: &BaseReader<'_>, at: u64) -> u64
 
 /// An address moved by the word of a distance, as addresses wrap.
 pub(crate) fn moved(at: u64, word: u64) -> u64
-    ensures { result ≡ moved at word }
+    ensures { result ≡ moved_address at word }
 {
     at.wrapping_add(word)
 }
 
 fn is_virtual(base: BaseRecord) -> bool
-    ensures { result ≡ is_virtual base }
+    ensures { result ≡ has_virtual_flag base }
 {
     base.offset_flags.cast_unsigned() % 2 == 1
 }
@@ -82,8 +82,8 @@ fn offset_word(base: BaseRecord) -> u64
 
 /// How far a base lies from the part at an address, as a word.
 fn distance_word<M: Memory>(reader: &BaseReader<'_>, memory: &M, at: u64, base: BaseRecord) -> u64
-    requires there { is_virtual base ≡ true → IsSome (word_at (image_of reader.now) (vbase_at (M.meaning memory.now) at base)) }
-    requires table { is_virtual base ≡ true → IsTableWord (word_at (image_of reader.now)) (vbase_at (M.meaning memory.now) at base) }
+    requires there { has_virtual_flag base ≡ true → IsSome (word_at (image_of reader.now) (vbase_at (M.meaning memory.now) at base)) }
+    requires table { has_virtual_flag base ≡ true → IsTableWord (word_at (image_of reader.now)) (vbase_at (M.meaning memory.now) at base) }
     ensures { result ≡ distance_word (word_at (image_of reader.now)) (M.meaning memory.now) at base }
 {
     let offset = offset_word(base);

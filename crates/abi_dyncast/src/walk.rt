@@ -4,8 +4,8 @@ ghost use Rattle.std.specs.Prelude.{◌≡◌};
 ghost use Rattle.byte_code.specs.Images.{word_at};
 ghost use Rattle.byte_code.specs.Readers.{image_of, visits_of};
 ghost use Rattle.abi_dyncast.specs.Graph.{graph_of};
-ghost use Rattle.abi_dyncast.specs.invariants.Finding.{found_at, joined, Tells};
-ghost use Rattle.abi_dyncast.specs.invariants.Walks.{IsReady, Visited, HasRead};
+ghost use Rattle.abi_dyncast.specs.invariants.Finding.{found_itself, found_with_base, TellsBelow};
+ghost use Rattle.abi_dyncast.specs.invariants.Walks.{MayBeginWalk, Visited, HasRead};
 
 use crate::parts::{Part, edge_at};
 use crate::work::{Found, Goal, WorkList};
@@ -14,7 +14,7 @@ use byte_memory::Memory;
 
 /// What a part of a class at an address tells by itself.
 fn found_at(goal: Goal, at: u64, class: u32) -> Found
-    ensures { result ≡ found_at goal at class }
+    ensures { result ≡ found_itself goal at class }
 {
     let source = at == goal.at && class == goal.class;
     Found {
@@ -26,7 +26,7 @@ fn found_at(goal: Goal, at: u64, class: u32) -> Found
 
 /// What a part tells, with what one of its bases tells.
 fn joined(own: Found, below: Found, is_public: bool) -> Found
-    ensures { result ≡ joined own below is_public }
+    ensures { result ≡ found_with_base own below is_public }
 {
     Found {
         source: own.source || below.source,
@@ -44,8 +44,8 @@ pub(crate) fn visit<M: Memory>(
     goal: Goal,
     part: Part,
 ) -> Found
-    requires { IsReady (word_at (image_of reader.old)) (M.meaning memory.now) goal work.old.parts work.old.entries.items part }
-    ensures tells { Tells (graph_of (word_at (image_of reader.old)) (M.meaning memory.now)) goal part result }
+    requires { MayBeginWalk (word_at (image_of reader.old)) (M.meaning memory.now) goal work.old.parts work.old.entries.items part }
+    ensures tells { TellsBelow (graph_of (word_at (image_of reader.old)) (M.meaning memory.now)) goal part result }
     ensures visited { Visited (graph_of (word_at (image_of reader.old)) (M.meaning memory.now)) goal part work.old.entries.items work.new.entries.items }
     ensures read { HasRead (graph_of (word_at (image_of reader.old)) (M.meaning memory.now)) work.old.entries.items work.new.entries.items (visits_of reader.old) (visits_of reader.new) }
     ensures image { image_of reader.new ≡ image_of reader.old }

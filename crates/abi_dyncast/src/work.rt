@@ -65,7 +65,7 @@ fn is_at(entry: Entry, part: Part) -> bool
 
 impl WorkList {
     ghost use Rattle.abi_dyncast.specs.Casts.{room};
-    ghost use Rattle.abi_dyncast.specs.invariants.Chain.{IsMet, entry, link_for};
+    ghost use Rattle.abi_dyncast.specs.invariants.Chain.{IsMet, part_entry, link_for};
 
     /// A work list for views of at most so many parts.
     ///
@@ -95,7 +95,7 @@ impl WorkList {
     pub(crate) fn add(&mut self, part: Part, class: u32, found: Found)
         requires space { length self.old.entries.items < self.old.parts }
         requires fresh { IsMet self.old.entries.items part → ⊥ }
-        ensures entries { self.new.entries.items ≡ self.old.entries.items ++ entry part class found (link_for self.old.heads.items self.old.entries.items part) ∷ [] }
+        ensures entries { self.new.entries.items ≡ self.old.entries.items ++ part_entry part class found (link_for self.old.heads.items self.old.entries.items part) ∷ [] }
         ensures parts { self.new.parts ≡ self.old.parts }
     {
         let at = bucket(part, self.heads.len());

@@ -10,7 +10,7 @@
 #![tactic(auto)]
 
 ghost use Rattle.std.specs.Prelude.{◌≡◌, ◌+◌, ◌^◌, ◌<◌, [], All, OnOk, OnErr};
-ghost use Rattle.abi_emptybase.specs.Table.{has_conflict, holds, moved, Adds};
+ghost use Rattle.abi_emptybase.specs.Table.{has_conflict, holds, moved_part, Adds};
 
 use foundation::NoMemory;
 use std::alloc::Global;
@@ -42,7 +42,7 @@ impl Model for PlaceTable {
 /// A part, this many bytes further.
 fn moved(part: Part, at: u32) -> Part
     requires { part.place + at < 2 ^ 32 }
-    ensures { result ≡ moved at part }
+    ensures { result ≡ moved_part at part }
 {
     Part {
         class: part.class,

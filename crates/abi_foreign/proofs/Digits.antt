@@ -9,7 +9,7 @@ use Rattle.std.proofs.lemmas.Str.Parse.{IsDigitsTest, FoldsDigits, IsNumeralMode
 use Rattle.foundation.proofs.Places.{take_next, any_default}
 use Rattle.std.proofs.lemmas.Fmt.{digits_decimal, digits_value-decimal, decimal_injective, decimal_nonempty, first_decimal, decimal-digits_value, length-decimal-le}
 use Rattle.abi_foreign.specs.Lines.{most_number}
-use Rattle.abi_foreign.specs.invariants.Pieces.{IsNotBehind, IsNoDigit, IsApart, read_on, IsValue, IsNumber, HasNoNumber, IsBefore, HasNoneBefore}
+use Rattle.abi_foreign.specs.invariants.Pieces.{IsNotBehind, IsNoDigit, IsApart, read_on, DigitsSay, BeginsWithNumber, HasNoNumber, IsNumberBefore, HasNoneBefore}
 
 digits_test : IsDigitsTest (λ ds. list_all is_ascii_digit ds ≡ true)
 digits_test = search rules
@@ -45,7 +45,7 @@ decimal_digits : (n : ℕ) → n ≤ most_number → list_all is_ascii_digit (de
 decimal_digits n h = digits_decimal own n (small n h)
 
 -- what a number at the front of a text is written with
-number_digits : (text digits rest : List ℕ) → text ≡ digits ++ rest → list_all is_ascii_digit digits ≡ true → IsNoDigit rest → (n : ℕ) (other : List ℕ) → IsNumber text n other → digits ≡ decimal n
+number_digits : (text digits rest : List ℕ) → text ≡ digits ++ rest → list_all is_ascii_digit digits ≡ true → IsNoDigit rest → (n : ℕ) (other : List ℕ) → BeginsWithNumber text n other → digits ≡ decimal n
 number_digits text digits rest e all ends n other is =
     (digits_once digits (decimal n) rest other all (decimal_digits n is.small) ends is.ends (sym e ∙ is.is)).0
 
@@ -73,7 +73,7 @@ leading_zero text rest digits second e all ends n other is =
     let long : length (48 ∷ second ∷ digits) ≤ 1 = subst (λ (ds : List ℕ). length ds ≤ 1) (sym same) short in
     absurd (omega arith)
 
-pub too_large : (text digits rest : List ℕ) → text ≡ digits ++ rest → list_all is_ascii_digit digits ≡ true → IsNoDigit rest → IsValue digits None → HasNoNumber text
+pub too_large : (text digits rest : List ℕ) → text ≡ digits ++ rest → list_all is_ascii_digit digits ≡ true → IsNoDigit rest → DigitsSay digits None → HasNoNumber text
 too_large text digits rest e all ends large n other is =
     let same : digits ≡ decimal n = number_digits text digits rest e all ends n other is in
     let value : read_on 0 (decimal n) ≡ n = digits_value-decimal own n (small n is.small) in
@@ -81,7 +81,7 @@ too_large text digits rest e all ends large n other is =
     let within : n ≤ most_number = is.small in
     absurd (omega arith)
 
-pub number_read : (text digits rest : List ℕ) (n : ℕ) → text ≡ digits ++ rest → list_all is_ascii_digit digits ≡ true → IsNoDigit rest → 0 < length digits → (get_or digits 0 0 ≡ 48 → length digits ≡ 1) → IsValue digits (Some n) → IsNumber text n rest
+pub number_read : (text digits rest : List ℕ) (n : ℕ) → text ≡ digits ++ rest → list_all is_ascii_digit digits ≡ true → IsNoDigit rest → 0 < length digits → (get_or digits 0 0 ≡ 48 → length digits ≡ 1) → DigitsSay digits (Some n) → BeginsWithNumber text n rest
 number_read text digits rest n e all ends some plain value =
     let within : n ≤ most_number = value.1 in
     let is : n ≡ read_on 0 digits = value.0 in
@@ -96,11 +96,11 @@ no_digit (c ∷ piece) other apart = apart
 pub none_before : (text piece : List ℕ) → IsApart piece → HasNoNumber text → HasNoneBefore text piece
 none_before text piece apart none m other within e = none m (piece ++ other) (record { is = e; small = within; ends = no_digit piece other apart })
 
-pub not_before : (text piece : List ℕ) (n : ℕ) (rest : List ℕ) → IsApart piece → IsNumber text n rest → IsNotBehind rest piece → HasNoneBefore text piece
+pub not_before : (text piece : List ℕ) (n : ℕ) (rest : List ℕ) → IsApart piece → BeginsWithNumber text n rest → IsNotBehind rest piece → HasNoneBefore text piece
 not_before text piece n rest apart is none m other within e =
     none other (digits_once (decimal n) (decimal m) rest (piece ++ other) (decimal_digits n is.small) (decimal_digits m within) is.ends (no_digit piece other apart) (sym is.is ∙ e)).1
 
-pub before_read : (text piece : List ℕ) (n : ℕ) (mid rest : List ℕ) → IsApart piece → IsNumber text n mid → mid ≡ piece ++ rest → IsBefore text piece n rest
+pub before_read : (text piece : List ℕ) (n : ℕ) (mid rest : List ℕ) → IsApart piece → BeginsWithNumber text n mid → mid ≡ piece ++ rest → IsNumberBefore text piece n rest
 before_read text piece n mid rest apart is behind = record {
   is = is.is ∙ ap (λ (t : List ℕ). decimal n ++ t) behind;
   small = is.small;

@@ -7,13 +7,13 @@ use Rattle.cxx_hierarchy.specs.declared.records.ClassId.{ClassId}
 use Rattle.cxx_hierarchy.specs.declared.records.Member.{Member}
 use Rattle.cxx_hierarchy.specs.Classes.{Classes}
 use Rattle.cxx_subobject.specs.declared.Subobject.{Subobject}
-use Rattle.abi_print.specs.LayoutTexts.{name_of, subobject_text, kind_text, type_text, length_text, field_text}
+use Rattle.abi_print.specs.LayoutTexts.{declared_class_name, subobject_text, kind_text, type_text, length_text, field_text}
 use Rattle.abi_foreign.specs.declared.said.Sizes.{Sizes}
 use Rattle.abi_foreign.specs.declared.said.MemberPlace.{MemberPlace}
 use Rattle.abi_foreign.specs.Lines.{sizes_line, base_line, member_line, IsSizesLine}
-use Rattle.abi_foreign.specs.invariants.Pieces.{IsNotBehind, IsApart, IsBefore, HasNoneBefore}
+use Rattle.abi_foreign.specs.invariants.Pieces.{IsNotBehind, IsApart, IsNumberBefore, HasNoneBefore}
 use Rattle.abi_foreign.specs.invariants.Reading.{IsRead, IsNoLine}
-use Rattle.abi_foreign.specs.invariants.Said.{AreSmall, after_nvsize, after_dsize, after_align, after_size, sizes_then, HasNoSizes, AreSizes, AreSizesRead, sizes_head, base_tail, declared_text, tail_by, member_tail, bits_then, IsSmallBits, HasNoBits, AreBits, HasNoMember, IsMember, IsMemberRead}
+use Rattle.abi_foreign.specs.invariants.Said.{FitListing, after_nvsize, after_dsize, after_align, after_size, sizes_then, HasNoSizes, AreSizes, AreSizesRead, sizes_head, base_tail, declared_text, tail_by, member_tail, bits_then, IsSmallBits, HasNoBits, AreBits, HasNoMember, IsMember, IsMemberRead}
 
 pub no_head : (text head : List ℕ) → IsNotBehind text head → HasNoSizes text head
 no_head text head none sizes rest small e = none (sizes_then sizes rest) e
@@ -26,35 +26,35 @@ module _ (text head r0 : List ℕ) (e0 : text ≡ head ++ r0) where
   pub no_size : HasNoneBefore r0 (codes " align ") → HasNoSizes text head
   no_size none sizes rest small e = none sizes.size (after_size sizes rest) small.0 (behind_head sizes rest e)
 
-  module _ (size : ℕ) (r1 : List ℕ) (b1 : IsBefore r0 (codes " align ") size r1) where
-    behind_size : (sizes : Sizes) (rest : List ℕ) → AreSmall sizes → text ≡ head ++ sizes_then sizes rest → r1 ≡ after_size sizes rest
+  module _ (size : ℕ) (r1 : List ℕ) (b1 : IsNumberBefore r0 (codes " align ") size r1) where
+    behind_size : (sizes : Sizes) (rest : List ℕ) → FitListing sizes → text ≡ head ++ sizes_then sizes rest → r1 ≡ after_size sizes rest
     behind_size sizes rest small e = sym (b1.only sizes.size (after_size sizes rest) small.0 (behind_head sizes rest e)).1
 
     pub no_align : HasNoneBefore r1 (codes " dsize ") → HasNoSizes text head
     no_align none sizes rest small e = none sizes.align (after_align sizes rest) small.1 (behind_size sizes rest small e)
 
-    module _ (align : ℕ) (r2 : List ℕ) (b2 : IsBefore r1 (codes " dsize ") align r2) where
-      behind_align : (sizes : Sizes) (rest : List ℕ) → AreSmall sizes → text ≡ head ++ sizes_then sizes rest → r2 ≡ after_align sizes rest
+    module _ (align : ℕ) (r2 : List ℕ) (b2 : IsNumberBefore r1 (codes " dsize ") align r2) where
+      behind_align : (sizes : Sizes) (rest : List ℕ) → FitListing sizes → text ≡ head ++ sizes_then sizes rest → r2 ≡ after_align sizes rest
       behind_align sizes rest small e = sym (b2.only sizes.align (after_align sizes rest) small.1 (behind_size sizes rest small e)).1
 
       pub no_dsize : HasNoneBefore r2 (codes " nvsize ") → HasNoSizes text head
       no_dsize none sizes rest small e = none sizes.dsize (after_dsize sizes rest) small.2 (behind_align sizes rest small e)
 
-      module _ (dsize : ℕ) (r3 : List ℕ) (b3 : IsBefore r2 (codes " nvsize ") dsize r3) where
-        behind_dsize : (sizes : Sizes) (rest : List ℕ) → AreSmall sizes → text ≡ head ++ sizes_then sizes rest → r3 ≡ after_dsize sizes rest
+      module _ (dsize : ℕ) (r3 : List ℕ) (b3 : IsNumberBefore r2 (codes " nvsize ") dsize r3) where
+        behind_dsize : (sizes : Sizes) (rest : List ℕ) → FitListing sizes → text ≡ head ++ sizes_then sizes rest → r3 ≡ after_dsize sizes rest
         behind_dsize sizes rest small e = sym (b3.only sizes.dsize (after_dsize sizes rest) small.2 (behind_align sizes rest small e)).1
 
         pub no_nvsize : HasNoneBefore r3 (codes " nvalign ") → HasNoSizes text head
         no_nvsize none sizes rest small e = none sizes.nvsize (after_nvsize sizes rest) small.3 (behind_dsize sizes rest small e)
 
-        module _ (nvsize : ℕ) (r4 : List ℕ) (b4 : IsBefore r3 (codes " nvalign ") nvsize r4) where
-          behind_nvsize : (sizes : Sizes) (rest : List ℕ) → AreSmall sizes → text ≡ head ++ sizes_then sizes rest → r4 ≡ after_nvsize sizes rest
+        module _ (nvsize : ℕ) (r4 : List ℕ) (b4 : IsNumberBefore r3 (codes " nvalign ") nvsize r4) where
+          behind_nvsize : (sizes : Sizes) (rest : List ℕ) → FitListing sizes → text ≡ head ++ sizes_then sizes rest → r4 ≡ after_nvsize sizes rest
           behind_nvsize sizes rest small e = sym (b4.only sizes.nvsize (after_nvsize sizes rest) small.3 (behind_dsize sizes rest small e)).1
 
           pub no_nvalign : HasNoneBefore r4 (codes "\n") → HasNoSizes text head
           no_nvalign none sizes rest small e = none sizes.nvalign rest small.4 (behind_nvsize sizes rest small e)
 
-          pub sizes_there : (nvalign : ℕ) (r5 : List ℕ) → IsBefore r4 (codes "\n") nvalign r5 → AreSizes text head (record { size = size; align = align; dsize = dsize; nvsize = nvsize; nvalign = nvalign }) r5
+          pub sizes_there : (nvalign : ℕ) (r5 : List ℕ) → IsNumberBefore r4 (codes "\n") nvalign r5 → AreSizes text head (record { size = size; align = align; dsize = dsize; nvsize = nvsize; nvalign = nvalign }) r5
           sizes_there nvalign r5 b5 = record {
             is = e0 ∙ ap (λ (t : List ℕ). head ++ t) (b1.is
                 ∙ ap (λ (t : List ℕ). decimal size ++ (codes " align " ++ t)) (b2.is
@@ -74,14 +74,14 @@ ended_longer front rest =
 
 -- the words and numbers of a class's first line, up to its line feed
 abbrev pub unended : Classes → ClassId → Sizes → List ℕ
-unended h c sizes = codes "class " ++ name_of h c ++ codes " size " ++ decimal sizes.size ++ codes " align " ++ decimal sizes.align ++ codes " dsize " ++ decimal sizes.dsize ++ codes " nvsize " ++ decimal sizes.nvsize ++ codes " nvalign " ++ decimal sizes.nvalign
+unended h c sizes = codes "class " ++ declared_class_name h c ++ codes " size " ++ decimal sizes.size ++ codes " align " ++ decimal sizes.align ++ codes " dsize " ++ decimal sizes.dsize ++ codes " nvsize " ++ decimal sizes.nvsize ++ codes " nvalign " ++ decimal sizes.nvalign
 
 regroup : (a b c d e f g h i j k l m n : List ℕ) → (a ++ b ++ c ++ d ++ e ++ f ++ g ++ h ++ i ++ j ++ k ++ l ++ m) ++ n ≡ (a ++ b ++ c) ++ (d ++ (e ++ (f ++ (g ++ (h ++ (i ++ (j ++ (k ++ (l ++ (m ++ n))))))))))
 regroup a b c d e f g h i j k l m n = simp append_assoc
 
 pub sizes_split : (h : Classes) (c : ClassId) (sizes : Sizes) (rest : List ℕ) → (unended h c sizes ++ codes "\n") ++ rest ≡ sizes_head h c ++ sizes_then sizes rest
 sizes_split h c sizes rest =
-    regroup (codes "class ") (name_of h c) (codes " size ") (decimal sizes.size) (codes " align ") (decimal sizes.align) (codes " dsize ") (decimal sizes.dsize)
+    regroup (codes "class ") (declared_class_name h c) (codes " size ") (decimal sizes.size) (codes " align ") (decimal sizes.align) (codes " dsize ") (decimal sizes.dsize)
     (codes " nvsize ") (decimal sizes.nvsize) (codes " nvalign ") (decimal sizes.nvalign) (codes "\n") rest
 
 abbrev line_sizes : (h : Classes) (c : ClassId) (front : List ℕ) → IsSizesLine h c front → Sizes
@@ -111,7 +111,7 @@ tail_split a b c d rest = simp append_assoc
 base_split : (h : Classes) (s : Subobject) (place : ℕ) (rest : List ℕ) → (decimal place ++ codes " base " ++ subobject_text h s ++ codes "\n") ++ rest ≡ decimal place ++ (base_tail h s ++ rest)
 base_split h s place rest = tail_split (decimal place) (codes " base ") (subobject_text h s) (codes "\n") rest
 
-pub base_read : (h : Classes) (s : Subobject) (text : List ℕ) (place : ℕ) (rest : List ℕ) → IsBefore text (base_tail h s) place rest → IsRead h (base_line s) text rest
+pub base_read : (h : Classes) (s : Subobject) (text : List ℕ) (place : ℕ) (rest : List ℕ) → IsNumberBefore text (base_tail h s) place rest → IsRead h (base_line s) text rest
 base_read h s text place rest read =
     let whole : text ≡ (decimal place ++ codes " base " ++ subobject_text h s ++ codes "\n") ++ rest = read.is ∙ sym (base_split h s place rest) in
     record {
@@ -211,11 +211,11 @@ module _ (text tail : List ℕ) where
   pub no_bits_place : HasNoneBefore text (codes " bits ") → HasNoBits text tail
   no_bits_place none at rest small e = none at.place (decimal at.first ++ (tail ++ rest)) small.0 e
 
-  module _ (place : ℕ) (mid : List ℕ) (before : IsBefore text (codes " bits ") place mid) where
+  module _ (place : ℕ) (mid : List ℕ) (before : IsNumberBefore text (codes " bits ") place mid) where
     pub no_bits_first : HasNoneBefore mid tail → HasNoBits text tail
     no_bits_first none at rest small e = none at.first rest small.1 (sym (before.only at.place (decimal at.first ++ (tail ++ rest)) small.0 e).1)
 
-    pub bits_there : (first : ℕ) (rest : List ℕ) → IsBefore mid tail first rest → AreBits text tail (record { place = place; first = first }) rest
+    pub bits_there : (first : ℕ) (rest : List ℕ) → IsNumberBefore mid tail first rest → AreBits text tail (record { place = place; first = first }) rest
     bits_there first rest behind = record {
       is = before.is ∙ ap (λ (t : List ℕ). decimal place ++ (codes " bits " ++ t)) behind.is;
       small = (before.small, behind.small);

@@ -18,15 +18,15 @@ use Rattle.cxx_subobject.specs.Preorder.{preorder, ListsSubobjects}
 use Rattle.cxx_subobject.proofs.TreeLemmas.{subobject_same, same_itself}
 use Rattle.abi_sound.specs.declared.class_layout.ClassLayout.{ClassLayout}
 use Rattle.abi_sound.specs.declared.class_layout.Bits.{Bits}
-use Rattle.abi_sound.specs.Places.{number_in, nth_place, members_in, bits_in, first_in, first_bit}
+use Rattle.abi_sound.specs.Places.{place_or_zero, nth_place, member_places_in, member_bits_in, first_bit_in, first_bit}
 use Rattle.abi_print.specs.Texts.{PlaceOf}
-use Rattle.abi_print.specs.LayoutTexts.{name_of, subobject_text, primary_text, class_text, row_text, base_text, field_text, field_in, fields_text, proper, layout_text, member_place}
+use Rattle.abi_print.specs.LayoutTexts.{declared_class_name, subobject_text, primary_text, class_text, row_text, base_text, field_text, field_in, fields_text, proper, layout_text, printed_member_place}
 use Rattle.abi_foreign.specs.declared.said.MemberPlace.{MemberPlace}
 use Rattle.abi_foreign.specs.declared.said.ClassSaid.{ClassSaid}
-use Rattle.abi_foreign.specs.Lines.{most_number, numbered, IsWritable}
+use Rattle.abi_foreign.specs.Lines.{most_number, class_by_number, IsWritable}
 use Rattle.abi_foreign.specs.Listings.{texts_before, HasSmallNumbers, IsListing, cut_rows, IsListed}
-use Rattle.abi_foreign.specs.invariants.Said.{bases_text, members_text, AreSmallPlaces, said_text, said_in, said_before, AreSaid}
-use Rattle.abi_foreign.specs.invariants.Rows.{printed, printed_in, said_place, exact_at, exact_bits, primaries_of, exact_row, exact_rows}
+use Rattle.abi_foreign.specs.invariants.Said.{base_lines, members_text, AreSmallPlaces, said_text, said_in, said_before, AreSaid}
+use Rattle.abi_foreign.specs.invariants.Rows.{said_base_place, printed_in, said_place, exact_at, exact_bits, primaries_of, exact_row, exact_rows}
 use Rattle.abi_foreign.proofs.Positions.{find_some, position_some, mapped_at}
 use Rattle.abi_foreign.proofs.ClassReads.{members_more}
 use Rattle.abi_foreign.proofs.RowFacts.{row_at, written_row, nth_small, places_length}
@@ -38,29 +38,29 @@ proper_once h c [] lists i j s e f = absurd (cc)
 proper_once h c (whole ∷ list) lists i j s e f = let same = lists.once (suc i) (suc j) s e f in omega arith
 
 -- the place that is said of a subobject is the one at its number
-pub printed_at : (h : Classes) (c : ClassId) (said : ClassSaid) (i : ℕ) (s : Subobject) (place : ℕ) → ListsSubobjects h c said.list → slice_get (proper said.list) i ≡ Some s → slice_get said.places i ≡ Some place → printed said s ≡ place
+pub printed_at : (h : Classes) (c : ClassId) (said : ClassSaid) (i : ℕ) (s : Subobject) (place : ℕ) → ListsSubobjects h c said.list → slice_get (proper said.list) i ≡ Some s → slice_get said.places i ≡ Some place → said_base_place said s ≡ place
 printed_at h c said i s place lists e there =
     let first = find_some (λ (t : Subobject). same_subobject t s) (proper said.list) s (has_at (proper said.list) i s e) (same_itself s) in
     let at = position_some (λ (t : Subobject). same_subobject t s) (proper said.list) first.0 first.1.found in
     let same : first.0 ≡ s = subobject_same first.0 s first.1.passes in
     let number : at.0 ≡ i = proper_once h c said.list lists at.0 i s (at.2 ∙ ap (λ (t : Subobject). Some t) same) e in
-    ap (nth_place said.places) at.1 ∙ ap number_in (ap (slice_get said.places) number ∙ there)
+    ap (nth_place said.places) at.1 ∙ ap place_or_zero (ap (slice_get said.places) number ∙ there)
 
 regrouped : (p b s e rest : List ℕ) → (p ++ b ++ s ++ e) ++ rest ≡ p ++ (b ++ s ++ e) ++ rest
 regrouped p b s e rest = simp append_assoc
 
 pub bases_same : (h : Classes) (place : PlaceOf) (c : ClassId) (list : List Subobject) (places : List ℕ) → length places ≡ length list → ((i : ℕ) (s : Subobject) (n : ℕ) → slice_get list i ≡ Some s → slice_get places i ≡ Some n → place c s ≡ n) →
-    flat_map (base_text h place c) list ≡ bases_text h list places
+    flat_map (base_text h place c) list ≡ base_lines h list places
 bases_same h place c [] [] same at = refl
 bases_same h place c [] (n ∷ places) same at = absurd (omega arith)
 bases_same h place c (s ∷ list) [] same at = absurd (omega arith)
 bases_same h place c (s ∷ list) (n ∷ places) same at =
     ap (λ (k : ℕ). (decimal k ++ codes " base " ++ subobject_text h s ++ codes "\n") ++ flat_map (base_text h place c) list) (at 0 s n refl refl)
     ∙ ap (λ (rest : List ℕ). (decimal n ++ codes " base " ++ subobject_text h s ++ codes "\n") ++ rest) (bases_same h place c list places (omega arith) (λ i t k e f. at (suc i) t k e f))
-    ∙ regrouped (decimal n) (codes " base ") (subobject_text h s) (codes "\n") (bases_text h list places)
+    ∙ regrouped (decimal n) (codes " base ") (subobject_text h s) (codes "\n") (base_lines h list places)
 
 -- the first bit that is said of a member
-exact_first : (saids : List ClassSaid) (members : List (Member ClassId)) (places : List MemberPlace) (m : ℕ) (at : MemberPlace) → AreSmallPlaces members places → slice_get places m ≡ Some at → first_in (slice_get (exact_bits saids members places) m) ≡ at.first
+exact_first : (saids : List ClassSaid) (members : List (Member ClassId)) (places : List MemberPlace) (m : ℕ) (at : MemberPlace) → AreSmallPlaces members places → slice_get places m ≡ Some at → first_bit_in (slice_get (exact_bits saids members places) m) ≡ at.first
 exact_first saids [] [] m at small e = absurd (cc)
 exact_first saids [] (p ∷ places) m at small e = absurd small
 exact_first saids (member ∷ members) [] m at small e = absurd small
@@ -76,7 +76,7 @@ small_front (member ∷ members) (p ∷ places) (suc n) small = (small.0, small_
 
 -- the lines of the first members, by what is known of the place of each
 pub members_alike : (h : Classes) (rows : List ClassLayout) (c : ClassId) (ats : List MemberPlace) → AreSmallPlaces (members_of h c) ats →
-    ((m : ℕ) (at : MemberPlace) → slice_get ats m ≡ Some at → (member_place rows c m ≡ at.place) × (first_bit rows c m ≡ at.first)) →
+    ((m : ℕ) (at : MemberPlace) → slice_get ats m ≡ Some at → (printed_member_place rows c m ≡ at.place) × (first_bit rows c m ≡ at.first)) →
     (n : ℕ) → n ≤ length (members_of h c) → fields_text h rows c n ≡ members_text h (take n (members_of h c)) (take n ats)
 members_alike h rows c ats small known zero within = refl
 members_alike h rows c ats small known (suc n) within =
@@ -89,8 +89,8 @@ members_alike h rows c ats small known (suc n) within =
     ap (λ (k : ℕ). take k (members_of h c)) (sym step) ∙ take_next (members_of h c) n member.0 (omega arith) (sym (get_or_from_slice_get (members_of h c) n member.0 member.0 member.1)) in
     let places : take (suc n) ats ≡ take n ats ++ at.0 ∷ [] =
     ap (λ (k : ℕ). take k ats) (sym step) ∙ take_next ats n at.0 (omega arith) (sym (get_or_from_slice_get ats n at.0 at.0 at.1)) in
-    ap (λ (text : List ℕ). text ++ field_in h (member_place rows c n) (first_bit rows c n) (slice_get (members_of h c) n)) (members_alike h rows c ats small known n (omega arith))
-    ∙ ap (λ (one : Option (Member ClassId)). members_text h (take n (members_of h c)) (take n ats) ++ field_in h (member_place rows c n) (first_bit rows c n) one) member.1
+    ap (λ (text : List ℕ). text ++ field_in h (printed_member_place rows c n) (first_bit rows c n) (slice_get (members_of h c) n)) (members_alike h rows c ats small known n (omega arith))
+    ∙ ap (λ (one : Option (Member ClassId)). members_text h (take n (members_of h c)) (take n ats) ++ field_in h (printed_member_place rows c n) (first_bit rows c n) one) member.1
     ∙ ap (λ (k : ℕ). members_text h (take n (members_of h c)) (take n ats) ++ field_text h k (first_bit rows c n) member.0) both.0
     ∙ ap (λ (k : ℕ). members_text h (take n (members_of h c)) (take n ats) ++ field_text h at.0.place k member.0) both.1
     ∙ sym (members_more h (take n (members_of h c)) member.0 (take n ats) at.0 (small_front (members_of h c) ats n small))
@@ -99,7 +99,7 @@ members_alike h rows c ats small known (suc n) within =
 
 -- those of all members
 pub all_members : (h : Classes) (rows : List ClassLayout) (c : ClassId) (ats : List MemberPlace) → AreSmallPlaces (members_of h c) ats →
-    ((m : ℕ) (at : MemberPlace) → slice_get ats m ≡ Some at → (member_place rows c m ≡ at.place) × (first_bit rows c m ≡ at.first)) →
+    ((m : ℕ) (at : MemberPlace) → slice_get ats m ≡ Some at → (printed_member_place rows c m ≡ at.place) × (first_bit rows c m ≡ at.first)) →
     fields_text h rows c (length (members_of h c)) ≡ members_text h (members_of h c) ats
 all_members h rows c ats small known =
     let count = places_length (members_of h c) ats small in
@@ -109,10 +109,10 @@ all_members h rows c ats small known =
 
 -- the places of members in the row of a class that its lines say
 exact_known : (h : Classes) (saids : List ClassSaid) (rows : List ClassLayout) (c : ClassId) (said : ClassSaid) → slice_get rows c.0 ≡ Some (exact_row h saids (primaries_of saids) c said) → AreSmallPlaces (members_of h c) said.members →
-    (m : ℕ) (at : MemberPlace) → slice_get said.members m ≡ Some at → (member_place rows c m ≡ at.place) × (first_bit rows c m ≡ at.first)
+    (m : ℕ) (at : MemberPlace) → slice_get said.members m ≡ Some at → (printed_member_place rows c m ≡ at.place) × (first_bit rows c m ≡ at.first)
 exact_known h saids rows c said row small m at e = (
-  ap (λ (one : Option ClassLayout). number_in (slice_get (members_in one) m)) row ∙ ap number_in (mapped_at (λ (p : MemberPlace). p.place) said.members m at e),
-  ap (λ (one : Option ClassLayout). first_in (slice_get (bits_in one) m)) row ∙ exact_first saids (members_of h c) said.members m at small e,
+  ap (λ (one : Option ClassLayout). place_or_zero (slice_get (member_places_in one) m)) row ∙ ap place_or_zero (mapped_at (λ (p : MemberPlace). p.place) said.members m at e),
+  ap (λ (one : Option ClassLayout). first_bit_in (slice_get (member_bits_in one) m)) row ∙ exact_first saids (members_of h c) said.members m at small e,
 )
 
 pub row_split : (c1 n c2 s c3 a c4 d c5 v c6 w c9 c10 p c8 b f : List ℕ) →
@@ -130,18 +130,18 @@ module _ (h : Classes) (keeps : IsHierarchy h) (text : List ℕ) (saids : List C
       ∙ ap (λ (list : List Subobject). class_text h c (exact_row h saids (primaries_of saids) c said) ++ flat_map (base_text h (said_place saids) c) (proper list) ++ fields_text h (exact_rows h saids (length h)) c (length (members_of h c))) (sym of.in_preorder)
       ∙ ap (λ (bases : List ℕ). class_text h c (exact_row h saids (primaries_of saids) c said) ++ bases ++ fields_text h (exact_rows h saids (length h)) c (length (members_of h c)))
       (bases_same h (said_place saids) c (proper said.list) said.places of.each (λ i s n at there. ap (λ (one : Option ClassSaid). printed_in one s) e ∙ printed_at h c said i s n of.lists at there))
-      ∙ ap (λ (fields : List ℕ). class_text h c (exact_row h saids (primaries_of saids) c said) ++ bases_text h (proper said.list) said.places ++ fields)
+      ∙ ap (λ (fields : List ℕ). class_text h c (exact_row h saids (primaries_of saids) c said) ++ base_lines h (proper said.list) said.places ++ fields)
       members
-      ∙ row_split (codes "class ") (name_of h c) (codes " size ") (decimal said.sizes.size) (codes " align ") (decimal said.sizes.align) (codes " dsize ") (decimal said.sizes.dsize) (codes " nvsize ") (decimal said.sizes.nvsize) (codes " nvalign ") (decimal said.sizes.nvalign)
-      (codes "\n") (codes "primary ") (primary_text h said.primary) (codes "\n") (bases_text h (proper said.list) said.places) (members_text h (members_of h c) said.members)
+      ∙ row_split (codes "class ") (declared_class_name h c) (codes " size ") (decimal said.sizes.size) (codes " align ") (decimal said.sizes.align) (codes " dsize ") (decimal said.sizes.dsize) (codes " nvsize ") (decimal said.sizes.nvsize) (codes " nvalign ") (decimal said.sizes.nvalign)
+      (codes "\n") (codes "primary ") (primary_text h said.primary) (codes "\n") (base_lines h (proper said.list) said.places) (members_text h (members_of h c) said.members)
 
   texts_same : (n : ℕ) → n ≤ length h → said_before h saids n ≡ texts_before h (exact_rows h saids (length h)) (said_place saids) n
   texts_same zero within = refl
   texts_same (suc n) within =
-      let said = said_at h keeps text saids all (numbered n) (omega arith) in
-      ap (λ (front : List ℕ). front ++ said_in h (numbered n) (slice_get saids n)) (texts_same n (omega arith))
-      ∙ ap (λ (one : Option ClassSaid). texts_before h (exact_rows h saids (length h)) (said_place saids) n ++ said_in h (numbered n) one) said.1
-      ∙ ap (λ (one : List ℕ). texts_before h (exact_rows h saids (length h)) (said_place saids) n ++ one) (sym (class_same_text (numbered n) said.0 said.1))
+      let said = said_at h keeps text saids all (class_by_number n) (omega arith) in
+      ap (λ (front : List ℕ). front ++ said_in h (class_by_number n) (slice_get saids n)) (texts_same n (omega arith))
+      ∙ ap (λ (one : Option ClassSaid). texts_before h (exact_rows h saids (length h)) (said_place saids) n ++ said_in h (class_by_number n) one) said.1
+      ∙ ap (λ (one : List ℕ). texts_before h (exact_rows h saids (length h)) (said_place saids) n ++ one) (sym (class_same_text (class_by_number n) said.0 said.1))
 
   all_places : (places : List MemberPlace) (members : List (Member ClassId)) → AreSmallPlaces members places → All (λ (place : ℕ). place ≤ most_number) (map (λ (at : MemberPlace). at.place) places)
   all_places [] members small = All-nil (λ (place : ℕ). place ≤ most_number)

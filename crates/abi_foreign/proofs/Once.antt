@@ -12,13 +12,13 @@ use Rattle.cxx_hierarchy.specs.Hierarchies.{IsHierarchy}
 use Rattle.cxx_subobject.specs.declared.Subobject.{Subobject}
 use Rattle.abi_primary.specs.declared.Primary.{Primary}
 use Rattle.abi_primary.specs.declared.Primary.TheVariants.{None as NoPrimary, Direct, Virtual}
-use Rattle.abi_print.specs.LayoutTexts.{name_in, name_of, primary_text, field_text, proper}
+use Rattle.abi_print.specs.LayoutTexts.{name_in_class, declared_class_name, primary_text, field_text, proper}
 use Rattle.abi_foreign.specs.declared.said.Sizes.{Sizes}
 use Rattle.abi_foreign.specs.declared.said.MemberPlace.{MemberPlace}
 use Rattle.abi_foreign.specs.declared.said.ClassSaid.{ClassSaid}
-use Rattle.abi_foreign.specs.Lines.{most_number, numbered, first_line, IsWritable}
+use Rattle.abi_foreign.specs.Lines.{most_number, class_by_number, first_line, IsWritable}
 use Rattle.abi_foreign.specs.invariants.Pieces.{IsApart}
-use Rattle.abi_foreign.specs.invariants.Said.{AreSmall, sizes_then, after_size, after_align, after_dsize, after_nvsize, primary_line_text, base_tail, bases_text, members_text, declared_text, tail_by, AreSmallNumbers, AreSmallPlaces, said_text, said_in, said_before, sizes_head, IsSaid, AreSaid}
+use Rattle.abi_foreign.specs.invariants.Said.{FitListing, sizes_then, after_size, after_align, after_dsize, after_nvsize, primary_line_text, base_tail, base_lines, members_text, declared_text, tail_by, AreSmallNumbers, AreSmallPlaces, said_text, said_in, said_before, sizes_head, IsSaid, AreSaid}
 use Rattle.abi_foreign.proofs.Digits.{number_once}
 use Rattle.abi_foreign.proofs.LineReads.{in_pieces, field_split, tail_apart_by}
 use Rattle.abi_foreign.proofs.PrimaryReads.{word_once, writable_plain, split_line, split_three}
@@ -33,7 +33,7 @@ sizes_equal s t a b c d e =
     let make : ℕ → ℕ → ℕ → ℕ → ℕ → Sizes = λ size align dsize nvsize nvalign. record { size = size; align = align; dsize = dsize; nvsize = nvsize; nvalign = nvalign } in
     five_same make s.size s.align s.dsize s.nvsize s.nvalign t.size t.align t.dsize t.nvsize t.nvalign a b c d e
 
-sizes_once : (s t : Sizes) (x y : List ℕ) → AreSmall s → AreSmall t → sizes_then s x ≡ sizes_then t y → (s ≡ t) × (x ≡ y)
+sizes_once : (s t : Sizes) (x y : List ℕ) → FitListing s → FitListing t → sizes_then s x ≡ sizes_then t y → (s ≡ t) × (x ≡ y)
 sizes_once s t x y low small e =
     let a = number_once s.size t.size (codes " align ") (after_size s x) (after_size t y) refl low.0 small.0 e in
     let b = number_once s.align t.align (codes " dsize ") (after_align s x) (after_align t y) refl low.1 small.1 a.1 in
@@ -42,11 +42,11 @@ sizes_once s t x y low small e =
     let f = number_once s.nvalign t.nvalign (codes "\n") x y refl low.4 small.4 d.1 in
     (sizes_equal s t a.0 b.0 c.0 d.0 f.0, f.1)
 
-name_once : (h : Classes) → IsHierarchy h → (b d : ClassId) → b.0 < length h → d.0 < length h → name_of h b ≡ name_of h d → b ≡ d
+name_once : (h : Classes) → IsHierarchy h → (b d : ClassId) → b.0 < length h → d.0 < length h → declared_class_name h b ≡ declared_class_name h d → b ≡ d
 name_once h keeps b d known there e =
     let x = get_within h b.0 known in
     let y = get_within h d.0 there in
-    same_id b d (keeps.names b d x.0 y.0 x.1 y.1 (sym (ap name_in x.1) ∙ e ∙ ap name_in y.1))
+    same_id b d (keeps.names b d x.0 y.0 x.1 y.1 (sym (ap name_in_class x.1) ∙ e ∙ ap name_in_class y.1))
 
 primary_text_once : (h : Classes) → IsHierarchy h → (p q : Primary) → IsWritable h p → IsWritable h q → primary_text h p ≡ primary_text h q → p ≡ q
 primary_text_once h keeps NoPrimary NoPrimary wp wq e = refl
@@ -54,10 +54,10 @@ primary_text_once h keeps NoPrimary (Direct b) wp wq e = absurd (wq.1.not_none (
 primary_text_once h keeps NoPrimary (Virtual v) wp wq e = absurd (cc)
 primary_text_once h keeps (Direct b) NoPrimary wp wq e = absurd (wp.1.not_none e)
 primary_text_once h keeps (Direct b) (Direct d) wp wq e = ap Direct (name_once h keeps b d wp.0 wq.0 e)
-primary_text_once h keeps (Direct b) (Virtual v) wp wq e = absurd (wp.1.not_virtual (name_of h v) e)
+primary_text_once h keeps (Direct b) (Virtual v) wp wq e = absurd (wp.1.not_virtual (declared_class_name h v) e)
 primary_text_once h keeps (Virtual v) NoPrimary wp wq e = absurd (cc)
-primary_text_once h keeps (Virtual v) (Direct b) wp wq e = absurd (wq.1.not_virtual (name_of h v) (sym e))
-primary_text_once h keeps (Virtual v) (Virtual w) wp wq e = ap Virtual (name_once h keeps v w wp.0 wq.0 (append_cancel_left (codes "virtual ") (name_of h v) (name_of h w) e))
+primary_text_once h keeps (Virtual v) (Direct b) wp wq e = absurd (wq.1.not_virtual (declared_class_name h v) (sym e))
+primary_text_once h keeps (Virtual v) (Virtual w) wp wq e = ap Virtual (name_once h keeps v w wp.0 wq.0 (append_cancel_left (codes "virtual ") (declared_class_name h v) (declared_class_name h w) e))
 
 primary_once : (h : Classes) → IsHierarchy h → (p q : Primary) (x y : List ℕ) → IsWritable h p → IsWritable h q → primary_line_text h p ++ x ≡ primary_line_text h q ++ y → (p ≡ q) × (x ≡ y)
 primary_once h keeps p q x y wp wq e =
@@ -69,15 +69,15 @@ primary_once h keeps p q x y wp wq e =
 pushed_same : {X : Type 0} (a b : X) (xs ys : List X) → a ≡ b → xs ≡ ys → a ∷ xs ≡ b ∷ ys
 pushed_same a b xs ys e f = cc
 
-bases_once : (h : Classes) (list : List Subobject) (p q x y : List ℕ) → length p ≡ length list → length q ≡ length list → AreSmallNumbers p → AreSmallNumbers q → bases_text h list p ++ x ≡ bases_text h list q ++ y → (p ≡ q) × (x ≡ y)
+bases_once : (h : Classes) (list : List Subobject) (p q x y : List ℕ) → length p ≡ length list → length q ≡ length list → AreSmallNumbers p → AreSmallNumbers q → base_lines h list p ++ x ≡ base_lines h list q ++ y → (p ≡ q) × (x ≡ y)
 bases_once h [] [] [] x y some each low small e = (refl, e)
 bases_once h [] [] (n ∷ q) x y some each low small e = absurd (omega arith)
 bases_once h [] (m ∷ p) q x y some each low small e = absurd (omega arith)
 bases_once h (s ∷ list) [] q x y some each low small e = absurd (omega arith)
 bases_once h (s ∷ list) (m ∷ p) [] x y some each low small e = absurd (omega arith)
 bases_once h (s ∷ list) (m ∷ p) (n ∷ q) x y some each low small e =
-    let one = number_once m n (base_tail h s) (bases_text h list p ++ x) (bases_text h list q ++ y) refl low.0 small.0
-    (sym (split_three (decimal m) (base_tail h s) (bases_text h list p) x) ∙ e ∙ split_three (decimal n) (base_tail h s) (bases_text h list q) y) in
+    let one = number_once m n (base_tail h s) (base_lines h list p ++ x) (base_lines h list q ++ y) refl low.0 small.0
+    (sym (split_three (decimal m) (base_tail h s) (base_lines h list p) x) ∙ e ∙ split_three (decimal n) (base_tail h s) (base_lines h list q) y) in
     let more = bases_once h list p q x y (omega arith) (omega arith) low.1 small.1 one.1 in
     (pushed_same m n p q one.0 more.0, more.1)
 
@@ -123,15 +123,15 @@ said_once : (h : Classes) → IsHierarchy h → (c : ClassId) (n : ℕ) (a b : C
 said_once h keeps c n a b x y one two e =
     let list : a.list ≡ b.list = one.in_preorder ∙ sym two.in_preorder in
     let numbers = append_cancel_left (sizes_head h c)
-    (sizes_then a.sizes (primary_line_text h a.primary ++ (bases_text h (proper a.list) a.places ++ (members_text h (members_of h c) a.members ++ x))))
-    (sizes_then b.sizes (primary_line_text h b.primary ++ (bases_text h (proper b.list) b.places ++ (members_text h (members_of h c) b.members ++ y))))
-    (said_joined (sizes_head h c) a.sizes (primary_line_text h a.primary) (bases_text h (proper a.list) a.places) (members_text h (members_of h c) a.members) x ∙ e
-    ∙ sym (said_joined (sizes_head h c) b.sizes (primary_line_text h b.primary) (bases_text h (proper b.list) b.places) (members_text h (members_of h c) b.members) y)) in
+    (sizes_then a.sizes (primary_line_text h a.primary ++ (base_lines h (proper a.list) a.places ++ (members_text h (members_of h c) a.members ++ x))))
+    (sizes_then b.sizes (primary_line_text h b.primary ++ (base_lines h (proper b.list) b.places ++ (members_text h (members_of h c) b.members ++ y))))
+    (said_joined (sizes_head h c) a.sizes (primary_line_text h a.primary) (base_lines h (proper a.list) a.places) (members_text h (members_of h c) a.members) x ∙ e
+    ∙ sym (said_joined (sizes_head h c) b.sizes (primary_line_text h b.primary) (base_lines h (proper b.list) b.places) (members_text h (members_of h c) b.members) y)) in
     let sizes = sizes_once a.sizes b.sizes _ _ one.sizes two.sizes numbers in
     let primary = primary_once h keeps a.primary b.primary _ _ one.primary two.primary sizes.1 in
     let bases = bases_once h (proper b.list) a.places b.places (members_text h (members_of h c) a.members ++ x) (members_text h (members_of h c) b.members ++ y)
     (one.each ∙ ap (λ (l : List Subobject). length (proper l)) list) two.each one.small two.small
-    (ap (λ (l : List Subobject). bases_text h (proper l) a.places ++ (members_text h (members_of h c) a.members ++ x)) (sym list) ∙ primary.1) in
+    (ap (λ (l : List Subobject). base_lines h (proper l) a.places ++ (members_text h (members_of h c) a.members ++ x)) (sym list) ∙ primary.1) in
     let members = members_once h (members_of h c) a.members b.members x y one.members two.members bases.1 in
     (said_equal a b (one.first ∙ sym two.first) sizes.0 primary.0 list bases.0 members.0, members.1)
 
@@ -153,12 +153,12 @@ module _ (h : Classes) (keeps : IsHierarchy h) (text : List ℕ) (a b : List Cla
   before_once (suc n) x y within e =
       let p = get_within a n (let count = one.count in omega arith) in
       let q = get_within b n (let count = two.count in omega arith) in
-      let first : said_before h a n ++ (said_text h (numbered n) p.0 ++ x) ≡ said_before h a (suc n) ++ x =
-      sym (append_assoc (said_before h a n) (said_text h (numbered n) p.0) x) ∙ ap (λ (s : Option ClassSaid). (said_before h a n ++ said_in h (numbered n) s) ++ x) (sym p.1) in
-      let second : said_before h b n ++ (said_text h (numbered n) q.0 ++ y) ≡ said_before h b (suc n) ++ y =
-      sym (append_assoc (said_before h b n) (said_text h (numbered n) q.0) y) ∙ ap (λ (s : Option ClassSaid). (said_before h b n ++ said_in h (numbered n) s) ++ y) (sym q.1) in
-      let before = before_once n (said_text h (numbered n) p.0 ++ x) (said_text h (numbered n) q.0 ++ y) (omega arith) (first ∙ e ∙ sym second) in
-      let here = said_once h keeps (numbered n) (first_line h (numbered n)) p.0 q.0 x y (one.each (numbered n) p.0 p.1) (two.each (numbered n) q.0 q.1) before.rest in
+      let first : said_before h a n ++ (said_text h (class_by_number n) p.0 ++ x) ≡ said_before h a (suc n) ++ x =
+      sym (append_assoc (said_before h a n) (said_text h (class_by_number n) p.0) x) ∙ ap (λ (s : Option ClassSaid). (said_before h a n ++ said_in h (class_by_number n) s) ++ x) (sym p.1) in
+      let second : said_before h b n ++ (said_text h (class_by_number n) q.0 ++ y) ≡ said_before h b (suc n) ++ y =
+      sym (append_assoc (said_before h b n) (said_text h (class_by_number n) q.0) y) ∙ ap (λ (s : Option ClassSaid). (said_before h b n ++ said_in h (class_by_number n) s) ++ y) (sym q.1) in
+      let before = before_once n (said_text h (class_by_number n) p.0 ++ x) (said_text h (class_by_number n) q.0 ++ y) (omega arith) (first ∙ e ∙ sym second) in
+      let here = said_once h keeps (class_by_number n) (first_line h (class_by_number n)) p.0 q.0 x y (one.each (class_by_number n) p.0 p.1) (two.each (class_by_number n) q.0 q.1) before.rest in
       record {
         rest = here.1;
         each = λ i s t low f g. last_or i n low (λ less. before.each i s t less f g) (λ same. at_last i s t same p.0 q.0 p.1 q.1 here.0 f g);

@@ -21,9 +21,9 @@ use Rattle.abi_foreign.specs.declared.listing_stop.ListingRule.TheVariants.{Form
 use Rattle.abi_foreign.specs.declared.listing_stop.ListingStop.{ListingStop}
 use Rattle.abi_foreign.specs.declared.listing_stop.ListingStop.TheVariants.{Bad}
 use Rattle.abi_foreign.specs.declared.said.ClassSaid.{ClassSaid}
-use Rattle.abi_foreign.specs.Lines.{Line, listing_lines, first_line, AreLines, Begins}
+use Rattle.abi_foreign.specs.Lines.{ListingLine, listing_lines, first_line, AreLines, BeginsWithLines}
 use Rattle.abi_foreign.specs.Listings.{cut_rows, IsListed, AreSums, IsForeign}
-use Rattle.abi_foreign.specs.Refusals.{rule_no, IsFormFault, Breaks, unsound, no_sum, IsFirstFault, IsRefused, no_listing, faulty}
+use Rattle.abi_foreign.specs.Refusals.{listing_rule_no, IsFormFault, Breaks, unsound, no_sum, IsFirstBreach, IsRefused, no_listing, faulty}
 use Rattle.abi_foreign.specs.invariants.Said.{AreSaid}
 use Rattle.abi_foreign.specs.invariants.Rows.{said_place, exact_rows}
 use Rattle.abi_foreign.proofs.Once.{saids_once}
@@ -85,9 +85,9 @@ breaks_alike h rows place other c _ same (unsound rule broken) = unsound rule br
 breaks_alike h rows place other c _ same (no_sum s has differs) = no_sum s has (λ e. differs (sym (same s has) ∙ e))
 
 -- the same fault, for rows and places that are alike
-fault_alike : (h : Classes) (rows others : List ClassLayout) (place other : PlaceOf) (c : ClassId) (rule : ListingRule) → AreAlike h rows others place other → IsFirstFault h others other c rule → IsFirstFault h rows place c rule
+fault_alike : (h : Classes) (rows others : List ClassLayout) (place other : PlaceOf) (c : ClassId) (rule : ListingRule) → AreAlike h rows others place other → IsFirstBreach h others other c rule → IsFirstBreach h rows place c rule
 fault_alike h rows others place other c rule same is =
-    let here : IsFirstFault h rows other c rule = subst (λ (r : List ClassLayout). IsFirstFault h r other c rule) (sym same.rows_same) is in
+    let here : IsFirstBreach h rows other c rule = subst (λ (r : List ClassLayout). IsFirstBreach h r other c rule) (sym same.rows_same) is in
     record {
       known = here.known;
       before = λ d less.
@@ -115,7 +115,7 @@ rule_at (suc (suc (suc (suc (suc zero))))) = Inside
 rule_at (suc (suc (suc (suc (suc (suc zero)))))) = Overlap
 rule_at (suc (suc (suc (suc (suc (suc (suc n))))))) = Twice
 
-rule_back : (rule : ListingRule) → rule_at (rule_no rule) ≡ rule
+rule_back : (rule : ListingRule) → rule_at (listing_rule_no rule) ≡ rule
 rule_back Form = refl
 rule_back Primary = refl
 rule_back Place = refl
@@ -125,7 +125,7 @@ rule_back Overlap = refl
 rule_back Twice = refl
 
 -- of two first faults both are one
-fault_once : (h : Classes) (rows : List ClassLayout) (place : PlaceOf) (c d : ClassId) (rule other : ListingRule) → IsFirstFault h rows place c rule → IsFirstFault h rows place d other → (c ≡ d) × (rule ≡ other)
+fault_once : (h : Classes) (rows : List ClassLayout) (place : PlaceOf) (c d : ClassId) (rule other : ListingRule) → IsFirstBreach h rows place c rule → IsFirstBreach h rows place d other → (c ≡ d) × (rule ≡ other)
 fault_once h rows place c d rule other one two = ⊎_elim
     (λ same. at_one (same_id c d same))
     (λ differs. ⊎_elim
@@ -143,17 +143,17 @@ fault_once h rows place c d rule other one two = ⊎_elim
           (λ less. absurd (two.least rule less (subst (λ (x : ClassId). Breaks h rows place x rule) same one.breaks)))
           (λ more. absurd (one.least other more (subst (λ (x : ClassId). Breaks h rows place x other) (sym same) two.breaks)))
           differs)
-          (cases_order (rule_no rule) (rule_no other)),
+          (cases_order (listing_rule_no rule) (listing_rule_no other)),
     )
 
 -- of two fronts of a list the longer one has the next item
-record IsLonger (xs us ys vs : List Line) : Type 0 where
-  next : Line
-  more : List Line
+record IsLonger (xs us ys vs : List ListingLine) : Type 0 where
+  next : ListingLine
+  more : List ListingLine
   us_are : us ≡ xs ++ next ∷ more
   ys_are : ys ≡ next ∷ (more ++ vs)
 
-longer : (xs us ys vs : List Line) → xs ++ ys ≡ us ++ vs → length xs < length us → IsLonger xs us ys vs
+longer : (xs us ys vs : List ListingLine) → xs ++ ys ≡ us ++ vs → length xs < length us → IsLonger xs us ys vs
 longer [] [] ys vs e less = absurd (omega arith)
 longer [] (u ∷ us) ys vs e less = record { next = u; more = us; us_are = refl; ys_are = e }
 longer (x ∷ xs) [] ys vs e less = absurd (omega arith)
@@ -161,9 +161,9 @@ longer (x ∷ xs) (u ∷ us) ys vs e less =
     let first : x ≡ u = cc in
     let rest : xs ++ ys ≡ us ++ vs = cc in
     let is = longer xs us ys vs rest (omega arith) in
-    record { next = is.next; more = is.more; us_are = ap (λ (l : Line). l ∷ us) (sym first) ∙ ap (λ (list : List Line). x ∷ list) is.us_are; ys_are = is.ys_are }
+    record { next = is.next; more = is.more; us_are = ap (λ (l : ListingLine). l ∷ us) (sym first) ∙ ap (λ (list : List ListingLine). x ∷ list) is.us_are; ys_are = is.ys_are }
 
-begins_less : (h : Classes) (a b : List Line) (text : List ℕ) → Begins h (a ++ b) text → Begins h a text
+begins_less : (h : Classes) (a b : List ListingLine) (text : List ℕ) → BeginsWithLines h (a ++ b) text → BeginsWithLines h a text
 begins_less h [] b text begins = tt
 begins_less h (line ∷ a) b text begins = record { front = begins.front; rest = begins.rest; is = begins.is; first = begins.first; second = begins_less h a b begins.rest begins.second }
 
@@ -171,7 +171,7 @@ begins_less h (line ∷ a) b text begins = record { front = begins.front; rest =
 not_longer : (h : Classes) (text : List ℕ) (m n : ℕ) → (one : IsFormFault h text m) (two : IsFormFault h text n) → length one.front < length two.front → ⊥
 not_longer h text m n one two less =
     let is = longer one.front two.front one.others two.others (sym one.all ∙ two.all) less in
-    let begins : Begins h ((one.front ++ is.next ∷ []) ++ is.more) text = subst (λ (lines : List Line). Begins h lines text) (is.us_are ∙ sym (append_assoc one.front (is.next ∷ []) is.more)) two.begins in
+    let begins : BeginsWithLines h ((one.front ++ is.next ∷ []) ++ is.more) text = subst (λ (lines : List ListingLine). BeginsWithLines h lines text) (is.us_are ∙ sym (append_assoc one.front (is.next ∷ []) is.more)) two.begins in
     one.ends is.next (is.more ++ two.others) is.ys_are (begins_less h (one.front ++ is.next ∷ []) is.more text begins)
 
 form_once : (h : Classes) (text : List ℕ) (m n : ℕ) → IsFormFault h text m → IsFormFault h text n → m ≡ n

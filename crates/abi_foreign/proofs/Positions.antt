@@ -10,7 +10,7 @@ use Rattle.foundation.proofs.Places.{get_read}
 use Rattle.cxx_hierarchy.specs.declared.records.ClassId.{ClassId}
 use Rattle.cxx_subobject.specs.declared.Subobject.{Subobject}
 use Rattle.cxx_subobject.specs.Subobjects.{subobject}
-use Rattle.abi_sound.specs.Places.{number_in, nth_place}
+use Rattle.abi_sound.specs.Places.{place_or_zero, nth_place}
 
 -- an element that is found
 pub record IsFirst {X : Type 0} (p : X → Bool) (xs : List X) (x : X) : Type 0 where
@@ -54,7 +54,7 @@ mapped_first f p xs x v has passes same =
 pub place_first : {X : Type 0} (f : X → ℕ) (p : X → Bool) (xs : List X) (x : X) (v : ℕ) → Has xs x → p x ≡ true → ((y : X) → p y ≡ true → f y ≡ v) → nth_place (map f xs) (position p xs) ≡ v
 place_first f p xs x v has passes same =
     let at = mapped_first f p xs x v has passes same in
-    ap (nth_place (map f xs)) at.1 ∙ ap number_in at.2
+    ap (nth_place (map f xs)) at.1 ∙ ap place_or_zero at.2
 
 pub get_below : {X : Type 0} (xs : List X) (i : ℕ) (x : X) → slice_get xs i ≡ Some x → i < length xs
 get_below [] i x e = absurd (cc)

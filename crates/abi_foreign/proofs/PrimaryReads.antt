@@ -8,7 +8,7 @@ use Rattle.cxx_hierarchy.specs.declared.records.ClassId.{ClassId}
 use Rattle.cxx_hierarchy.specs.Classes.{Class, Classes, class_names, IsFound}
 use Rattle.abi_primary.specs.declared.Primary.{Primary}
 use Rattle.abi_primary.specs.declared.Primary.TheVariants.{None as NoPrimary, Direct, Virtual}
-use Rattle.abi_print.specs.LayoutTexts.{name_in, name_of, primary_text}
+use Rattle.abi_print.specs.LayoutTexts.{name_in_class, declared_class_name, primary_text}
 use Rattle.abi_foreign.specs.Lines.{primary_line, IsWritable, IsPrimaryLine}
 use Rattle.abi_foreign.specs.invariants.Pieces.{IsNotBehind}
 use Rattle.abi_foreign.specs.invariants.Reading.{IsNoLine}
@@ -60,7 +60,7 @@ pub writable_plain : (h : Classes) (primary : Primary) → IsWritable h primary 
 writable_plain h NoPrimary writable has = none_plain (has_from_contains (codes "none") 10 has)
 writable_plain h (Direct b) writable has = writable.1.one_line has
 writable_plain h (Virtual v) writable has =
-    ⊎_elim virtual_plain (λ in_name. writable.1 (contains_from_has (name_of h v) 10 in_name)) (has_cases (codes "virtual ") (name_of h v) 10 (has_from_contains (codes "virtual " ++ name_of h v) 10 has))
+    ⊎_elim virtual_plain (λ in_name. writable.1 (contains_from_has (declared_class_name h v) 10 in_name)) (has_cases (codes "virtual ") (declared_class_name h v) 10 (has_from_contains (codes "virtual " ++ declared_class_name h v) 10 has))
 
 pub split_three : (a b e rest : List ℕ) → (a ++ b ++ e) ++ rest ≡ a ++ (b ++ (e ++ rest))
 split_three a b e rest = simp append_assoc
@@ -119,16 +119,16 @@ contains_mapped : (f : Class → List ℕ) (h : Classes) (i : ℕ) (class : Clas
 contains_mapped f h i class e = contains_from_has (map f h) (f class) (has_map f h class (has_at h i class e))
 
 -- the name that was looked for is that of the class found
-found_name : (h : Classes) (c : ClassId) (name : List ℕ) → slice_get (class_names h) c.0 ≡ Some name → (c.0 < length h) × (name_of h c ≡ name)
+found_name : (h : Classes) (c : ClassId) (name : List ℕ) → slice_get (class_names h) c.0 ≡ Some name → (c.0 < length h) × (declared_class_name h c ≡ name)
 found_name h c name found =
     let class = get_mapped (λ (x : Class). x.name) h c.0 name found in
-    (get_below h c.0 class.0 class.1, ap name_in class.1 ∙ class.2)
+    (get_below h c.0 class.0 class.1, ap name_in_class class.1 ∙ class.2)
 
 -- a class has its name
-name_there : (h : Classes) (c : ClassId) → c.0 < length h → Contains (class_names h) (name_of h c)
+name_there : (h : Classes) (c : ClassId) → c.0 < length h → Contains (class_names h) (declared_class_name h c)
 name_there h c known =
     let class = get_within h c.0 known in
-    subst (λ (name : List ℕ). Contains (class_names h) name) (sym (ap name_in class.1)) (contains_mapped (λ (x : Class). x.name) h c.0 class.0 class.1)
+    subst (λ (name : List ℕ). Contains (class_names h) name) (sym (ap name_in_class class.1)) (contains_mapped (λ (x : Class). x.name) h c.0 class.0 class.1)
 
 pub says_none : (h : Classes) (word : List ℕ) → word ≡ codes "none" → IsPrimaryWord h word (Some NoPrimary)
 says_none h word e = (tt, e)
@@ -136,20 +136,20 @@ says_none h word e = (tt, e)
 pub says_virtual : (h : Classes) (word name : List ℕ) (v : ClassId) → (Contains word 10 → ⊥) → word ≡ codes "virtual " ++ name → IsFound h name (Some v) → IsPrimaryWord h word (Some (Virtual v))
 says_virtual h word name v plain e found =
     let there = found_name h v name found in
-    let is : word ≡ codes "virtual " ++ name_of h v = e ∙ ap (λ (t : List ℕ). codes "virtual " ++ t) (sym there.1) in
-    ((there.0, λ has. plain (subst (λ (t : List ℕ). Contains t 10) (sym is) (contains_from_has (codes "virtual " ++ name_of h v) 10 (has_right (codes "virtual ") (name_of h v) 10 (has_from_contains (name_of h v) 10 has))))), is)
+    let is : word ≡ codes "virtual " ++ declared_class_name h v = e ∙ ap (λ (t : List ℕ). codes "virtual " ++ t) (sym there.1) in
+    ((there.0, λ has. plain (subst (λ (t : List ℕ). Contains t 10) (sym is) (contains_from_has (codes "virtual " ++ declared_class_name h v) 10 (has_right (codes "virtual ") (declared_class_name h v) 10 (has_from_contains (declared_class_name h v) 10 has))))), is)
 
 pub says_no_virtual : (h : Classes) (word name : List ℕ) → word ≡ codes "virtual " ++ name → IsFound h name None → IsPrimaryWord h word None
 says_no_virtual h word name e none NoPrimary writable is = let same : codes "none" ≡ codes "virtual " ++ name = sym is ∙ e in absurd (cc)
 says_no_virtual h word name e none (Direct b) writable is = writable.1.not_virtual name (sym is ∙ e)
 says_no_virtual h word name e none (Virtual v) writable is =
-    let same : name_of h v ≡ name = append_cancel_left (codes "virtual ") (name_of h v) name (sym is ∙ e) in
+    let same : declared_class_name h v ≡ name = append_cancel_left (codes "virtual ") (declared_class_name h v) name (sym is ∙ e) in
     none (subst (λ (t : List ℕ). Contains (class_names h) t) same (name_there h v writable.0))
 
 pub says_direct : (h : Classes) (word : List ℕ) (b : ClassId) → (Contains word 10 → ⊥) → (word ≡ codes "none" → ⊥) → IsNotBehind word (codes "virtual ") → IsFound h word (Some b) → IsPrimaryWord h word (Some (Direct b))
 says_direct h word b plain not_none not_virtual found =
     let there = found_name h b word found in
-    let name : word ≡ name_of h b = sym there.1 in (
+    let name : word ≡ declared_class_name h b = sym there.1 in (
       (
         there.0,
         record {
@@ -164,4 +164,4 @@ says_direct h word b plain not_none not_virtual found =
 pub says_no_direct : (h : Classes) (word : List ℕ) → (word ≡ codes "none" → ⊥) → IsNotBehind word (codes "virtual ") → IsFound h word None → IsPrimaryWord h word None
 says_no_direct h word not_none not_virtual none NoPrimary writable is = not_none is
 says_no_direct h word not_none not_virtual none (Direct b) writable is = none (subst (λ (t : List ℕ). Contains (class_names h) t) (sym is) (name_there h b writable.0))
-says_no_direct h word not_none not_virtual none (Virtual v) writable is = not_virtual (name_of h v) is
+says_no_direct h word not_none not_virtual none (Virtual v) writable is = not_virtual (declared_class_name h v) is

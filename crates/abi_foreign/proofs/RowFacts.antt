@@ -18,20 +18,20 @@ use Rattle.abi_sound.specs.Sound.{IsFullRow}
 use Rattle.abi_sound.specs.Places.{nth_place}
 use Rattle.abi_foreign.specs.declared.said.MemberPlace.{MemberPlace}
 use Rattle.abi_foreign.specs.declared.said.ClassSaid.{ClassSaid}
-use Rattle.abi_foreign.specs.Lines.{most_number, numbered}
+use Rattle.abi_foreign.specs.Lines.{most_number, class_by_number}
 use Rattle.abi_foreign.specs.Listings.{cut_row, cut_rows}
 use Rattle.abi_foreign.specs.invariants.Said.{AreSmallNumbers, IsSmallPlace, AreSmallPlaces, IsSaid}
-use Rattle.abi_foreign.specs.invariants.Rows.{printed, direct_base, exact_at, exact_bits, primaries_of, exact_row, exact_row_in, exact_rows}
+use Rattle.abi_foreign.specs.invariants.Rows.{said_base_place, direct_base, exact_at, exact_bits, primaries_of, exact_row, exact_row_in, exact_rows}
 use Rattle.abi_foreign.proofs.Positions.{mapped_at, get_below}
 
-row_step : (h : Classes) (saids : List ClassSaid) (n : ℕ) (said : ClassSaid) → slice_get saids n ≡ Some said → exact_rows h saids (suc n) ≡ exact_rows h saids n ++ exact_row h saids (primaries_of saids) (numbered n) said ∷ []
-row_step h saids n said e = ap (λ (one : Option ClassSaid). exact_rows h saids n ++ exact_row_in h saids (numbered n) one) e
+row_step : (h : Classes) (saids : List ClassSaid) (n : ℕ) (said : ClassSaid) → slice_get saids n ≡ Some said → exact_rows h saids (suc n) ≡ exact_rows h saids n ++ exact_row h saids (primaries_of saids) (class_by_number n) said ∷ []
+row_step h saids n said e = ap (λ (one : Option ClassSaid). exact_rows h saids n ++ exact_row_in h saids (class_by_number n) one) e
 
 -- one row more, as it is cut
-pub cut_step : (h : Classes) (saids : List ClassSaid) (n : ℕ) (said : ClassSaid) → slice_get saids n ≡ Some said → cut_rows (exact_rows h saids (n + 1)) ≡ cut_rows (exact_rows h saids n) ++ cut_row (exact_row h saids (primaries_of saids) (numbered n) said) ∷ []
+pub cut_step : (h : Classes) (saids : List ClassSaid) (n : ℕ) (said : ClassSaid) → slice_get saids n ≡ Some said → cut_rows (exact_rows h saids (n + 1)) ≡ cut_rows (exact_rows h saids n) ++ cut_row (exact_row h saids (primaries_of saids) (class_by_number n) said) ∷ []
 cut_step h saids n said e =
     let one : n + 1 ≡ suc n = omega arith in
-    ap (λ (k : ℕ). cut_rows (exact_rows h saids k)) one ∙ ap cut_rows (row_step h saids n said e) ∙ mapped_push (exact_rows h saids n) (exact_row h saids (primaries_of saids) (numbered n) said)
+    ap (λ (k : ℕ). cut_rows (exact_rows h saids k)) one ∙ ap cut_rows (row_step h saids n said e) ∙ mapped_push (exact_rows h saids n) (exact_row h saids (primaries_of saids) (class_by_number n) said)
   where
     mapped_push : (rows : List ClassLayout) (row : ClassLayout) → cut_rows (rows ++ row ∷ []) ≡ cut_rows rows ++ cut_row row ∷ []
     mapped_push [] row = refl
@@ -41,26 +41,26 @@ pub rows_length : (h : Classes) (saids : List ClassSaid) (n : ℕ) → n ≤ len
 rows_length h saids zero within = refl
 rows_length h saids (suc n) within =
     let there = get_within saids n (omega arith) in
-    ap length (row_step h saids n there.0 there.1) ∙ length_pushed (exact_rows h saids n) (exact_row h saids (primaries_of saids) (numbered n) there.0)
+    ap length (row_step h saids n there.0 there.1) ∙ length_pushed (exact_rows h saids n) (exact_row h saids (primaries_of saids) (class_by_number n) there.0)
     ∙ (let before = rows_length h saids n (omega arith) in omega arith)
 
 -- the class of a row
 pub record IsRowOf (h : Classes) (saids : List ClassSaid) (i : ℕ) (row : ClassLayout) : Type 0 where
   pub said : ClassSaid
   pub there : slice_get saids i ≡ Some said
-  pub is : row ≡ exact_row h saids (primaries_of saids) (numbered i) said
+  pub is : row ≡ exact_row h saids (primaries_of saids) (class_by_number i) said
 
 row_from : (h : Classes) (saids : List ClassSaid) (n i : ℕ) (row : ClassLayout) → n ≤ length saids → slice_get (exact_rows h saids n) i ≡ Some row → IsRowOf h saids i row
 row_from h saids zero i row within e = absurd (cc)
 row_from h saids (suc n) i row within e =
     let there = get_within saids n (omega arith) in
-    let pushed : slice_get (exact_rows h saids n ++ exact_row h saids (primaries_of saids) (numbered n) there.0 ∷ []) i ≡ Some row = ap (λ (rows : List ClassLayout). slice_get rows i) (sym (row_step h saids n there.0 there.1)) ∙ e in
+    let pushed : slice_get (exact_rows h saids n ++ exact_row h saids (primaries_of saids) (class_by_number n) there.0 ∷ []) i ≡ Some row = ap (λ (rows : List ClassLayout). slice_get rows i) (sym (row_step h saids n there.0 there.1)) ∙ e in
     ⊎_elim
     (λ before. row_from h saids n i row (omega arith) before)
     (λ last.
     let at : i ≡ n = last.0 ∙ rows_length h saids n (omega arith) in
-    record { said = there.0; there = ap (slice_get saids) at ∙ there.1; is = last.1 ∙ ap (λ (k : ℕ). exact_row h saids (primaries_of saids) (numbered k) there.0) (sym at) })
-    (get_pushed (exact_rows h saids n) (exact_row h saids (primaries_of saids) (numbered n) there.0) i row pushed)
+    record { said = there.0; there = ap (slice_get saids) at ∙ there.1; is = last.1 ∙ ap (λ (k : ℕ). exact_row h saids (primaries_of saids) (class_by_number k) there.0) (sym at) })
+    (get_pushed (exact_rows h saids n) (exact_row h saids (primaries_of saids) (class_by_number n) there.0) i row pushed)
 
 pub row_at : (h : Classes) (saids : List ClassSaid) (c : ClassId) (said : ClassSaid) → length saids ≡ length h → slice_get saids c.0 ≡ Some said → slice_get (exact_rows h saids (length h)) c.0 ≡ Some (exact_row h saids (primaries_of saids) c said)
 row_at h saids c said count e =
@@ -119,9 +119,9 @@ pub exact_full : (h : Classes) (saids : List ClassSaid) (c : ClassId) (number : 
 exact_full h saids c number said of =
     let list : filter_map shared_class said.list ≡ virtual_bases h c = ap (filter_map shared_class) of.in_preorder in
     record {
-      each_base = length-map (filter is_plain_base (bases_of h c)) (λ (b : Base ClassId). printed said (direct_base c b.class));
+      each_base = length-map (filter is_plain_base (bases_of h c)) (λ (b : Base ClassId). said_base_place said (direct_base c b.class));
       virtuals = list;
-      each_virtual = length-map (filter_map shared_class said.list) (λ (v : ClassId). printed said (shared_base v)) ∙ ap length list;
+      each_virtual = length-map (filter_map shared_class said.list) (λ (v : ClassId). said_base_place said (shared_base v)) ∙ ap length list;
       each_holder = length-map (filter_map shared_class said.list) (λ (v : ClassId). find (has_primary (primaries_of saids) v) said.list) ∙ ap length list;
       each_member = length-map said.members (λ (at : MemberPlace). at.place) ∙ places_length (members_of h c) said.members of.members;
       each_bits = bits_length saids (members_of h c) said.members of.members;

@@ -9,7 +9,7 @@ use Rattle.abi_sound.specs.declared.class_layout.Bits.{Bits}
 use Rattle.abi_foreign.specs.declared.said.MemberPlace.{MemberPlace}
 use Rattle.abi_foreign.specs.declared.said.ClassSaid.{ClassSaid}
 use Rattle.abi_foreign.specs.Listings.{cut_bits}
-use Rattle.abi_foreign.specs.invariants.Rows.{exact_at, exact_bits, cut_at}
+use Rattle.abi_foreign.specs.invariants.Rows.{exact_at, exact_bits, cut_bits_at}
 
 -- one item more of a mapped list
 pub map_next : {X Y : Type 0} (f : X → Y) (xs : List X) (i : ℕ) (x : X) → i < length xs → x ≡ get_or xs i x → map f (take (i + 1) xs) ≡ map f (take i xs) ++ f x ∷ []
@@ -26,7 +26,7 @@ bits_next saids (m ∷ members) (p ∷ places) zero member at e f =
 bits_next saids (m ∷ members) (p ∷ places) (suc n) member at e f = ap (λ (rest : List Bits). exact_at saids m p ∷ rest) (bits_next saids members places n member at e f)
 
 pub cut_next : (saids : List ClassSaid) (members : List (Member ClassId)) (places : List MemberPlace) (n : ℕ) (member : Member ClassId) (at : MemberPlace) → slice_get members n ≡ Some member → slice_get places n ≡ Some at →
-    map cut_bits (exact_bits saids (take (n + 1) members) (take (n + 1) places)) ≡ map cut_bits (exact_bits saids (take n members) (take n places)) ++ cut_at saids member at ∷ []
+    map cut_bits (exact_bits saids (take (n + 1) members) (take (n + 1) places)) ≡ map cut_bits (exact_bits saids (take n members) (take n places)) ++ cut_bits_at saids member at ∷ []
 cut_next saids members places n member at e f =
     let one : n + 1 ≡ suc n = omega arith in
     ap (λ (k : ℕ). map cut_bits (exact_bits saids (take k members) (take k places))) one

@@ -7,7 +7,7 @@ use Rattle.cxx_hierarchy.specs.Classes.{Classes}
 use Rattle.cxx_hierarchy.specs.Hierarchies.{IsHierarchy}
 use Rattle.cxx_subobject.specs.declared.Subobject.{Subobject}
 use Rattle.abi_sound.specs.declared.class_layout.ClassLayout.{ClassLayout}
-use Rattle.abi_sound.specs.Places.{places_of, place_of}
+use Rattle.abi_sound.specs.Places.{places_of, place_in_class}
 use Rattle.abi_judge.specs.declared.rules.SoundRule.{SoundRule}
 use Rattle.abi_judge.specs.Rules.{IsFault}
 use Rattle.abi_print.specs.LayoutTexts.{proper}
@@ -15,7 +15,7 @@ use Rattle.abi_foreign.specs.declared.listing_stop.ListingRule.{ListingRule}
 use Rattle.abi_foreign.specs.declared.listing_stop.ListingRule.TheVariants.{Form}
 use Rattle.abi_foreign.specs.declared.listing_stop.ListingStop.TheVariants.{Bad}
 use Rattle.abi_foreign.specs.declared.said.ClassSaid.{ClassSaid}
-use Rattle.abi_foreign.specs.Lines.{numbered}
+use Rattle.abi_foreign.specs.Lines.{class_by_number}
 use Rattle.abi_foreign.specs.Listings.{cut_rows, IsForeign}
 use Rattle.abi_foreign.specs.Refusals.{IsRefused}
 use Rattle.abi_foreign.specs.invariants.Said.{AreSaid}
@@ -46,14 +46,14 @@ sums_decided h rows c (t ∷ list) (p ∷ places) = ⊎_elim
     (λ none. inr (record { number = suc none.number; s = none.s; place = none.place; there = none.there; said = none.said; other = none.other }))
     (sums_decided h rows c list places))
     (λ differs. inr (record { number = 0; s = t; place = p; there = refl; said = refl; other = differs }))
-    (decide_number p (place_of h rows c t))
+    (decide_number p (place_in_class h rows c t))
   where
-    each_more : p ≡ place_of h rows c t → ((i : ℕ) (s : Subobject) (place : ℕ) → slice_get list i ≡ Some s → slice_get places i ≡ Some place → place ≡ place_of h rows c s) →
-        (i : ℕ) (s : Subobject) (place : ℕ) → slice_get (t ∷ list) i ≡ Some s → slice_get (p ∷ places) i ≡ Some place → place ≡ place_of h rows c s
+    each_more : p ≡ place_in_class h rows c t → ((i : ℕ) (s : Subobject) (place : ℕ) → slice_get list i ≡ Some s → slice_get places i ≡ Some place → place ≡ place_in_class h rows c s) →
+        (i : ℕ) (s : Subobject) (place : ℕ) → slice_get (t ∷ list) i ≡ Some s → slice_get (p ∷ places) i ≡ Some place → place ≡ place_in_class h rows c s
     each_more same each zero s place e f =
         let one : t ≡ s = cc in
         let two : p ≡ place = cc in
-        sym two ∙ same ∙ ap (place_of h rows c) one
+        sym two ∙ same ∙ ap (place_in_class h rows c) one
     each_more same each (suc i) s place e f = each i s place e f
 
 -- what a class is judged by
@@ -64,7 +64,7 @@ judge h rows c list places fault is (inr none) = (least_rule fault false, record
 
 module _ (h : Classes) (keeps : IsHierarchy h) (text : List ℕ) (saids : List ClassSaid) (all : AreSaid h text saids) where
   judged_next : (n : ℕ) (said : ClassSaid) → n < length h → slice_get saids n ≡ Some said → AreGood h (cut_rows (exact_rows h saids (length h))) saids n → (rule : Option ListingRule) →
-      IsJudged h (cut_rows (exact_rows h saids (length h))) (numbered n) (proper said.list) said.places rule → AreGood h (cut_rows (exact_rows h saids (length h))) saids (suc n) ⊎ HasRefusal h text
+      IsJudged h (cut_rows (exact_rows h saids (length h))) (class_by_number n) (proper said.list) said.places rule → AreGood h (cut_rows (exact_rows h saids (length h))) saids (suc n) ⊎ HasRefusal h text
   judged_next n said known e good None judged =
       let one : n + 1 ≡ suc n = omega arith in
       inl (subst (λ (k : ℕ). AreGood h (cut_rows (exact_rows h saids (length h))) saids k) one (good_next h keeps text saids all n said None e good judged refl))
@@ -74,9 +74,9 @@ module _ (h : Classes) (keeps : IsHierarchy h) (text : List ℕ) (saids : List C
   judged_to zero within = inl (record { sound = λ d less. absurd (omega arith); sums = λ d said less e. absurd (omega arith) })
   judged_to (suc n) within = ⊎_elim
       (λ good.
-      let said = said_at h keeps text saids all (numbered n) (omega arith) in
-      let fault = some_fault h keeps (cut_rows (exact_rows h saids (length h))) (numbered n) (next h keeps text saids all n (omega arith) good) in
-      let rule = judge h (cut_rows (exact_rows h saids (length h))) (numbered n) (proper said.0.list) said.0.places fault.0 fault.1 (sums_decided h (cut_rows (exact_rows h saids (length h))) (numbered n) (proper said.0.list) said.0.places) in
+      let said = said_at h keeps text saids all (class_by_number n) (omega arith) in
+      let fault = some_fault h keeps (cut_rows (exact_rows h saids (length h))) (class_by_number n) (next h keeps text saids all n (omega arith) good) in
+      let rule = judge h (cut_rows (exact_rows h saids (length h))) (class_by_number n) (proper said.0.list) said.0.places fault.0 fault.1 (sums_decided h (cut_rows (exact_rows h saids (length h))) (class_by_number n) (proper said.0.list) said.0.places) in
       judged_next n said.0 (omega arith) said.1 good rule.0 rule.1)
       (λ refused. inr refused)
       (judged_to n (omega arith))

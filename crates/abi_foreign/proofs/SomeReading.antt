@@ -21,10 +21,10 @@ use Rattle.abi_foreign.specs.declared.listing_stop.ListingRule.TheVariants.{Form
 use Rattle.abi_foreign.specs.declared.said.Sizes.{Sizes}
 use Rattle.abi_foreign.specs.declared.said.MemberPlace.{MemberPlace}
 use Rattle.abi_foreign.specs.declared.said.ClassSaid.{ClassSaid}
-use Rattle.abi_foreign.specs.Lines.{Line, most_number, numbered, sizes_line, primary_line, base_line, member_line, class_lines}
+use Rattle.abi_foreign.specs.Lines.{ListingLine, most_number, class_by_number, sizes_line, primary_line, base_line, member_line, class_lines}
 use Rattle.abi_foreign.specs.Refusals.{IsRefused}
-use Rattle.abi_foreign.specs.invariants.Pieces.{IsNotBehind, IsNoDigit, IsApart, read_on, IsNumber, HasNoNumber, IsBefore, HasNoneBefore}
-use Rattle.abi_foreign.specs.invariants.Reading.{IsNoLine, StopsIn}
+use Rattle.abi_foreign.specs.invariants.Pieces.{IsNotBehind, IsNoDigit, IsApart, read_on, BeginsWithNumber, HasNoNumber, IsNumberBefore, HasNoneBefore}
+use Rattle.abi_foreign.specs.invariants.Reading.{IsNoLine, StopsReading}
 use Rattle.abi_foreign.specs.invariants.Said.{HasNoSizes, AreSizes, sizes_head, IsWord, IsPrimaryWord, IsPrimaryRead, base_tail, AreBasesRead, member_tail, HasNoMember, IsMember, AreMembersRead, IsSaid, IsClassRead, AreSaidTo, AreSaid}
 use Rattle.abi_foreign.proofs.Digits.{no_digits, leading_zero, too_large, number_read, none_before, not_before, before_read}
 use Rattle.abi_foreign.proofs.ReadLines.{stops_here}
@@ -57,7 +57,7 @@ digits_of (c ∷ text) = by_test (is_ascii_digit c) refl (digits_of text)
 record StartsNumber (text : List ℕ) : Type 0 where
   n : ℕ
   rest : List ℕ
-  is : IsNumber text n rest
+  is : BeginsWithNumber text n rest
 
 by_value : (text digits rest : List ℕ) → text ≡ digits ++ rest → list_all is_ascii_digit digits ≡ true → IsNoDigit rest → 0 < length digits → (get_or digits 0 0 ≡ 48 → length digits ≡ 1) → StartsNumber text ⊎ HasNoNumber text
 by_value text digits rest e all ends some plain = ⊎_elim
@@ -92,7 +92,7 @@ behind_decided (c ∷ text) (d ∷ piece) = ⊎_elim
 record StandsBefore (text piece : List ℕ) : Type 0 where
   n : ℕ
   rest : List ℕ
-  is : IsBefore text piece n rest
+  is : IsNumberBefore text piece n rest
 
 before_decided : (text piece : List ℕ) → IsApart piece → StandsBefore text piece ⊎ HasNoneBefore text piece
 before_decided text piece apart = ⊎_elim
@@ -168,7 +168,7 @@ named (first ∷ names) name = ⊎_elim
     (decide_list decide_number first name)
 
 class_named : (h : Classes) (name : List ℕ) → (found : Option ClassId) × IsFound h name found
-class_named h name = ⊎_elim (λ at. (Some (numbered at.0), at.1)) (λ none. (None, none)) (named (class_names h) name)
+class_named h name = ⊎_elim (λ at. (Some (class_by_number at.0), at.1)) (λ none. (None, none)) (named (class_names h) name)
 
 word_said : (h : Classes) (word : List ℕ) → (Contains word 10 → ⊥) → (primary : Option Primary) × IsPrimaryWord h word primary
 word_said h word plain = ⊎_elim
@@ -206,8 +206,8 @@ primary_decided h text = ⊎_elim
     by_word r0 e word rest is (Some primary) said = inl (record { primary = primary; rest = rest; is = primary_read h text r0 word rest primary e is said })
 
 -- the line at which reading stops
-abbrev Stops : Classes → List Line → List ℕ → ℕ → Type 0
-Stops h lines text number = (line : ℕ) × StopsIn h lines text number (stops.Bad Form line)
+abbrev Stops : Classes → List ListingLine → List ℕ → ℕ → Type 0
+Stops h lines text number = (line : ℕ) × StopsReading h lines text number (stops.Bad Form line)
 
 record SaysBases (h : Classes) (list : List Subobject) (text : List ℕ) : Type 0 where
   places : List ℕ
@@ -314,12 +314,12 @@ classes_decided h keeps text (suc n) within = ⊎_elim
     inl (record {
       saids = old.saids ++ c.said ∷ [];
       rest = c.rest;
-      number = old.number + length (class_lines h (numbered n));
-      are = subst (λ (k : ℕ). AreSaidTo h text k (old.saids ++ c.said ∷ []) c.rest (old.number + length (class_lines h (numbered n)))) one
-          (one_class_more h text n old.saids old.rest c.rest old.number (old.number + length (class_lines h (numbered n))) c.said old.are c.is c.read refl);
+      number = old.number + length (class_lines h (class_by_number n));
+      are = subst (λ (k : ℕ). AreSaidTo h text k (old.saids ++ c.said ∷ []) c.rest (old.number + length (class_lines h (class_by_number n)))) one
+          (one_class_more h text n old.saids old.rest c.rest old.number (old.number + length (class_lines h (class_by_number n))) c.said old.are c.is c.read refl);
     }))
     (λ stop. inr (stopped h text stop.0 (class_stops h text n old.saids old.rest old.number (stops.Bad Form stop.0) (omega arith) old.are stop.1)))
-    (class_decided h keeps (numbered n) old.number old.rest))
+    (class_decided h keeps (class_by_number n) old.number old.rest))
     (λ stop. inr stop)
     (classes_decided h keeps text n (omega arith))
 

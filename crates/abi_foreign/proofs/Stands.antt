@@ -29,13 +29,13 @@ use Rattle.abi_primary.specs.PrimaryBase.{has_primary, has_primary_in, is_virtua
 use Rattle.abi_sound.specs.declared.class_layout.ClassLayout.{ClassLayout}
 use Rattle.abi_sound.specs.declared.class_layout.Bits.{Bits}
 use Rattle.abi_sound.specs.Sound.{IsFullRow, AreFullRows, is_primary_of}
-use Rattle.abi_sound.specs.Places.{places_of, bases_in as places_in_row, nth_place, nth_holder, size_in, bits_in, primary_in, base_place, virtual_place, virtual_place_in, holder_in}
+use Rattle.abi_sound.specs.Places.{places_of, base_places_in as places_in_row, nth_place, nth_holder, size_in_row, member_bits_in, primary_in, direct_base_place, virtual_place, virtual_place_in, holder_in}
 use Rattle.abi_sound.specs.Locations.{size_of_type}
 use Rattle.abi_foreign.specs.declared.said.ClassSaid.{ClassSaid}
-use Rattle.abi_foreign.specs.Lines.{numbered, first_line}
-use Rattle.abi_foreign.specs.Listings.{cut_bits, cut_row, cut_rows, width_by, AreMemberBits, StandsFor}
+use Rattle.abi_foreign.specs.Lines.{class_by_number, first_line}
+use Rattle.abi_foreign.specs.Listings.{cut_bits, cut_row, cut_rows, width_by, AreMemberBits, RowsHavePlaces}
 use Rattle.abi_foreign.specs.invariants.Said.{AreSaid}
-use Rattle.abi_foreign.specs.invariants.Rows.{printed, printed_in, said_place, direct_base, size_said, said_size, width_said, exact_at, exact_bits, primaries_of, exact_rows}
+use Rattle.abi_foreign.specs.invariants.Rows.{said_base_place, printed_in, said_place, direct_base, size_said, said_size, width_said, exact_at, exact_bits, primaries_of, exact_rows}
 use Rattle.abi_foreign.proofs.Positions.{mapped_at, mapped_first, place_first, get_below}
 use Rattle.abi_foreign.proofs.RowFacts.{cut_at_row, written_row, rows_length, exact_full, bits_from}
 
@@ -46,7 +46,7 @@ pub nat_itself : (n : ℕ) → nat_eq n n ≡ true
 nat_itself n = eq-eqb n n refl
 
 pub class_same : (c d : ClassId) → c.0 ≡ d.0 → c ≡ d
-class_same c d e = ap numbered e
+class_same c d e = ap class_by_number e
 
 nothing_there : {X : Type 0} (xs : List X) (i : ℕ) (x : X) → xs ≡ [] → slice_get xs i ≡ Some x → ⊥
 nothing_there [] i x none e = absurd (cc)
@@ -114,14 +114,14 @@ module _ (h : Classes) (keeps : IsHierarchy h) (text : List ℕ) (saids : List C
   pub said_at : (c : ClassId) → c.0 < length h → (said : ClassSaid) × (slice_get saids c.0 ≡ Some said)
   said_at c known = get_within saids c.0 (let count = all.count in omega arith)
 
-  stands_base : (c b : ClassId) → IsDirectBase h c false b → base_place h (cut_rows (exact_rows h saids (length h))) c b ≡ said_place saids c (subobject Whole (c ∷ b ∷ []))
+  stands_base : (c b : ClassId) → IsDirectBase h c false b → direct_base_place h (cut_rows (exact_rows h saids (length h))) c b ≡ said_place saids c (subobject Whole (c ∷ b ∷ []))
   stands_base c b edge =
       let said = said_at c (known_with_base h c edge.base edge.listed) in
       let plain : Has (filter is_plain_base (bases_of h c)) edge.base = filter_has is_plain_base (bases_of h c) edge.base (has_from_contains (bases_of h c) edge.base edge.listed) (plain_way edge.base edge.way) in
       let test : nat_eq edge.base.class.0 b.0 ≡ true = subst (λ (d : ClassId). nat_eq d.0 b.0 ≡ true) (sym edge.class) (nat_itself b.0) in
       ap (λ (row : Option ClassLayout). nth_place (places_in_row row) (position (λ (base : Base ClassId). nat_eq base.class.0 b.0) (filter is_plain_base (bases_of h c)))) (cut_at_row h saids c said.0 all.count said.1)
-      ∙ place_first (λ (base : Base ClassId). printed said.0 (direct_base c base.class)) (λ (base : Base ClassId). nat_eq base.class.0 b.0) (filter is_plain_base (bases_of h c)) edge.base (printed said.0 (direct_base c b)) plain test
-      (λ base on. ap (λ (d : ClassId). printed said.0 (direct_base c d)) (class_same base.class b (nat_same base.class.0 b.0 on)))
+      ∙ place_first (λ (base : Base ClassId). said_base_place said.0 (direct_base c base.class)) (λ (base : Base ClassId). nat_eq base.class.0 b.0) (filter is_plain_base (bases_of h c)) edge.base (said_base_place said.0 (direct_base c b)) plain test
+      (λ base on. ap (λ (d : ClassId). said_base_place said.0 (direct_base c d)) (class_same base.class b (nat_same base.class.0 b.0 on)))
       ∙ ap (λ (one : Option ClassSaid). printed_in one (direct_base c b)) (sym said.1)
     where
       plain_way : (base : Base ClassId) → base.is_virtual ≡ false → is_plain_base base ≡ true
@@ -134,8 +134,8 @@ module _ (h : Classes) (keeps : IsHierarchy h) (text : List ℕ) (saids : List C
   stands_virtual c v has =
       let said = said_at c (known_with_virtual h c v has) in
       ap (λ (row : Option ClassLayout). virtual_place_in row v) (cut_at_row h saids c said.0 all.count said.1)
-      ∙ place_first (λ (w : ClassId). printed said.0 (shared_base w)) (λ (w : ClassId). nat_eq w.0 v.0) (filter_map shared_class said.0.list) v (printed said.0 (shared_base v)) (virtual_there c v said.0 said.1 has) (nat_itself v.0)
-      (λ w on. ap (λ (d : ClassId). printed said.0 (shared_base d)) (class_same w v (nat_same w.0 v.0 on)))
+      ∙ place_first (λ (w : ClassId). said_base_place said.0 (shared_base w)) (λ (w : ClassId). nat_eq w.0 v.0) (filter_map shared_class said.0.list) v (said_base_place said.0 (shared_base v)) (virtual_there c v said.0 said.1 has) (nat_itself v.0)
+      (λ w on. ap (λ (d : ClassId). said_base_place said.0 (shared_base d)) (class_same w v (nat_same w.0 v.0 on)))
       ∙ ap (λ (one : Option ClassSaid). printed_in one (shared_base v)) (sym said.1)
 
   -- past the last class there is no row
@@ -181,25 +181,25 @@ module _ (h : Classes) (keeps : IsHierarchy h) (text : List ℕ) (saids : List C
       ∙ ap (find (λ (s : Subobject). is_primary_of (places_of h (cut_rows (exact_rows h saids (length h)))) v (class_of s))) (all.each c said.0 said.1).in_preorder
 
   -- the size of a class, by what is said and by the rows
-  size_same : (e : ClassId) → size_said (slice_get saids e.0) ≡ size_in (slice_get (cut_rows (exact_rows h saids (length h))) e.0)
+  size_same : (e : ClassId) → size_said (slice_get saids e.0) ≡ size_in_row (slice_get (cut_rows (exact_rows h saids (length h))) e.0)
   size_same d = by_said (slice_get saids d.0) refl
     where
-      by_said : (one : Option ClassSaid) → slice_get saids d.0 ≡ one → size_said one ≡ size_in (slice_get (cut_rows (exact_rows h saids (length h))) d.0)
-      by_said (Some said) e = sym (ap size_in (cut_at_row h saids d said all.count e))
-      by_said None e = sym (ap size_in (no_row d e))
+      by_said : (one : Option ClassSaid) → slice_get saids d.0 ≡ one → size_said one ≡ size_in_row (slice_get (cut_rows (exact_rows h saids (length h))) d.0)
+      by_said (Some said) e = sym (ap size_in_row (cut_at_row h saids d said all.count e))
+      by_said None e = sym (ap size_in_row (no_row d e))
 
   type_same : (type : FieldType ClassId) → said_size saids type ≡ size_of_type (places_of h (cut_rows (exact_rows h saids (length h)))) type
   type_same (Value type) = refl
   type_same (Object e) = size_same e
 
-  stands_bits : (c : ClassId) (m : ℕ) (member : Member ClassId) (bits : Bits) → slice_get (members_of h c) m ≡ Some member → slice_get (bits_in (slice_get (cut_rows (exact_rows h saids (length h))) c.0)) m ≡ Some bits →
+  stands_bits : (c : ClassId) (m : ℕ) (member : Member ClassId) (bits : Bits) → slice_get (members_of h c) m ≡ Some member → slice_get (member_bits_in (slice_get (cut_rows (exact_rows h saids (length h))) c.0)) m ≡ Some bits →
       AreMemberBits (places_of h (cut_rows (exact_rows h saids (length h)))) member bits
   stands_bits c m member bits listed there = by_said (slice_get saids c.0) refl
     where
       by_said : (one : Option ClassSaid) → slice_get saids c.0 ≡ one → AreMemberBits (places_of h (cut_rows (exact_rows h saids (length h)))) member bits
-      by_said None e = absurd (nothing_there (bits_in (slice_get (cut_rows (exact_rows h saids (length h))) c.0)) m bits (ap bits_in (no_row c e)) there)
+      by_said None e = absurd (nothing_there (member_bits_in (slice_get (cut_rows (exact_rows h saids (length h))) c.0)) m bits (ap member_bits_in (no_row c e)) there)
       by_said (Some said) e =
-          let cut : slice_get (map cut_bits (exact_bits saids (members_of h c) said.members)) m ≡ Some bits = ap (λ (row : Option ClassLayout). slice_get (bits_in row) m) (sym (cut_at_row h saids c said all.count e)) ∙ there in
+          let cut : slice_get (map cut_bits (exact_bits saids (members_of h c) said.members)) m ≡ Some bits = ap (λ (row : Option ClassLayout). slice_get (member_bits_in row) m) (sym (cut_at_row h saids c said all.count e)) ∙ there in
           let exact = get_mapped cut_bits (exact_bits saids (members_of h c) said.members) m bits cut in
           let of = bits_from saids (members_of h c) said.members m exact.0 (all.each c said e).members exact.1 in
           let one : Some of.member ≡ Some member = sym of.listed ∙ listed in
@@ -210,5 +210,5 @@ module _ (h : Classes) (keeps : IsHierarchy h) (text : List ℕ) (saids : List C
             width = width_same member.width (elements_of member.count) (said_size saids member.ty) (size_of_type (places_of h (cut_rows (exact_rows h saids (length h)))) member.ty) (type_same member.ty);
           })
 
-  pub stands : StandsFor h (cut_rows (exact_rows h saids (length h))) (said_place saids)
+  pub stands : RowsHavePlaces h (cut_rows (exact_rows h saids (length h))) (said_place saids)
   stands = record { bases = stands_base; virtuals = stands_virtual; holders = stands_holder; bits = stands_bits }

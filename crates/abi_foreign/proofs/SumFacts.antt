@@ -11,7 +11,7 @@ use Rattle.cxx_hierarchy.specs.Classes.{Classes, bases_of}
 use Rattle.cxx_hierarchy.specs.Declarations.{is_plain_base}
 use Rattle.cxx_subobject.specs.declared.Subobject.{Subobject}
 use Rattle.abi_sound.specs.declared.class_layout.ClassLayout.{ClassLayout}
-use Rattle.abi_sound.specs.Places.{bases_in, nth_place, base_place, place_along, place_from, root_place, place_of}
+use Rattle.abi_sound.specs.Places.{base_places_in, nth_place, direct_base_place, place_along, place_from, root_place, place_in_class}
 use Rattle.abi_foreign.specs.invariants.Sums.{AreSumsOf}
 
 no_place : (number : Option ℕ) → nth_place [] number ≡ 0
@@ -19,9 +19,9 @@ no_place None = refl
 no_place (Some n) = refl
 
 -- past the last class no base has a place
-pub no_base_place : (h : Classes) (rows : List ClassLayout) (c b : ClassId) → length rows ≡ length h → length h ≤ c.0 → base_place h rows c b ≡ 0
+pub no_base_place : (h : Classes) (rows : List ClassLayout) (c b : ClassId) → length rows ≡ length h → length h ≤ c.0 → direct_base_place h rows c b ≡ 0
 no_base_place h rows c b count past =
-    ap (λ (row : Option ClassLayout). nth_place (bases_in row) (position (λ (base : Base ClassId). nat_eq base.class.0 b.0) (filter is_plain_base (bases_of h c)))) (slice_get_past rows c.0 (omega arith))
+    ap (λ (row : Option ClassLayout). nth_place (base_places_in row) (position (λ (base : Base ClassId). nat_eq base.class.0 b.0) (filter is_plain_base (bases_of h c)))) (slice_get_past rows c.0 (omega arith))
     ∙ no_place (position (λ (base : Base ClassId). nat_eq base.class.0 b.0) (filter is_plain_base (bases_of h c)))
 
 -- a number that begins with another one
@@ -35,7 +35,7 @@ sum_none : (sum : ℕ) → IsTrue (sum == 0) ↔ (sum ≡ 0)
 sum_none sum = (λ t. eqb-true sum 0 t, λ e. eq-eqb sum 0 e)
 
 -- a path with a class more
-module _ (h : Classes) (rows : List ClassLayout) (c b : ClassId) (path rest : List ClassId) (first sum : ℕ) (is : path ≡ b ∷ rest) (place : first ≡ base_place h rows c b) where
+module _ (h : Classes) (rows : List ClassLayout) (c b : ClassId) (path rest : List ClassId) (first sum : ℕ) (is : path ≡ b ∷ rest) (place : first ≡ direct_base_place h rows c b) where
   pub along_more : (r : Bool) → first ≤ sum → IsTrue r ↔ (sum - first ≡ place_along h rows b rest) → IsTrue r ↔ (sum ≡ place_along h rows c path)
   along_more r le told = subst (λ (p : List ClassId). IsTrue r ↔ (sum ≡ place_along h rows c p)) (sym is)
       (subst (λ (n : ℕ). IsTrue r ↔ (sum ≡ n + place_along h rows b rest)) place (sum_more first (place_along h rows b rest) sum r le told))
@@ -54,10 +54,10 @@ pub from_none : (h : Classes) (rows : List ClassLayout) (path : List ClassId) (s
 from_none h rows path sum is = subst (λ (p : List ClassId). IsTrue (sum == 0) ↔ (sum ≡ place_from h rows p)) (sym is) (sum_none sum)
 
 -- a place behind that of the root, and before it
-pub behind_root : (h : Classes) (rows : List ClassLayout) (c : ClassId) (s : Subobject) (root place : ℕ) (r : Bool) → root ≡ root_place rows c s.root → root ≤ place → IsTrue r ↔ (place - root ≡ place_from h rows s.path) → IsTrue r ↔ (place ≡ place_of h rows c s)
+pub behind_root : (h : Classes) (rows : List ClassLayout) (c : ClassId) (s : Subobject) (root place : ℕ) (r : Bool) → root ≡ root_place rows c s.root → root ≤ place → IsTrue r ↔ (place - root ≡ place_from h rows s.path) → IsTrue r ↔ (place ≡ place_in_class h rows c s)
 behind_root h rows c s root place r is le told = subst (λ (n : ℕ). IsTrue r ↔ (place ≡ n + place_from h rows s.path)) is (sum_more root (place_from h rows s.path) place r le told)
 
-pub before_root : (h : Classes) (rows : List ClassLayout) (c : ClassId) (s : Subobject) (root place : ℕ) → root ≡ root_place rows c s.root → place < root → IsTrue false ↔ (place ≡ place_of h rows c s)
+pub before_root : (h : Classes) (rows : List ClassLayout) (c : ClassId) (s : Subobject) (root place : ℕ) → root ≡ root_place rows c s.root → place < root → IsTrue false ↔ (place ≡ place_in_class h rows c s)
 before_root h rows c s root place is less = subst (λ (n : ℕ). IsTrue false ↔ (place ≡ n + place_from h rows s.path)) is (sum_less root (place_from h rows s.path) place less)
 
 taken : {X : Type 0} (xs : List X) (n i : ℕ) (x : X) → slice_get (take n xs) i ≡ Some x → (i < n) × (slice_get xs i ≡ Some x)
@@ -77,7 +77,7 @@ no_sums h rows c list places = record { each = λ i s place e f. let low = (take
 
 -- one place more
 pub sums_next : (h : Classes) (rows : List ClassLayout) (c : ClassId) (list : List Subobject) (places : List ℕ) (n : ℕ) (s : Subobject) (place : ℕ) → AreSumsOf h rows c (take n list) (take n places) →
-    slice_get list n ≡ Some s → slice_get places n ≡ Some place → place ≡ place_of h rows c s → AreSumsOf h rows c (take (n + 1) list) (take (n + 1) places)
+    slice_get list n ≡ Some s → slice_get places n ≡ Some place → place ≡ place_in_class h rows c s → AreSumsOf h rows c (take (n + 1) list) (take (n + 1) places)
 sums_next h rows c list places n s place old there said same = record {
   each = λ i t at e f.
       let one = taken list (n + 1) i t e in
@@ -91,7 +91,7 @@ sums_next h rows c list places n s place old there said same = record {
       let b : Some at ≡ Some place = sym two.1 ∙ ap (slice_get places) is ∙ said in
       let sa : s ≡ t = cc in
       let sb : at ≡ place = cc in
-      sb ∙ same ∙ ap (place_of h rows c) sa)
+      sb ∙ same ∙ ap (place_in_class h rows c) sa)
       (cases_lt i n);
 }
 

@@ -15,7 +15,7 @@ use Rattle.abi_sound.specs.Places.{places_of}
 use Rattle.abi_sound.specs.Sound.{IsSoundClass}
 use Rattle.abi_judge.specs.declared.rules.SoundRule.{SoundRule}
 use Rattle.abi_judge.specs.declared.rules.SoundRule.TheVariants as sound
-use Rattle.abi_judge.specs.Rules.{Keeps, turn, Fails, IsFault, IsSmallRow, IsNext}
+use Rattle.abi_judge.specs.Rules.{Keeps, turn, FailsFirst, IsFault, IsSmallRow, MayBeJudged}
 use Rattle.abi_print.specs.LayoutTexts.{proper}
 use Rattle.abi_print.specs.Texts.{PlaceOf}
 use Rattle.abi_foreign.specs.declared.listing_stop.ListingRule.{ListingRule}
@@ -23,11 +23,11 @@ use Rattle.abi_foreign.specs.declared.listing_stop.ListingRule.TheVariants.{Plac
 use Rattle.abi_foreign.specs.declared.listing_stop.ListingStop.TheVariants as stops
 use Rattle.abi_foreign.specs.declared.said.MemberPlace.{MemberPlace}
 use Rattle.abi_foreign.specs.declared.said.ClassSaid.{ClassSaid}
-use Rattle.abi_foreign.specs.Lines.{numbered, first_line}
+use Rattle.abi_foreign.specs.Lines.{class_by_number, first_line}
 use Rattle.abi_foreign.specs.Listings.{cut_row, cut_rows, AreSums, IsForeign}
-use Rattle.abi_foreign.specs.Refusals.{rule_no, rule_of, Breaks, unsound, no_sum, IsRefused, faulty}
+use Rattle.abi_foreign.specs.Refusals.{listing_rule_no, rule_of, Breaks, unsound, no_sum, IsRefused, faulty}
 use Rattle.abi_foreign.specs.invariants.Said.{AreSaid, AreSmallNumbers, AreSmallPlaces}
-use Rattle.abi_foreign.specs.invariants.Rows.{printed, printed_in, said_place, direct_base, exact_row, exact_rows, primaries_of}
+use Rattle.abi_foreign.specs.invariants.Rows.{said_base_place, printed_in, said_place, direct_base, exact_row, exact_rows, primaries_of}
 use Rattle.abi_foreign.specs.invariants.Sums.{AreSumsOf, HasNoSum}
 use Rattle.abi_foreign.specs.invariants.Judged.{rule_with_sums, least_rule, IsJudged, AreGood}
 use Rattle.abi_foreign.proofs.Positions.{get_below}
@@ -35,7 +35,7 @@ use Rattle.abi_foreign.proofs.RowFacts.{written_row, nth_small}
 use Rattle.abi_foreign.proofs.Stands.{rows_full, said_at, stands}
 use Rattle.abi_foreign.proofs.ListedTexts.{printed_at, listed}
 
-printed_small : (said : ClassSaid) → AreSmallNumbers said.places → (s : Subobject) → printed said s ≤ 1048576
+printed_small : (said : ClassSaid) → AreSmallNumbers said.places → (s : Subobject) → said_base_place said s ≤ 1048576
 printed_small said small s = nth_small said.places (position (λ (t : Subobject). same_subobject t s) (proper said.list)) small
 
 mapped_small : {X : Type 0} (f : X → ℕ) → ((x : X) → f x ≤ 1048576) → (xs : List X) (k place : ℕ) → slice_get (map f xs) k ≡ Some place → place ≤ 1048576
@@ -56,9 +56,9 @@ clean_of None false e = absurd (cc)
 -- what a class breaks, and that this is the least
 record IsVerdict (h : Classes) (rows : List ClassLayout) (place : PlaceOf) (c : ClassId) (rule : ListingRule) : Type 0 where
   breaks : Breaks h rows place c rule
-  least : (other : ListingRule) → rule_no other < rule_no rule → Breaks h rows place c other → ⊥
+  least : (other : ListingRule) → listing_rule_no other < listing_rule_no rule → Breaks h rows place c other → ⊥
 
-turn_no : (rule : SoundRule) → rule_no (rule_of rule) ≡ turn rule + 2
+turn_no : (rule : SoundRule) → listing_rule_no (rule_of rule) ≡ turn rule + 2
 turn_no sound.Primary = refl
 turn_no sound.Place = refl
 turn_no sound.Align = refl
@@ -66,17 +66,17 @@ turn_no sound.Inside = refl
 turn_no sound.Overlap = refl
 turn_no sound.Twice = refl
 
-turn_less : (earlier rule : SoundRule) → rule_no (rule_of earlier) < rule_no (rule_of rule) → turn earlier < turn rule
+turn_less : (earlier rule : SoundRule) → listing_rule_no (rule_of earlier) < listing_rule_no (rule_of rule) → turn earlier < turn rule
 turn_less earlier rule less = let a = turn_no earlier in let b = turn_no rule in omega arith
 
 -- of the rules before this one none is broken, where places are sums or this one comes before
-least_unsound : (h : Classes) (rows : List ClassLayout) (place : PlaceOf) (c : ClassId) (rule : SoundRule) → Fails h (places_of h rows) c rule → (rule_no (rule_of rule) ≤ 3) ⊎ AreSums h rows place c →
-    (other : ListingRule) → rule_no other < rule_no (rule_of rule) → Breaks h rows place c other → ⊥
+least_unsound : (h : Classes) (rows : List ClassLayout) (place : PlaceOf) (c : ClassId) (rule : SoundRule) → FailsFirst h (places_of h rows) c rule → (listing_rule_no (rule_of rule) ≤ 3) ⊎ AreSums h rows place c →
+    (other : ListingRule) → listing_rule_no other < listing_rule_no (rule_of rule) → Breaks h rows place c other → ⊥
 least_unsound h rows place c rule fails sums other less (unsound earlier broken) = broken (fails.before earlier (turn_less earlier rule less))
 least_unsound h rows place c rule fails sums other less (no_sum s has differs) = ⊎_elim (λ low. absurd (omega arith)) (λ all. differs (all s has)) sums
 
 -- where a place is no sum, only the rule on the primary base comes before
-least_place : (h : Classes) (rows : List ClassLayout) (place : PlaceOf) (c : ClassId) → Keeps h (places_of h rows) c sound.Primary → (other : ListingRule) → rule_no other < 3 → Breaks h rows place c other → ⊥
+least_place : (h : Classes) (rows : List ClassLayout) (place : PlaceOf) (c : ClassId) → Keeps h (places_of h rows) c sound.Primary → (other : ListingRule) → listing_rule_no other < 3 → Breaks h rows place c other → ⊥
 least_place h rows place c kept other less (unsound sound.Primary broken) = broken kept
 least_place h rows place c kept other less (unsound sound.Place broken) = absurd (omega arith)
 least_place h rows place c kept other less (unsound sound.Align broken) = absurd (omega arith)
@@ -85,7 +85,7 @@ least_place h rows place c kept other less (unsound sound.Overlap broken) = absu
 least_place h rows place c kept other less (unsound sound.Twice broken) = absurd (omega arith)
 least_place h rows place c kept other less (no_sum s has differs) = absurd (omega arith)
 
-by_rule : (h : Classes) (rows : List ClassLayout) (place : PlaceOf) (c : ClassId) (rule : SoundRule) → Fails h (places_of h rows) c rule → (rule_no (rule_of rule) ≤ 3) ⊎ AreSums h rows place c → IsVerdict h rows place c (rule_of rule)
+by_rule : (h : Classes) (rows : List ClassLayout) (place : PlaceOf) (c : ClassId) (rule : SoundRule) → FailsFirst h (places_of h rows) c rule → (listing_rule_no (rule_of rule) ≤ 3) ⊎ AreSums h rows place c → IsVerdict h rows place c (rule_of rule)
 by_rule h rows place c rule fails sums = record { breaks = unsound rule fails.broken; least = least_unsound h rows place c rule fails sums }
 
 by_place : (h : Classes) (rows : List ClassLayout) (place : PlaceOf) (c : ClassId) → Keeps h (places_of h rows) c sound.Primary → Breaks h rows place c Place → IsVerdict h rows place c Place
@@ -96,7 +96,7 @@ keeps_primary : (h : Classes) (rows : List ClassLayout) (c : ClassId) → IsSoun
 keeps_primary h rows c is = record { direct = is.direct; virtual = is.virtual; held = record { holder = is.holder } }
 
 module _ (h : Classes) (rows : List ClassLayout) (place : PlaceOf) (c : ClassId) where
-  with_sums : (rule : SoundRule) (has_sums : Bool) → Fails h (places_of h rows) c rule → (has_sums ≡ true → AreSums h rows place c) → (has_sums ≡ false → Breaks h rows place c Place) → IsVerdict h rows place c (rule_with_sums rule has_sums)
+  with_sums : (rule : SoundRule) (has_sums : Bool) → FailsFirst h (places_of h rows) c rule → (has_sums ≡ true → AreSums h rows place c) → (has_sums ≡ false → Breaks h rows place c Place) → IsVerdict h rows place c (rule_with_sums rule has_sums)
   with_sums sound.Primary has_sums fails on off = by_rule h rows place c sound.Primary fails (inl (omega arith))
   with_sums sound.Place has_sums fails on off = by_rule h rows place c sound.Place fails (inl (omega arith))
   with_sums sound.Align true fails on off = by_rule h rows place c sound.Align fails (inr (on refl))
@@ -119,15 +119,15 @@ module _ (h : Classes) (keeps : IsHierarchy h) (text : List ℕ) (saids : List C
   small_rows i row e =
       let cut = get_mapped cut_row (exact_rows h saids (length h)) i row e in
       let of = written_row h saids i cut.0 all.count cut.1 in
-      let said = all.each (numbered i) of.said of.there in
-      let is : cut_row (exact_row h saids (primaries_of saids) (numbered i) of.said) ≡ row = ap cut_row (sym of.is) ∙ cut.2 in
+      let said = all.each (class_by_number i) of.said of.there in
+      let is : cut_row (exact_row h saids (primaries_of saids) (class_by_number i) of.said) ≡ row = ap cut_row (sym of.is) ∙ cut.2 in
       subst IsSmallRow is (record {
         size = said.sizes.0;
         align = said.sizes.1;
         nvalign = said.sizes.4;
-        bases = λ k place there. mapped_small (λ (b : Base ClassId). printed of.said (direct_base (numbered i) b.class)) (λ b. printed_small of.said said.small (direct_base (numbered i) b.class)) _ k place there;
-        virtuals = λ k place there. mapped_small (λ (v : ClassId). printed of.said (shared_base v)) (λ v. printed_small of.said said.small (shared_base v)) _ k place there;
-        members = λ k place there. member_small (members_of h (numbered i)) of.said.members said.members k place there;
+        bases = λ k place there. mapped_small (λ (b : Base ClassId). said_base_place of.said (direct_base (class_by_number i) b.class)) (λ b. printed_small of.said said.small (direct_base (class_by_number i) b.class)) _ k place there;
+        virtuals = λ k place there. mapped_small (λ (v : ClassId). said_base_place of.said (shared_base v)) (λ v. printed_small of.said said.small (shared_base v)) _ k place there;
+        members = λ k place there. member_small (members_of h (class_by_number i)) of.said.members said.members k place there;
       })
 
   -- each place that a class says is a sum, or one is none
@@ -146,23 +146,23 @@ module _ (h : Classes) (keeps : IsHierarchy h) (text : List ℕ) (saids : List C
       (λ same. none.other (sym (ap (λ (one : Option ClassSaid). printed_in one none.s) e ∙ printed_at h c said none.number none.s none.place of.lists none.there none.said) ∙ same))
 
   -- what a class is judged by
-  pub next : (n : ℕ) → n < length h → AreGood h (cut_rows (exact_rows h saids (length h))) saids n → IsNext h (cut_rows (exact_rows h saids (length h))) (numbered n)
+  pub next : (n : ℕ) → n < length h → AreGood h (cut_rows (exact_rows h saids (length h))) saids n → MayBeJudged h (cut_rows (exact_rows h saids (length h))) (class_by_number n)
   next n known good = record {
     known = known;
     full = rows_full h keeps text saids all;
     small = small_rows;
-    held = record { holder = λ v has. (stands h keeps text saids all).holders (numbered n) v has };
+    held = record { holder = λ v has. (stands h keeps text saids all).holders (class_by_number n) v has };
     before = λ d less. good.sound d less;
   }
 
   pub good_next : (n : ℕ) (said : ClassSaid) (rule : Option ListingRule) → slice_get saids n ≡ Some said → AreGood h (cut_rows (exact_rows h saids (length h))) saids n →
-      IsJudged h (cut_rows (exact_rows h saids (length h))) (numbered n) (proper said.list) said.places rule → rule ≡ None → AreGood h (cut_rows (exact_rows h saids (length h))) saids (n + 1)
+      IsJudged h (cut_rows (exact_rows h saids (length h))) (class_by_number n) (proper said.list) said.places rule → rule ≡ None → AreGood h (cut_rows (exact_rows h saids (length h))) saids (n + 1)
   good_next n said rule e good judged none =
       let clean = clean_of judged.fault judged.has_sums (sym judged.is ∙ none) in
-      let here : IsSoundClass h (places_of h (cut_rows (exact_rows h saids (length h)))) (numbered n) = subst (IsFault h (places_of h (cut_rows (exact_rows h saids (length h)))) (numbered n)) clean.0 judged.is_fault in
+      let here : IsSoundClass h (places_of h (cut_rows (exact_rows h saids (length h)))) (class_by_number n) = subst (IsFault h (places_of h (cut_rows (exact_rows h saids (length h)))) (class_by_number n)) clean.0 judged.is_fault in
       record {
         sound = λ d less. ⊎_elim
-            (λ at. subst (λ (c : ClassId). IsSoundClass h (places_of h (cut_rows (exact_rows h saids (length h)))) c) (sym (ap numbered at)) here)
+            (λ at. subst (λ (c : ClassId). IsSoundClass h (places_of h (cut_rows (exact_rows h saids (length h)))) c) (sym (ap class_by_number at)) here)
             (λ other. ⊎_elim (λ below. good.sound d below) (λ above. absurd (omega arith)) other)
             (cases_order d.0 n);
         sums = λ d one less there. ⊎_elim
@@ -170,7 +170,7 @@ module _ (h : Classes) (keeps : IsHierarchy h) (text : List ℕ) (saids : List C
             let same : Some one ≡ Some said = sym there ∙ ap (slice_get saids) at ∙ e in
             let is : said ≡ one = cc in
             subst (λ (s : ClassSaid). AreSumsOf h (cut_rows (exact_rows h saids (length h))) d (proper s.list) s.places) is
-            (subst (λ (c : ClassId). AreSumsOf h (cut_rows (exact_rows h saids (length h))) c (proper said.list) said.places) (sym (ap numbered at)) (judged.sums clean.1)))
+            (subst (λ (c : ClassId). AreSumsOf h (cut_rows (exact_rows h saids (length h))) c (proper said.list) said.places) (sym (ap class_by_number at)) (judged.sums clean.1)))
             (λ other. ⊎_elim (λ below. good.sums d one below there) (λ above. absurd (omega arith)) other)
             (cases_order d.0 n);
       }
@@ -184,12 +184,12 @@ module _ (h : Classes) (keeps : IsHierarchy h) (text : List ℕ) (saids : List C
   }
 
   pub bad_class : (n : ℕ) (said : ClassSaid) (rule : Option ListingRule) (broken : ListingRule) → n < length h → slice_get saids n ≡ Some said → AreGood h (cut_rows (exact_rows h saids (length h))) saids n →
-      IsJudged h (cut_rows (exact_rows h saids (length h))) (numbered n) (proper said.list) said.places rule → rule ≡ Some broken → IsRefused h text (stops.Bad broken said.line)
+      IsJudged h (cut_rows (exact_rows h saids (length h))) (class_by_number n) (proper said.list) said.places rule → rule ≡ Some broken → IsRefused h text (stops.Bad broken said.line)
   bad_class n said rule broken known e good judged is =
-      let first : said.line ≡ first_line h (numbered n) = (all.each (numbered n) said e).first in
+      let first : said.line ≡ first_line h (class_by_number n) = (all.each (class_by_number n) said e).first in
       let l = places_of h (cut_rows (exact_rows h saids (length h))) in
-      let verdict = verdict_of h (cut_rows (exact_rows h saids (length h))) (said_place saids) (numbered n) judged.fault judged.has_sums broken judged.is_fault (λ on. sums_of (numbered n) said e (judged.sums on)) (λ off. breaks_sum (numbered n) said e (judged.no_sum off)) (sym judged.is ∙ is) in
-      subst (λ (k : ℕ). IsRefused h text (stops.Bad broken k)) (sym first) (faulty (cut_rows (exact_rows h saids (length h))) (said_place saids) (numbered n) broken (listed h keeps text saids all) (record {
+      let verdict = verdict_of h (cut_rows (exact_rows h saids (length h))) (said_place saids) (class_by_number n) judged.fault judged.has_sums broken judged.is_fault (λ on. sums_of (class_by_number n) said e (judged.sums on)) (λ off. breaks_sum (class_by_number n) said e (judged.no_sum off)) (sym judged.is ∙ is) in
+      subst (λ (k : ℕ). IsRefused h text (stops.Bad broken k)) (sym first) (faulty (cut_rows (exact_rows h saids (length h))) (said_place saids) (class_by_number n) broken (listed h keeps text saids all) (record {
         known = known;
         before = λ d less.
             let one = said_at h keeps text saids all d (omega arith) in

@@ -16,14 +16,14 @@ use Rattle.cxx_subobject.specs.Preorder.{preorder}
 use Rattle.cxx_subobject.proofs.TreeLemmas.{preorder_lists}
 use Rattle.abi_sound.specs.declared.class_layout.ClassLayout.{ClassLayout}
 use Rattle.abi_sound.specs.declared.class_layout.Bits.{Bits}
-use Rattle.abi_sound.specs.Places.{number_in, members_in, bits_in, first_in}
+use Rattle.abi_sound.specs.Places.{place_or_zero, member_places_in, member_bits_in, first_bit_in}
 use Rattle.abi_print.specs.Texts.{PlaceOf}
-use Rattle.abi_print.specs.LayoutTexts.{name_of, primary_text, class_text, row_text, base_text, fields_text, proper, layout_text}
+use Rattle.abi_print.specs.LayoutTexts.{declared_class_name, primary_text, class_text, row_text, base_text, fields_text, proper, layout_text}
 use Rattle.abi_foreign.specs.declared.said.MemberPlace.{MemberPlace}
 use Rattle.abi_foreign.specs.declared.said.ClassSaid.{ClassSaid}
-use Rattle.abi_foreign.specs.Lines.{most_number, numbered, first_line}
+use Rattle.abi_foreign.specs.Lines.{most_number, class_by_number, first_line}
 use Rattle.abi_foreign.specs.Listings.{texts_before, IsListing}
-use Rattle.abi_foreign.specs.invariants.Said.{bases_text, members_text, AreSmallNumbers, AreSmallPlaces, said_text, said_in, said_before, IsSaid, AreSaid}
+use Rattle.abi_foreign.specs.invariants.Said.{base_lines, members_text, AreSmallNumbers, AreSmallPlaces, said_text, said_in, said_before, IsSaid, AreSaid}
 use Rattle.abi_foreign.proofs.Positions.{get_below}
 use Rattle.abi_foreign.proofs.ListedTexts.{bases_same, all_members, row_split}
 
@@ -47,27 +47,27 @@ said_of h place c row = record {
 -- what the lines of the classes from this number on say
 abbrev pub saids_of : Classes → PlaceOf → ℕ → List ClassLayout → List ClassSaid
 saids_of h place n [] = []
-saids_of h place n (row ∷ rows) = said_of h place (numbered n) row ∷ saids_of h place (suc n) rows
+saids_of h place n (row ∷ rows) = said_of h place (class_by_number n) row ∷ saids_of h place (suc n) rows
 
 pub saids_length : (h : Classes) (place : PlaceOf) (n : ℕ) (rows : List ClassLayout) → length (saids_of h place n rows) ≡ length rows
 saids_length h place n [] = refl
 saids_length h place n (row ∷ rows) = ap suc (saids_length h place (suc n) rows)
 
-saids_at : (h : Classes) (place : PlaceOf) (n : ℕ) (rows : List ClassLayout) (i : ℕ) (row : ClassLayout) → slice_get rows i ≡ Some row → slice_get (saids_of h place n rows) i ≡ Some (said_of h place (numbered (n + i)) row)
+saids_at : (h : Classes) (place : PlaceOf) (n : ℕ) (rows : List ClassLayout) (i : ℕ) (row : ClassLayout) → slice_get rows i ≡ Some row → slice_get (saids_of h place n rows) i ≡ Some (said_of h place (class_by_number (n + i)) row)
 saids_at h place n [] i row e = absurd (cc)
 saids_at h place n (first ∷ rows) zero row e =
     let same : first ≡ row = cc in
     let here : n ≡ n + zero = omega arith in
-    ap (λ (r : ClassLayout). Some (said_of h place (numbered n) r)) same ∙ ap (λ (k : ℕ). Some (said_of h place (numbered k) row)) here
+    ap (λ (r : ClassLayout). Some (said_of h place (class_by_number n) r)) same ∙ ap (λ (k : ℕ). Some (said_of h place (class_by_number k) row)) here
 saids_at h place n (first ∷ rows) (suc i) row e =
     let there : suc n + i ≡ n + suc i = omega arith in
-    saids_at h place (suc n) rows i row e ∙ ap (λ (k : ℕ). Some (said_of h place (numbered k) row)) there
+    saids_at h place (suc n) rows i row e ∙ ap (λ (k : ℕ). Some (said_of h place (class_by_number k) row)) there
 
 -- of each class
 pub said_row : (h : Classes) (place : PlaceOf) (rows : List ClassLayout) (c : ClassId) (row : ClassLayout) → slice_get rows c.0 ≡ Some row → slice_get (saids_of h place 0 rows) c.0 ≡ Some (said_of h place c row)
 said_row h place rows c row e =
     let none : 0 + c.0 ≡ c.0 = omega arith in
-    saids_at h place 0 rows c.0 row e ∙ ap (λ (k : ℕ). Some (said_of h place (numbered k) row)) none
+    saids_at h place 0 rows c.0 row e ∙ ap (λ (k : ℕ). Some (said_of h place (class_by_number k) row)) none
 
 -- and from what is said to the row
 pub row_said : (h : Classes) (place : PlaceOf) (rows : List ClassLayout) (c : ClassId) (said : ClassSaid) → slice_get (saids_of h place 0 rows) c.0 ≡ Some said → (row : ClassLayout) × (slice_get rows c.0 ≡ Some row) × (said ≡ said_of h place c row)
@@ -140,8 +140,8 @@ module _ (h : Classes) (keeps : IsHierarchy h) (text : List ℕ) (written : List
       let said = said_of h place c row in
       let members = all_members h written c said.members (said_small c row e) (λ m at there.
       let of = places_at row.member_places row.member_bits m at there in (
-        ap (λ (one : Option ClassLayout). number_in (slice_get (members_in one) m)) e ∙ ap number_in of.0,
-        ap (λ (one : Option ClassLayout). first_in (slice_get (bits_in one) m)) e ∙ ap first_in of.1.1 ∙ of.1.2,
+        ap (λ (one : Option ClassLayout). place_or_zero (slice_get (member_places_in one) m)) e ∙ ap place_or_zero of.0,
+        ap (λ (one : Option ClassLayout). first_bit_in (slice_get (member_bits_in one) m)) e ∙ ap first_bit_in of.1.1 ∙ of.1.2,
       )) in
       ap (λ (one : Option ClassLayout). row_text h c one ++ flat_map (base_text h place c) (proper (preorder h c)) ++ fields_text h written c (length (members_of h c))) e
       ∙ ap (λ (bases : List ℕ). class_text h c row ++ bases ++ fields_text h written c (length (members_of h c)))
@@ -150,17 +150,17 @@ module _ (h : Classes) (keeps : IsHierarchy h) (text : List ℕ) (written : List
       let one : Some of.0 ≡ Some s = sym of.1 ∙ at in
       let same : of.0 ≡ s = cc in
       ap (λ (t : Subobject). place c t) (sym same) ∙ of.2))
-      ∙ ap (λ (fields : List ℕ). class_text h c row ++ bases_text h (proper (preorder h c)) said.places ++ fields) members
-      ∙ row_split (codes "class ") (name_of h c) (codes " size ") (decimal row.size) (codes " align ") (decimal row.align) (codes " dsize ") (decimal row.dsize) (codes " nvsize ") (decimal row.nvsize) (codes " nvalign ") (decimal row.nvalign)
-      (codes "\n") (codes "primary ") (primary_text h row.primary) (codes "\n") (bases_text h (proper (preorder h c)) said.places) (members_text h (members_of h c) said.members)
+      ∙ ap (λ (fields : List ℕ). class_text h c row ++ base_lines h (proper (preorder h c)) said.places ++ fields) members
+      ∙ row_split (codes "class ") (declared_class_name h c) (codes " size ") (decimal row.size) (codes " align ") (decimal row.align) (codes " dsize ") (decimal row.dsize) (codes " nvsize ") (decimal row.nvsize) (codes " nvalign ") (decimal row.nvalign)
+      (codes "\n") (codes "primary ") (primary_text h row.primary) (codes "\n") (base_lines h (proper (preorder h c)) said.places) (members_text h (members_of h c) said.members)
 
   texts_same : (n : ℕ) → n ≤ length h → texts_before h written place n ≡ said_before h (saids_of h place 0 written) n
   texts_same zero within = refl
   texts_same (suc n) within =
       let row = get_within written n (let long = listing.full.one_each in omega arith) in
-      ap (λ (front : List ℕ). front ++ layout_text h written place (numbered n)) (texts_same n (omega arith))
-      ∙ ap (λ (one : List ℕ). said_before h (saids_of h place 0 written) n ++ one) (class_same_text (numbered n) row.0 row.1)
-      ∙ ap (λ (one : Option ClassSaid). said_before h (saids_of h place 0 written) n ++ said_in h (numbered n) one) (sym (said_row h place written (numbered n) row.0 row.1))
+      ap (λ (front : List ℕ). front ++ layout_text h written place (class_by_number n)) (texts_same n (omega arith))
+      ∙ ap (λ (one : List ℕ). said_before h (saids_of h place 0 written) n ++ one) (class_same_text (class_by_number n) row.0 row.1)
+      ∙ ap (λ (one : Option ClassSaid). said_before h (saids_of h place 0 written) n ++ said_in h (class_by_number n) one) (sym (said_row h place written (class_by_number n) row.0 row.1))
 
   pub are_said : AreSaid h text (saids_of h place 0 written)
   are_said = record {

@@ -29,16 +29,16 @@ use Rattle.abi_primary.specs.PrimaryBase.{has_primary, has_primary_in, is_virtua
 use Rattle.abi_sound.specs.declared.class_layout.ClassLayout.{ClassLayout}
 use Rattle.abi_sound.specs.declared.class_layout.Bits.{Bits}
 use Rattle.abi_sound.specs.Sound.{is_primary_of}
-use Rattle.abi_sound.specs.Places.{places_of, bases_in as places_in_row, nth_place, nth_holder, number_in, size_in, bits_in, primary_in, base_place, virtual_place, virtual_place_in, holder_in}
+use Rattle.abi_sound.specs.Places.{places_of, base_places_in as places_in_row, nth_place, nth_holder, place_or_zero, size_in_row, member_bits_in, primary_in, direct_base_place, virtual_place, virtual_place_in, holder_in}
 use Rattle.abi_sound.specs.Locations.{size_of_type}
 use Rattle.abi_print.specs.LayoutTexts.{proper}
 use Rattle.abi_print.specs.Texts.{PlaceOf}
 use Rattle.abi_foreign.specs.declared.said.MemberPlace.{MemberPlace}
 use Rattle.abi_foreign.specs.declared.said.ClassSaid.{ClassSaid}
-use Rattle.abi_foreign.specs.Lines.{numbered}
-use Rattle.abi_foreign.specs.Listings.{cut_bits, cut_row, cut_rows, IsListing, StandsFor}
+use Rattle.abi_foreign.specs.Lines.{class_by_number}
+use Rattle.abi_foreign.specs.Listings.{cut_bits, cut_row, cut_rows, IsListing, RowsHavePlaces}
 use Rattle.abi_foreign.specs.invariants.Said.{AreSaid}
-use Rattle.abi_foreign.specs.invariants.Rows.{printed, printed_in, said_place, direct_base, size_said, said_size, said_width, exact_bits, primaries_of, exact_row, exact_rows}
+use Rattle.abi_foreign.specs.invariants.Rows.{said_base_place, printed_in, said_place, direct_base, size_said, said_size, said_width, exact_bits, primaries_of, exact_row, exact_rows}
 use Rattle.abi_foreign.proofs.Positions.{find_some, position_some, mapped_at}
 use Rattle.abi_foreign.proofs.RowFacts.{rows_length, cut_at_row}
 use Rattle.abi_foreign.proofs.Stands.{nat_same, nat_itself, class_same, find_alike, none_past, width_same}
@@ -96,13 +96,13 @@ plain_once h keeps c i j x y e f same =
     let one : x ≡ y = cc in
     once_by_place (filter is_plain_base bases) (once_filter is_plain_base bases (each_once bases (λ m k z a b. keeps.once c m k z z a b refl))) i j x e (f ∙ ap (λ (z : Base ClassId). Some z) (sym one))
 
-module _ (h : Classes) (keeps : IsHierarchy h) (text : List ℕ) (rows written : List ClassLayout) (place : PlaceOf) (listing : IsListing h text written place) (cut : rows ≡ cut_rows written) (stands : StandsFor h rows place) where
+module _ (h : Classes) (keeps : IsHierarchy h) (text : List ℕ) (rows written : List ClassLayout) (place : PlaceOf) (listing : IsListing h text written place) (cut : rows ≡ cut_rows written) (stands : RowsHavePlaces h rows place) where
   cut_there : (c : ClassId) (row : ClassLayout) → slice_get written c.0 ≡ Some row → slice_get rows c.0 ≡ Some (cut_row row)
   cut_there c row e = ap (λ (list : List ClassLayout). slice_get list c.0) cut ∙ mapped_at cut_row written c.0 row e
 
   plain_bits : (c : ClassId) (row : ClassLayout) (i : ℕ) (member : Member ClassId) (b : Bits) → slice_get written c.0 ≡ Some row → slice_get (members_of h c) i ≡ Some member → slice_get row.member_bits i ≡ Some b → member.width ≡ None → b.first ≡ 0
   plain_bits c row i member b e listed there none =
-      let at : slice_get (bits_in (slice_get rows c.0)) i ≡ Some (cut_bits b) = ap (λ (one : Option ClassLayout). slice_get (bits_in one) i) (cut_there c row e) ∙ mapped_at cut_bits row.member_bits i b there in
+      let at : slice_get (member_bits_in (slice_get rows c.0)) i ≡ Some (cut_bits b) = ap (λ (one : Option ClassLayout). slice_get (member_bits_in one) i) (cut_there c row e) ∙ mapped_at cut_bits row.member_bits i b there in
       min_zero b.first ((stands.bits c i member (cut_bits b) listed at).first none)
 
   abbrev pub saids : List ClassSaid
@@ -112,7 +112,7 @@ module _ (h : Classes) (keeps : IsHierarchy h) (text : List ℕ) (rows written :
   all = are_said h keeps text written place listing plain_bits
 
   -- the place that is said of a proper subobject
-  printed_place : (c : ClassId) (row : ClassLayout) (s : Subobject) → Has (proper (preorder h c)) s → printed (said_of h place c row) s ≡ place c s
+  printed_place : (c : ClassId) (row : ClassLayout) (s : Subobject) → Has (proper (preorder h c)) s → said_base_place (said_of h place c row) s ≡ place c s
   printed_place c row s has =
       let at = index_of (proper (preorder h c)) s has in
       printed_at h c (said_of h place c row) at.0 s (place c s) (preorder_lists h c keeps) at.1 (mapped_at (λ (t : Subobject). place c t) (proper (preorder h c)) at.0 s at.1)
@@ -128,16 +128,16 @@ module _ (h : Classes) (keeps : IsHierarchy h) (text : List ℕ) (rows written :
       (λ e. let roots : Whole ≡ Shared v = ap (λ (s : Subobject). s.root) e in absurd (cc))
 
   module _ (c : ClassId) (row : ClassLayout) (e : slice_get written c.0 ≡ Some row) where
-    bases_are : row.base_places ≡ map (λ (b : Base ClassId). printed (said_of h place c row) (direct_base c b.class)) (filter is_plain_base (bases_of h c))
-    bases_are = mapped_list (λ (b : Base ClassId). printed (said_of h place c row) (direct_base c b.class)) (filter is_plain_base (bases_of h c)) row.base_places (listing.full.each c row e).each_base (λ i b at listed there.
+    bases_are : row.base_places ≡ map (λ (b : Base ClassId). said_base_place (said_of h place c row) (direct_base c b.class)) (filter is_plain_base (bases_of h c))
+    bases_are = mapped_list (λ (b : Base ClassId). said_base_place (said_of h place c row) (direct_base c b.class)) (filter is_plain_base (bases_of h c)) row.base_places (listing.full.each c row e).each_base (λ i b at listed there.
         let plain = has_filter is_plain_base (bases_of h c) b (has_at (filter is_plain_base (bases_of h c)) i b listed) in
         let edge : IsDirectBase h c false b.class = record { base = b; listed = contains_from_has (bases_of h c) b plain.0; class = refl; way = not_virtual b.is_virtual plain.1 } in
         let number : position (λ (base : Base ClassId). nat_eq base.class.0 b.class.0) (filter is_plain_base (bases_of h c)) ≡ Some i =
         position_one (λ (base : Base ClassId). nat_eq base.class.0 b.class.0) (filter is_plain_base (bases_of h c)) i b listed (nat_itself b.class.0)
         (λ j y f on. plain_once h keeps c j i y b f listed (class_same y.class b.class (nat_same y.class.0 b.class.0 on))) in
-        let read : base_place h rows c b.class ≡ at =
+        let read : direct_base_place h rows c b.class ≡ at =
         ap (λ (one : Option ClassLayout). nth_place (places_in_row one) (position (λ (base : Base ClassId). nat_eq base.class.0 b.class.0) (filter is_plain_base (bases_of h c)))) (cut_there c row e)
-        ∙ ap (nth_place row.base_places) number ∙ ap number_in there in
+        ∙ ap (nth_place row.base_places) number ∙ ap place_or_zero there in
         sym read ∙ stands.bases c b.class edge ∙ sym (printed_place c row (direct_base c b.class) (direct_proper c b.class edge)))
       where
         not_virtual : (flag : Bool) → not flag ≡ true → flag ≡ false
@@ -153,10 +153,10 @@ module _ (h : Classes) (keeps : IsHierarchy h) (text : List ℕ) (rows written :
     virtual_there : (i : ℕ) (v : ClassId) → slice_get (virtual_bases h c) i ≡ Some v → HasVirtualBase h c v
     virtual_there i v listed = virtual_has h c v (has_at (virtual_bases h c) i v listed)
 
-    virtuals_are : row.virtual_places ≡ map (λ (v : ClassId). printed (said_of h place c row) (shared_base v)) (virtual_bases h c)
-    virtuals_are = mapped_list (λ (v : ClassId). printed (said_of h place c row) (shared_base v)) (virtual_bases h c) row.virtual_places (listing.full.each c row e).each_virtual (λ i v at listed there.
+    virtuals_are : row.virtual_places ≡ map (λ (v : ClassId). said_base_place (said_of h place c row) (shared_base v)) (virtual_bases h c)
+    virtuals_are = mapped_list (λ (v : ClassId). said_base_place (said_of h place c row) (shared_base v)) (virtual_bases h c) row.virtual_places (listing.full.each c row e).each_virtual (λ i v at listed there.
         let has = virtual_there i v listed in
-        let read : virtual_place rows c v ≡ at = ap (λ (one : Option ClassLayout). virtual_place_in one v) (cut_there c row e) ∙ ap (nth_place row.virtual_places) (virtual_number i v listed) ∙ ap number_in there in
+        let read : virtual_place rows c v ≡ at = ap (λ (one : Option ClassLayout). virtual_place_in one v) (cut_there c row e) ∙ ap (nth_place row.virtual_places) (virtual_number i v listed) ∙ ap place_or_zero there in
         sym read ∙ stands.virtuals c v has ∙ sym (printed_place c row (shared_base v) (shared_proper c v has)))
 
   none_said : (i : ℕ) → slice_get written i ≡ None → slice_get saids i ≡ None
@@ -186,12 +186,12 @@ module _ (h : Classes) (keeps : IsHierarchy h) (text : List ℕ) (rows written :
   find_same v list = find_alike (has_primary (primaries_of saids) v) (λ (s : Subobject). is_primary_of (places_of h rows) v (class_of s)) (same_test v) list
 
   -- the size of a class, by what is said and by the rows
-  size_same : (d : ClassId) → size_said (slice_get saids d.0) ≡ size_in (slice_get rows d.0)
+  size_same : (d : ClassId) → size_said (slice_get saids d.0) ≡ size_in_row (slice_get rows d.0)
   size_same d = by_row (slice_get written d.0) refl
     where
-      by_row : (one : Option ClassLayout) → slice_get written d.0 ≡ one → size_said (slice_get saids d.0) ≡ size_in (slice_get rows d.0)
-      by_row (Some row) e = ap size_said (said_row h place written d row e) ∙ sym (ap size_in (cut_there d row e))
-      by_row None e = ap size_said (none_said d.0 e) ∙ sym (ap size_in (none_cut d.0 e))
+      by_row : (one : Option ClassLayout) → slice_get written d.0 ≡ one → size_said (slice_get saids d.0) ≡ size_in_row (slice_get rows d.0)
+      by_row (Some row) e = ap size_said (said_row h place written d row e) ∙ sym (ap size_in_row (cut_there d row e))
+      by_row None e = ap size_said (none_said d.0 e) ∙ sym (ap size_in_row (none_cut d.0 e))
 
   type_same : (type : FieldType ClassId) → said_size saids type ≡ size_of_type (places_of h rows) type
   type_same (Value type) = refl
@@ -223,7 +223,7 @@ module _ (h : Classes) (keeps : IsHierarchy h) (text : List ℕ) (rows written :
 
     bits_are : row.member_bits ≡ exact_bits saids (members_of h c) (member_places row.member_places row.member_bits)
     bits_are = bits_same (members_of h c) row.member_places row.member_bits (listing.full.each c row e).each_member (listing.full.each c row e).each_bits (λ i member b listed there.
-        let at : slice_get (bits_in (slice_get rows c.0)) i ≡ Some (cut_bits b) = ap (λ (one : Option ClassLayout). slice_get (bits_in one) i) (cut_there c row e) ∙ mapped_at cut_bits row.member_bits i b there in
+        let at : slice_get (member_bits_in (slice_get rows c.0)) i ≡ Some (cut_bits b) = ap (λ (one : Option ClassLayout). slice_get (member_bits_in one) i) (cut_there c row e) ∙ mapped_at cut_bits row.member_bits i b there in
         (stands.bits c i member (cut_bits b) listed at).width
         ∙ sym (width_same member.width (elements_of member.count) (said_size saids member.ty) (size_of_type (places_of h rows) member.ty) (type_same member.ty)))
 
@@ -253,10 +253,10 @@ module _ (h : Classes) (keeps : IsHierarchy h) (text : List ℕ) (rows written :
       (ap length cut ∙ length-map written cut_row ∙ listing.full.one_each ∙ sym (length-map (exact_rows h saids (length h)) cut_row ∙ rows_length h saids (length h) (let count = all.count in omega arith)))
       (λ i x y f g.
       let w = get_mapped cut_row written i x (ap (λ (list : List ClassLayout). slice_get list i) (sym cut) ∙ f) in
-      let mine = cut_at_row h saids (numbered i) (said_of h place (numbered i) w.0) all.count (said_row h place written (numbered i) w.0 w.1) in
-      let both : Some (cut_row (exact_row h saids (primaries_of saids) (numbered i) (said_of h place (numbered i) w.0))) ≡ Some y = sym mine ∙ g in
-      let one : cut_row (exact_row h saids (primaries_of saids) (numbered i) (said_of h place (numbered i) w.0)) ≡ y = cc in
-      sym w.2 ∙ ap cut_row (row_same (numbered i) w.0 w.1) ∙ one)
+      let mine = cut_at_row h saids (class_by_number i) (said_of h place (class_by_number i) w.0) all.count (said_row h place written (class_by_number i) w.0 w.1) in
+      let both : Some (cut_row (exact_row h saids (primaries_of saids) (class_by_number i) (said_of h place (class_by_number i) w.0))) ≡ Some y = sym mine ∙ g in
+      let one : cut_row (exact_row h saids (primaries_of saids) (class_by_number i) (said_of h place (class_by_number i) w.0)) ≡ y = cc in
+      sym w.2 ∙ ap cut_row (row_same (class_by_number i) w.0 w.1) ∙ one)
 
   -- the places of base subobjects are those that are said
   pub places_same : (c : ClassId) (s : Subobject) → c.0 < length h → Contains (proper (preorder h c)) s → place c s ≡ said_place saids c s

@@ -8,33 +8,33 @@ use Rattle.cxx_subobject.specs.declared.Subobject.{Subobject}
 use Rattle.cxx_subobject.specs.Preorder.{preorder}
 use Rattle.abi_primary.specs.declared.Primary.{Primary}
 use Rattle.abi_primary.specs.declared.Primary.TheVariants.{None as NoPrimary, Direct, Virtual}
-use Rattle.abi_print.specs.LayoutTexts.{name_of, subobject_text, primary_text, field_text, proper}
+use Rattle.abi_print.specs.LayoutTexts.{declared_class_name, subobject_text, primary_text, field_text, proper}
 
 -- the largest number that a listing may have
 abbrev pub most_number : ℕ
 most_number = 1048576
 
 -- what a line tells: the sizes of a class, its primary base, the place of a base subobject, or that of a member
-pub data Line : Type 0 where
-  sizes_line : ClassId → Line
-  primary_line : Line
-  base_line : Subobject → Line
-  member_line : Member ClassId → Line
+pub data ListingLine : Type 0 where
+  sizes_line : ClassId → ListingLine
+  primary_line : ListingLine
+  base_line : Subobject → ListingLine
+  member_line : Member ClassId → ListingLine
 
 -- the lines of a class: its sizes, its primary base, its base subobjects in preorder, and the members that it declares
-abbrev pub class_lines : Classes → ClassId → List Line
+abbrev pub class_lines : Classes → ClassId → List ListingLine
 class_lines h c = sizes_line c ∷ primary_line ∷ (map base_line (proper (preorder h c)) ++ map member_line (members_of h c))
 
-abbrev pub numbered : ℕ → ClassId
-numbered n = record { 0 = n }
+abbrev pub class_by_number : ℕ → ClassId
+class_by_number n = record { 0 = n }
 
 -- the lines of the first classes, as many as are asked for
-abbrev pub lines_before : Classes → ℕ → List Line
+abbrev pub lines_before : Classes → ℕ → List ListingLine
 lines_before h zero = []
-lines_before h (suc n) = lines_before h n ++ class_lines h (numbered n)
+lines_before h (suc n) = lines_before h n ++ class_lines h (class_by_number n)
 
 -- the lines of a listing: those of all classes in the order of the source
-abbrev pub listing_lines : Classes → List Line
+abbrev pub listing_lines : Classes → List ListingLine
 listing_lines h = lines_before h (length h)
 
 -- the number of a class's first line, from 1
@@ -50,8 +50,8 @@ pub record IsPlainName (name : List ℕ) : Type 0 where
 -- a primary base as a line may name it: any class of the source, or none; `none` always says that there is none
 abbrev pub IsWritable : Classes → Primary → Type 0
 IsWritable h NoPrimary = Unit {0}
-IsWritable h (Direct b) = (b.0 < length h) × IsPlainName (name_of h b)
-IsWritable h (Virtual v) = (v.0 < length h) × (Contains (name_of h v) 10 → ⊥)
+IsWritable h (Direct b) = (b.0 < length h) × IsPlainName (declared_class_name h b)
+IsWritable h (Virtual v) = (v.0 < length h) × (Contains (declared_class_name h v) 10 → ⊥)
 
 -- the line of the sizes of a class
 pub record IsSizesLine (h : Classes) (c : ClassId) (text : List ℕ) : Type 0 where
@@ -61,7 +61,7 @@ pub record IsSizesLine (h : Classes) (c : ClassId) (text : List ℕ) : Type 0 wh
   pub nvsize : ℕ
   pub nvalign : ℕ
   pub small : (size ≤ most_number) × (align ≤ most_number) × (dsize ≤ most_number) × (nvsize ≤ most_number) × (nvalign ≤ most_number)
-  pub is : text ≡ codes "class " ++ name_of h c ++ codes " size " ++ decimal size ++ codes " align " ++ decimal align
+  pub is : text ≡ codes "class " ++ declared_class_name h c ++ codes " size " ++ decimal size ++ codes " align " ++ decimal align
       ++ codes " dsize " ++ decimal dsize ++ codes " nvsize " ++ decimal nvsize ++ codes " nvalign " ++ decimal nvalign ++ codes "\n"
 
 -- the line of a primary base
@@ -84,14 +84,14 @@ pub record IsMemberLine (h : Classes) (member : Member ClassId) (text : List ℕ
   pub is : text ≡ field_text h place first member
 
 -- the text is a line of the form that stands at its place, with its line feed
-abbrev pub IsLine : Classes → Line → List ℕ → Type 0
+abbrev pub IsLine : Classes → ListingLine → List ℕ → Type 0
 IsLine h (sizes_line c) text = IsSizesLine h c text
 IsLine h primary_line text = IsPrimaryLine h text
 IsLine h (base_line s) text = IsBaseLine h s text
 IsLine h (member_line member) text = IsMemberLine h member text
 
 -- a text in two parts
-pub record Parts (First Second : List ℕ → Type 0) (text : List ℕ) : Type 0 where
+pub record SplitsInto (First Second : List ℕ → Type 0) (text : List ℕ) : Type 0 where
   pub front : List ℕ
   pub rest : List ℕ
   pub is : text ≡ front ++ rest
@@ -99,11 +99,11 @@ pub record Parts (First Second : List ℕ → Type 0) (text : List ℕ) : Type 0
   pub second : Second rest
 
 -- the text is these lines, one after the other
-abbrev pub AreLines : Classes → List Line → List ℕ → Type 0
+abbrev pub AreLines : Classes → List ListingLine → List ℕ → Type 0
 AreLines h [] text = text ≡ []
-AreLines h (line ∷ lines) text = Parts (IsLine h line) (AreLines h lines) text
+AreLines h (line ∷ lines) text = SplitsInto (IsLine h line) (AreLines h lines) text
 
 -- the text begins with these lines, one after the other
-abbrev pub Begins : Classes → List Line → List ℕ → Type 0
-Begins h [] text = Unit {0}
-Begins h (line ∷ lines) text = Parts (IsLine h line) (Begins h lines) text
+abbrev pub BeginsWithLines : Classes → List ListingLine → List ℕ → Type 0
+BeginsWithLines h [] text = Unit {0}
+BeginsWithLines h (line ∷ lines) text = SplitsInto (IsLine h line) (BeginsWithLines h lines) text

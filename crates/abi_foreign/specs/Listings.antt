@@ -12,17 +12,17 @@ use Rattle.cxx_subobject.specs.Subobjects.{subobject, shared_base, class_of}
 use Rattle.cxx_subobject.specs.Preorder.{preorder}
 use Rattle.abi_sound.specs.declared.class_layout.ClassLayout.{ClassLayout}
 use Rattle.abi_sound.specs.declared.class_layout.Bits.{Bits}
-use Rattle.abi_sound.specs.Places.{Places, places_of, base_place, virtual_place, bits_in}
+use Rattle.abi_sound.specs.Places.{Places, places_of, direct_base_place, virtual_place, member_bits_in}
 use Rattle.abi_sound.specs.Locations.{size_of_type}
 use Rattle.abi_sound.specs.Sound.{AreFullRows, IsSoundLayout, is_primary_of}
 use Rattle.abi_print.specs.LayoutTexts.{layout_text, proper}
 use Rattle.abi_print.specs.Texts.{PlaceOf}
-use Rattle.abi_foreign.specs.Lines.{most_number, numbered, IsWritable}
+use Rattle.abi_foreign.specs.Lines.{most_number, class_by_number, IsWritable}
 
 -- the texts of the layouts of the first classes, as many as are asked for
 abbrev pub texts_before : Classes → List ClassLayout → PlaceOf → ℕ → List ℕ
 texts_before h rows place zero = []
-texts_before h rows place (suc n) = texts_before h rows place n ++ layout_text h rows place (numbered n)
+texts_before h rows place (suc n) = texts_before h rows place n ++ layout_text h rows place (class_by_number n)
 
 -- the numbers of a row are small enough for a listing
 pub record HasSmallNumbers (row : ClassLayout) : Type 0 where
@@ -65,18 +65,18 @@ pub record AreMemberBits (l : Places) (member : Member ClassId) (bits : Bits) : 
 
 -- the rows have the direct non-virtual bases and the virtual bases at these places; and the holder of a virtual base is
 -- the first subobject in preorder whose primary base it is, or there is none
-pub record StandsFor (h : Classes) (rows : List ClassLayout) (place : PlaceOf) : Type 0 where
-  pub bases : (c b : ClassId) → IsDirectBase h c false b → base_place h rows c b ≡ place c (subobject Whole (c ∷ b ∷ []))
+pub record RowsHavePlaces (h : Classes) (rows : List ClassLayout) (place : PlaceOf) : Type 0 where
+  pub bases : (c b : ClassId) → IsDirectBase h c false b → direct_base_place h rows c b ≡ place c (subobject Whole (c ∷ b ∷ []))
   pub virtuals : (c v : ClassId) → HasVirtualBase h c v → virtual_place rows c v ≡ place c (shared_base v)
   pub holders : (c v : ClassId) → HasVirtualBase h c v → (places_of h rows).holder c v ≡ find (λ (s : Subobject). is_primary_of (places_of h rows) v (class_of s)) (preorder h c)
-  pub bits : (c : ClassId) (m : ℕ) (member : Member ClassId) (bits : Bits) → slice_get (members_of h c) m ≡ Some member → slice_get (bits_in (slice_get rows c.0)) m ≡ Some bits → AreMemberBits (places_of h rows) member bits
+  pub bits : (c : ClassId) (m : ℕ) (member : Member ClassId) (bits : Bits) → slice_get (members_of h c) m ≡ Some member → slice_get (member_bits_in (slice_get rows c.0)) m ≡ Some bits → AreMemberBits (places_of h rows) member bits
 
 -- the text is a listing of these places, and the rows are the layout that it stands for
 pub record IsListed (h : Classes) (text : List ℕ) (rows : List ClassLayout) (place : PlaceOf) : Type 0 where
   pub written : List ClassLayout
   pub listing : IsListing h text written place
   pub is : rows ≡ cut_rows written
-  pub stands : StandsFor h rows place
+  pub stands : RowsHavePlaces h rows place
 
 -- each place of a base subobject of class c is the sum along its path
 abbrev pub AreSums : Classes → List ClassLayout → PlaceOf → ClassId → Type 0

@@ -1,7 +1,7 @@
 //! Whether a text is the listing of a sound layout.
 
 ghost use Rattle.std.specs.Prelude.{◌≡◌, ◌<◌, ◌^◌, ◌⊎◌, Some, IfOk, IfErr, length, slice_get};
-ghost use Rattle.abi_judge.specs.Rules.{IsNext};
+ghost use Rattle.abi_judge.specs.Rules.{MayBeJudged};
 ghost use Rattle.abi_print.specs.LayoutTexts.{proper};
 ghost use Rattle.abi_foreign.specs.Listings.{IsForeign};
 ghost use Rattle.abi_foreign.specs.Refusals.{IsRefused};
@@ -71,7 +71,7 @@ fn fault_of(
     c: ClassId,
     said: &ClassSaid,
 ) -> Result<Option<ListingRule>, NoMemory>
-    requires next { IsNext h.now rows.now c }
+    requires next { MayBeJudged h.now rows.now c }
     requires each { length said.now.places ≡ length (proper said.now.list) }
     ensures { IfOk result (IsJudged h.now rows.now c (proper said.now.list) said.now.places) }
 {

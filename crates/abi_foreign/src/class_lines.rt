@@ -3,8 +3,8 @@
 ghost use Rattle.std.specs.Prelude.{◌≡◌, ℕ, ◌+◌, ◌<◌, ◌≤◌, ◌∷◌, ◌++◌, [], IfOk, IfErr, OnOk, MatchOption, Contains, length, map, slice_index};
 ghost use Rattle.abi_print.specs.LayoutTexts.{proper, type_text, length_text};
 ghost use Rattle.abi_foreign.specs.Lines.{sizes_line, primary_line, base_line, member_line, class_lines};
-ghost use Rattle.abi_foreign.specs.invariants.Pieces.{IsApart, HasNoneBefore, IsBefore};
-ghost use Rattle.abi_foreign.specs.invariants.Reading.{IsNoLine, StopsIn, HasRoom};
+ghost use Rattle.abi_foreign.specs.invariants.Pieces.{IsApart, HasNoneBefore, IsNumberBefore};
+ghost use Rattle.abi_foreign.specs.invariants.Reading.{IsNoLine, StopsReading, HasRoomForLines};
 ghost use Rattle.abi_foreign.specs.invariants.Said.{HasNoSizes, AreSizes, AreSizesRead, sizes_head, IsWord, IsPrimaryWord, IsPrimaryRead, base_tail, AreBasesRead, declared_text, member_tail, HasNoBits, AreBits, HasNoMember, IsMember, IsMemberRead, AreMembersRead, IsSaid, IsClassRead};
 
 use crate::cursor::Cursor;
@@ -56,9 +56,9 @@ fn read_sizes<'a>(
     c: ClassId,
     start: Cursor<'a>,
 ) -> Result<(Sizes, Cursor<'a>), ListingStop>
-    requires { HasRoom start.line start.rest.now }
+    requires { HasRoomForLines start.line start.rest.now }
     ensures ok { IfOk result (λ p. AreSizesRead h.now c start.entry.rest.now p.0 p.1.rest.now × (p.1.line ≡ start.entry.line + 1)) }
-    ensures err { IfErr result (StopsIn h.now (sizes_line c ∷ []) start.entry.rest.now start.entry.line) }
+    ensures err { IfErr result (StopsReading h.now (sizes_line c ∷ []) start.entry.rest.now start.entry.line) }
 {
     let head = sizes_head(alloc, h, c)?;
     match sizes_at(start.rest, &head) {
@@ -125,9 +125,9 @@ fn primary_at<'a>(h: &Hierarchy, text: &'a [u8]) -> Option<(Primary, &'a [u8])>
 
 /// Reads the line of a class's primary base.
 fn read_primary<'a>(h: &Hierarchy, start: Cursor<'a>) -> Result<(Primary, Cursor<'a>), ListingStop>
-    requires { HasRoom start.line start.rest.now }
+    requires { HasRoomForLines start.line start.rest.now }
     ensures ok { IfOk result (λ p. IsPrimaryRead h.now start.entry.rest.now p.0 p.1.rest.now × (p.1.line ≡ start.entry.line + 1)) }
-    ensures err { IfErr result (StopsIn h.now (primary_line ∷ []) start.entry.rest.now start.entry.line) }
+    ensures err { IfErr result (StopsReading h.now (primary_line ∷ []) start.entry.rest.now start.entry.line) }
 {
     match primary_at(h, start.rest) {
         Some((primary, rest)) => Ok((primary, start.next(rest))),
@@ -153,9 +153,9 @@ fn read_bases<'a>(
     list: &[Subobject],
     start: Cursor<'a>,
 ) -> Result<(Sequence<u32>, Cursor<'a>), ListingStop>
-    requires { HasRoom start.line start.rest.now }
+    requires { HasRoomForLines start.line start.rest.now }
     ensures ok { IfOk result (λ p. AreBasesRead h.now list.now start.entry.rest.now p.0 p.1.rest.now × (p.1.line ≡ start.entry.line + length list.now)) }
-    ensures err { IfErr result (StopsIn h.now (map base_line list.now) start.entry.rest.now start.entry.line) }
+    ensures err { IfErr result (StopsReading h.now (map base_line list.now) start.entry.rest.now start.entry.line) }
 {
     let mut places = Sequence::new(alloc);
     let mut cursor = start;
@@ -245,7 +245,7 @@ fn bits_at<'a>(text: &'a [u8], tail: &[u8]) -> Option<(MemberPlace, &'a [u8])>
 /// The place that the line of another member says, and what follows the line.
 fn whole_at<'a>(text: &'a [u8], tail: &[u8]) -> Option<(MemberPlace, &'a [u8])>
     requires { IsApart tail.now }
-    ensures { MatchOption result (HasNoneBefore text.now tail.now) (λ p. IsBefore text.now tail.now p.0.place p.1.now × (p.0.first ≡ 0)) }
+    ensures { MatchOption result (HasNoneBefore text.now tail.now) (λ p. IsNumberBefore text.now tail.now p.0.place p.1.now × (p.0.first ≡ 0)) }
 {
     let (place, rest) = number_before(text, tail)?;
     Some((MemberPlace { place, first: 0 }, rest))
@@ -270,9 +270,9 @@ fn read_member<'a>(
     member: &Member<ClassId>,
     start: Cursor<'a>,
 ) -> Result<(MemberPlace, Cursor<'a>), ListingStop>
-    requires { HasRoom start.line start.rest.now }
+    requires { HasRoomForLines start.line start.rest.now }
     ensures ok { IfOk result (λ p. IsMemberRead h.now member.now start.entry.rest.now p.0 p.1.rest.now × (p.1.line ≡ start.entry.line + 1)) }
-    ensures err { IfErr result (StopsIn h.now (member_line member.now ∷ []) start.entry.rest.now start.entry.line) }
+    ensures err { IfErr result (StopsReading h.now (member_line member.now ∷ []) start.entry.rest.now start.entry.line) }
 {
     let tail = member_tail(alloc, h, member)?;
     match member_at(start.rest, member.width, &tail) {
@@ -288,9 +288,9 @@ fn read_members<'a>(
     members: &[Member<ClassId>],
     start: Cursor<'a>,
 ) -> Result<(Sequence<MemberPlace>, Cursor<'a>), ListingStop>
-    requires { HasRoom start.line start.rest.now }
+    requires { HasRoomForLines start.line start.rest.now }
     ensures ok { IfOk result (λ p. AreMembersRead h.now members.now start.entry.rest.now p.0 p.1.rest.now × (p.1.line ≡ start.entry.line + length members.now)) }
-    ensures err { IfErr result (StopsIn h.now (map member_line members.now) start.entry.rest.now start.entry.line) }
+    ensures err { IfErr result (StopsReading h.now (map member_line members.now) start.entry.rest.now start.entry.line) }
 {
     let mut places = Sequence::new(alloc);
     let mut cursor = start;
@@ -320,11 +320,11 @@ pub(crate) fn read_class<'a>(
     start: Cursor<'a>,
 ) -> Result<(ClassSaid, Cursor<'a>), ListingStop>
     requires known { c.0 < length h.now }
-    requires room { HasRoom start.line start.rest.now }
+    requires room { HasRoomForLines start.line start.rest.now }
     ensures said { IfOk result (λ p. IsSaid h.now c start.entry.line p.0) }
     ensures lines { IfOk result (λ p. IsClassRead h.now c start.entry.rest.now p.0 p.1.rest.now) }
     ensures number { IfOk result (λ p. p.1.line ≡ start.entry.line + length (class_lines h.now c)) }
-    ensures err { IfErr result (StopsIn h.now (class_lines h.now c) start.entry.rest.now start.entry.line) }
+    ensures err { IfErr result (StopsReading h.now (class_lines h.now c) start.entry.rest.now start.entry.line) }
 {
     h.keeps();
     let list = list_subobjects(alloc, h, c)?;

@@ -57,11 +57,11 @@ impl From<AllocError> for ListingStop {
 
 impl ListingRule {
     ghost use Rattle.std.specs.Prelude.{◌≡◌};
-    ghost use Rattle.abi_foreign.specs.Refusals.{rule_no};
+    ghost use Rattle.abi_foreign.specs.Refusals.{listing_rule_no};
 
     /// The number of the rule, from 1.
     pub fn no(&self) -> u8
-        ensures { result ≡ rule_no self.now }
+        ensures { result ≡ listing_rule_no self.now }
     {
         match self {
             ListingRule::Form => 1,

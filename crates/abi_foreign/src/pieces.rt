@@ -3,7 +3,7 @@
 ghost use Rattle.std.specs.Prelude.{◌≡◌, ◌++◌, MatchOption, true};
 ghost use Rattle.std.specs.Char.{is_ascii_digit};
 ghost use Rattle.std.specs.List.{list_all};
-ghost use Rattle.abi_foreign.specs.invariants.Pieces.{IsNotBehind, IsNoDigit, IsApart, IsValue, HasNoNumber, IsNumber, HasNoneBefore, IsBefore};
+ghost use Rattle.abi_foreign.specs.invariants.Pieces.{IsNotBehind, IsNoDigit, IsApart, DigitsSay, HasNoNumber, BeginsWithNumber, HasNoneBefore, IsNumberBefore};
 
 /// The largest number of a listing.
 pub(crate) const MOST: u32 = 1_048_576;
@@ -32,7 +32,7 @@ fn split_digits(text: &[u8]) -> (&[u8], &[u8])
 /// The number that digits say, and None where it is too large for a listing.
 fn value_of(digits: &[u8]) -> Option<u32>
     requires { list_all is_ascii_digit digits.now ≡ true }
-    ensures { IsValue digits.now result }
+    ensures { DigitsSay digits.now result }
 {
     let mut value: u32 = 0;
     for d in digits {
@@ -46,7 +46,7 @@ fn value_of(digits: &[u8]) -> Option<u32>
 
 /// The number that a text begins with, without leading zeros, and what follows it.
 fn number_at(text: &[u8]) -> Option<(u32, &[u8])>
-    ensures { MatchOption result (HasNoNumber text.now) (λ p. IsNumber text.now p.0 p.1.now) }
+    ensures { MatchOption result (HasNoNumber text.now) (λ p. BeginsWithNumber text.now p.0 p.1.now) }
 {
     let (digits, rest) = split_digits(text);
     match digits {
@@ -67,7 +67,7 @@ fn number_at(text: &[u8]) -> Option<(u32, &[u8])>
 /// The number that a text begins with, where a piece follows it, and what follows that. The piece does not begin with a digit.
 pub(crate) fn number_before<'a>(text: &'a [u8], piece: &[u8]) -> Option<(u32, &'a [u8])>
     requires { IsApart piece.now }
-    ensures { MatchOption result (HasNoneBefore text.now piece.now) (λ p. IsBefore text.now piece.now p.0 p.1.now) }
+    ensures { MatchOption result (HasNoneBefore text.now piece.now) (λ p. IsNumberBefore text.now piece.now p.0 p.1.now) }
 {
     let (value, rest) = number_at(text)?;
     let rest = behind(rest, piece)?;

@@ -16,7 +16,7 @@ ghost use Rattle.abi_sound.specs.Places.{size_of_value};
 ghost use Rattle.abi_sound.specs.declared.class_layout.Bits.{Bits};
 ghost use Rattle.abi_foreign.specs.Listings.{cut_bits, cut_row};
 ghost use Rattle.abi_foreign.specs.invariants.Said.{AreSmallPlaces, IsSaid};
-ghost use Rattle.abi_foreign.specs.invariants.Rows.{printed, direct_base, said_size, said_width, cut_at, exact_bits, exact_row};
+ghost use Rattle.abi_foreign.specs.invariants.Rows.{said_base_place, direct_base, said_size, said_width, cut_bits_at, exact_bits, exact_row};
 
 use crate::class_lines::proper_of;
 use crate::said::{ClassSaid, MemberPlace};
@@ -37,7 +37,7 @@ fn number_of(list: &[Subobject], s: &Subobject) -> Option<usize>
 
 /// The place that the lines of a class say of a base subobject, in bytes; 0 where they say none.
 fn printed(said: &ClassSaid, s: &Subobject) -> u32
-    ensures { result ≡ printed said.now s.now }
+    ensures { result ≡ said_base_place said.now s.now }
 {
     let number = number_of(proper_of(said.list.as_slice()), s);
     place_of_number(said.places.as_slice(), number)
@@ -73,7 +73,7 @@ fn push_base(
     c: ClassId,
     base: &Base<ClassId>,
 ) -> Result<(), NoMemory>
-    ensures { OnOk result (places.new ≡ places.old ++ map (λ (b : Base ClassId). printed said.now (direct_base c b.class)) (filter is_plain_base (base.now ∷ []))) }
+    ensures { OnOk result (places.new ≡ places.old ++ map (λ (b : Base ClassId). said_base_place said.now (direct_base c b.class)) (filter is_plain_base (base.now ∷ []))) }
 {
     if !base.is_virtual {
         let s = direct_base(alloc, c, base.class)?;
@@ -89,7 +89,7 @@ fn base_places(
     c: ClassId,
     bases: &[Base<ClassId>],
 ) -> Result<PlaceList, NoMemory>
-    ensures { IfOk result (λ places. places ≡ map (λ (b : Base ClassId). printed said.now (direct_base c b.class)) (filter is_plain_base bases.now)) }
+    ensures { IfOk result (λ places. places ≡ map (λ (b : Base ClassId). said_base_place said.now (direct_base c b.class)) (filter is_plain_base bases.now)) }
 {
     let mut places = Sequence::new(alloc);
     for base in bases {
@@ -125,7 +125,7 @@ fn virtual_places(
     said: &ClassSaid,
     virtuals: &[ClassId],
 ) -> Result<PlaceList, NoMemory>
-    ensures { IfOk result (λ places. places ≡ map (λ (v : ClassId). printed said.now (shared_base v)) virtuals.now) }
+    ensures { IfOk result (λ places. places ≡ map (λ (v : ClassId). said_base_place said.now (shared_base v)) virtuals.now) }
 {
     let mut places = Sequence::new(alloc);
     for v in virtuals {
@@ -227,7 +227,7 @@ fn said_width(saids: &[ClassSaid], member: &Member<ClassId>) -> u32
 
 /// The bits of a member; a first bit above 255 is kept as 255.
 fn cut_at(saids: &[ClassSaid], member: &Member<ClassId>, at: &MemberPlace) -> Bits
-    ensures { result ≡ cut_at saids.now member.now at.now }
+    ensures { result ≡ cut_bits_at saids.now member.now at.now }
 {
     Bits {
         first: if at.first > 255 { 255 } else { at.first as u8 },

@@ -2,7 +2,7 @@
 
 ghost use Rattle.std.specs.Prelude.{◌≡◌, ◌<◌, ◌↔◌, IsTrue, Some, true, false, nat_eq, length, position, slice_get};
 ghost use Rattle.cxx_hierarchy.specs.declared.records.ClassId.{ClassId};
-ghost use Rattle.abi_sound.specs.Places.{base_place, virtual_place, place_along, place_from, root_place, place_of};
+ghost use Rattle.abi_sound.specs.Places.{direct_base_place, virtual_place, place_along, place_from, root_place, place_in_class};
 ghost use Rattle.abi_print.specs.LayoutTexts.{proper};
 ghost use Rattle.abi_foreign.specs.invariants.Sums.{AreSumsOf, HasNoSum};
 
@@ -24,7 +24,7 @@ fn row_at(rows: &[ClassLayout], c: ClassId) -> &ClassLayout
 /// The place of a direct non-virtual base in its class, in bytes; 0 where it is none.
 fn base_place(h: &Hierarchy, rows: &[ClassLayout], c: ClassId, b: ClassId) -> u32
     requires { length rows.now ≡ length h.now }
-    ensures { result ≡ base_place h.now rows.now c b }
+    ensures { result ≡ direct_base_place h.now rows.now c b }
 {
     if c.0 >= h.len() {
         return 0;
@@ -97,7 +97,7 @@ fn root_place(rows: &[ClassLayout], c: ClassId, root: Root) -> u32
 fn is_place(h: &Hierarchy, rows: &[ClassLayout], c: ClassId, s: &Subobject, place: u32) -> bool
     requires count { length rows.now ≡ length h.now }
     requires known { c.0 < length h.now }
-    ensures { IsTrue result ↔ (place ≡ place_of h.now rows.now c s.now) }
+    ensures { IsTrue result ↔ (place ≡ place_in_class h.now rows.now c s.now) }
 {
     let root = root_place(rows, c, s.root);
     if root > place {

@@ -7,16 +7,16 @@ use Rattle.std.proofs.lemmas.Nat.{from_le_bytes-to_le_bytes_8}
 use Rattle.std.proofs.Math.Seq.{drop-append_seam}
 use Rattle.foundation.proofs.Places.{get_pushed, take_next}
 use Rattle.byte_code.specs.declared.code.ImageBytes.{ImageBytes}
-use Rattle.byte_code.specs.Images.{number_at, word_at}
+use Rattle.byte_code.specs.Images.{image_number_at, word_at}
 use Rattle.abi_image.specs.declared.TheConstants.{BASE}
 use Rattle.abi_image.specs.declared.draft.Draft.{Draft}
 use Rattle.abi_image.specs.invariants.Bytes.{PutsWords}
-use Rattle.abi_image.specs.invariants.Drafts.{IsIn}
+use Rattle.abi_image.specs.invariants.Drafts.{HasDraftWords}
 use Rattle.foundation.proofs.Places.{length_pushed}
 use Rattle.byte_code.proofs.Numbers.{number_inside}
 
-number_value : (bytes : List ℕ) (i : ℕ) → i + 8 ≤ length bytes → number_at bytes i ≡ Some (from_le_bytes w64 (take 8 (drop i bytes)))
-unfolding number_at
+number_value : (bytes : List ℕ) (i : ℕ) → i + 8 ≤ length bytes → image_number_at bytes i ≡ Some (from_le_bytes w64 (take 8 (drop i bytes)))
+unfolding image_number_at
 number_value bytes i le = let t : nat_le (i + 8) (length bytes) ≡ true = grind (arith, nat_tests) in rw t refl
 
 eight_front : (xs ys : List ℕ) (i : ℕ) → i + 8 ≤ length xs → take 8 (drop i (xs ++ ys)) ≡ take 8 (drop i xs)
@@ -25,7 +25,7 @@ eight_front xs ys i le =
     ap (take 8) (drop-append-le i xs ys (omega arith)) ∙ take-append-le 8 (drop i xs) ys (omega arith)
 
 -- what can be read can be read when more bytes stand behind
-pub number_front : (xs ys : List ℕ) (i w : ℕ) → number_at xs i ≡ Some w → number_at (xs ++ ys) i ≡ Some w
+pub number_front : (xs ys : List ℕ) (i w : ℕ) → image_number_at xs i ≡ Some w → image_number_at (xs ++ ys) i ≡ Some w
 number_front xs ys i w e =
     let le : i + 8 ≤ length xs = number_inside xs i w e in
     let l = length-append xs ys in
@@ -35,7 +35,7 @@ length_eight : (w : ℕ) → length (to_le_bytes w64 w) ≡ 8
 length_eight w = refl
 
 -- the bytes of a word read as the word
-pub number_last : (xs : List ℕ) (w : ℕ) → w < 2 ^ 64 → number_at (xs ++ to_le_bytes w64 w) (length xs) ≡ Some w
+pub number_last : (xs : List ℕ) (w : ℕ) → w < 2 ^ 64 → image_number_at (xs ++ to_le_bytes w64 w) (length xs) ≡ Some w
 number_last xs w small =
     let l : length (xs ++ to_le_bytes w64 w) ≡ length xs + 8 = length-append xs (to_le_bytes w64 w) in
     let bytes : take 8 (drop (length xs) (xs ++ to_le_bytes w64 w)) ≡ to_le_bytes w64 w = ap (take 8) (drop-append_seam xs (to_le_bytes w64 w)) in
@@ -55,7 +55,7 @@ words_more old now words w small h =
       there = λ i v e. ⊎_elim
           (λ before. number_front now (to_le_bytes w64 w) (length old + 8 * i) v (h.there i v before))
           (λ new. let at : length old + 8 * i ≡ length now = (let n = new.0 in omega arith) in
-          ap (number_at (now ++ to_le_bytes w64 w)) at ∙ number_last now w small ∙ ap Some (sym new.1))
+          ap (image_number_at (now ++ to_le_bytes w64 w)) at ∙ number_last now w small ∙ ap Some (sym new.1))
           (get_pushed words w i v e);
     }
 
@@ -63,7 +63,7 @@ words_more old now words w small h =
 pub words_next : (old now next words : List ℕ) (i w : ℕ) → i < length words → w ≡ get_or words i w → w < 2 ^ 64 → next ≡ now ++ to_le_bytes w64 w → PutsWords old now (take i words) → PutsWords old next (take (i + 1) words)
 words_next old now next words i w less is small e h = subst (λ l. PutsWords old next l) (sym (take_next words i w less is)) (subst (λ b. PutsWords old b (take i words ++ w ∷ [])) (sym e) (words_more old now (take i words) w small h))
 
-word_of_bytes : (image : ImageBytes) (bytes : List ℕ) (n at w : ℕ) → image.base ≡ BASE → image.bytes ≡ bytes → at ≡ BASE + n → number_at bytes n ≡ Some w → word_at image at ≡ Some w
+word_of_bytes : (image : ImageBytes) (bytes : List ℕ) (n at w : ℕ) → image.base ≡ BASE → image.bytes ≡ bytes → at ≡ BASE + n → image_number_at bytes n ≡ Some w → word_at image at ≡ Some w
 word_of_bytes image bytes n at w base is there e =
     let t : nat_le image.base at ≡ true = grind (arith, nat_tests) in
     let d : at - image.base ≡ n = omega arith in
@@ -71,7 +71,7 @@ word_of_bytes image bytes n at w base is there e =
 
 -- the words of a draft, and its records behind them
 pub draft_bytes : (image : ImageBytes) (draft : Draft) (first second : List ℕ) → image.base ≡ BASE → image.bytes ≡ second → draft.records_at ≡ BASE + 8 * length draft.words.items →
-    PutsWords [] first draft.words.items → PutsWords first second draft.records.items → IsIn (word_at image) draft
+    PutsWords [] first draft.words.items → PutsWords first second draft.records.items → HasDraftWords (word_at image) draft
 draft_bytes image draft first second base is place one two =
     let s : length first ≡ 8 * length draft.words.items = (let k = one.size in omega arith) in
     record {

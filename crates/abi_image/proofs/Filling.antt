@@ -7,14 +7,14 @@ use Rattle.abi_slots.proofs.Lists.{get_past}
 use Rattle.abi_slots.specs.Images.{Image}
 use Rattle.abi_image.specs.declared.TheConstants.{BASE}
 use Rattle.abi_image.specs.declared.draft.Draft.{Draft}
-use Rattle.abi_image.specs.invariants.Drafts.{AllAt, AllBySize, Fills, IsIn, Puts, Stands, one_word, total, two_words}
+use Rattle.abi_image.specs.invariants.Drafts.{AllAt, AllBySize, Fills, HasDraftWords, Puts, WordsStandAt, one_word, sum_of_sizes, two_words}
 use Rattle.abi_image.proofs.Lists.{sized_append, total_append, flat_all, flat_total, one_word_each, total_one, total_two, two_words_each}
 
 -- words of which the first ones stand there, and the others behind them
-pub stands_front : (image : Image) (at : ℕ) (xs ys : List ℕ) → Stands image at (xs ++ ys) → Stands image at xs
+pub stands_front : (image : Image) (at : ℕ) (xs ys : List ℕ) → WordsStandAt image at (xs ++ ys) → WordsStandAt image at xs
 stands_front image at xs ys h = record { each = λ i x e. h.each i x (get_front xs ys i x e) }
 
-pub stands_back : (image : Image) (at : ℕ) (xs ys : List ℕ) → Stands image at (xs ++ ys) → Stands image (at + 8 * length xs) ys
+pub stands_back : (image : Image) (at : ℕ) (xs ys : List ℕ) → WordsStandAt image at (xs ++ ys) → WordsStandAt image (at + 8 * length xs) ys
 stands_back image at xs ys h = record {
   each = λ i x e.
       let there : at + 8 * (length xs + i) ≡ at + 8 * length xs + 8 * i = omega arith in
@@ -22,10 +22,10 @@ stands_back image at xs ys h = record {
 }
 
 -- what is in the new draft is in the old one
-pub in_old : (a b : Draft) (n : ℕ) (Says : Image → ℕ → Type 0) (image : Image) → Puts a b n Says → IsIn image b → IsIn image a
+pub in_old : (a b : Draft) (n : ℕ) (Says : Image → ℕ → Type 0) (image : Image) → Puts a b n Says → HasDraftWords image b → HasDraftWords image a
 in_old a b n Says image puts inside = record {
-  words = stands_front image BASE a.words.items puts.words (subst (λ ws. Stands image BASE ws) puts.words_are inside.words);
-  records = stands_front image a.records_at a.records.items puts.records (subst (λ ws. Stands image a.records_at ws) puts.records_are (subst (λ n. Stands image n b.records.items) puts.same_place inside.records));
+  words = stands_front image BASE a.words.items puts.words (subst (λ ws. WordsStandAt image BASE ws) puts.words_are inside.words);
+  records = stands_front image a.records_at a.records.items puts.records (subst (λ ws. WordsStandAt image a.records_at ws) puts.records_are (subst (λ n. WordsStandAt image n b.records.items) puts.same_place inside.records));
 }
 
 pub puts_none : (a : Draft) (Says : Image → ℕ → Type 0) → ((image : Image) (at : ℕ) → Says image at) → Puts a a 0 Says
@@ -77,8 +77,8 @@ puts_word a b w words records place = record {
   records_are = ap (λ v. v.items) records ∙ sym (append-nil a.records.items);
   same_place = place;
   says = λ image inside.
-      let all : Stands image BASE (a.words.items ++ w ∷ []) = subst (λ ws. Stands image BASE ws) words inside.words in
-      let behind : Stands image (BASE + 8 * length a.words.items) (w ∷ []) = stands_back image BASE a.words.items (w ∷ []) all in
+      let all : WordsStandAt image BASE (a.words.items ++ w ∷ []) = subst (λ ws. WordsStandAt image BASE ws) words inside.words in
+      let behind : WordsStandAt image (BASE + 8 * length a.words.items) (w ∷ []) = stands_back image BASE a.words.items (w ∷ []) all in
       let e : BASE + 8 * length a.words.items + 8 * 0 ≡ BASE + 8 * length a.words.items = omega arith in
       subst (λ k. image k ≡ Some w) e (behind.each 0 w refl);
 }
@@ -93,15 +93,15 @@ pub fills_more : {A : Type 0} (size : A → ℕ) (P : Image → ℕ → A → �
 fills_more size P xs i x a b c less is before here =
     let next : take (i + 1) xs ≡ take i xs ++ x ∷ [] = take_next xs i x less is in
     let place : length (take i xs) ≡ i = length-take-le i xs (omega arith) in
-    let both = puts_both a b c (total (map size (take i xs))) (size x) (λ image at. AllBySize size (P image) (take i xs) at) (λ image at. P image i x at) before.puts here in
+    let both = puts_both a b c (sum_of_sizes (map size (take i xs))) (size x) (λ image at. AllBySize size (P image) (take i xs) at) (λ image at. P image i x at) before.puts here in
     record {
-      puts = subst (λ l. Puts a c (total (map size l)) (λ image at. AllBySize size (P image) l at)) (sym next)
-          (puts_as a c _ _ (λ image at. AllBySize size (P image) (take i xs) at × P image i x (at + 8 * total (map size (take i xs)))) (λ image at. AllBySize size (P image) (take i xs ++ x ∷ []) at) both (sym (total_append size (take i xs) x))
-          (λ image at h. sized_append size (P image) (take i xs) x at h.0 (subst (λ k. P image k x (at + 8 * total (map size (take i xs)))) (sym place) h.1)));
+      puts = subst (λ l. Puts a c (sum_of_sizes (map size l)) (λ image at. AllBySize size (P image) l at)) (sym next)
+          (puts_as a c _ _ (λ image at. AllBySize size (P image) (take i xs) at × P image i x (at + 8 * sum_of_sizes (map size (take i xs)))) (λ image at. AllBySize size (P image) (take i xs ++ x ∷ []) at) both (sym (total_append size (take i xs) x))
+          (λ image at h. sized_append size (P image) (take i xs) x at h.0 (subst (λ k. P image k x (at + 8 * sum_of_sizes (map size (take i xs)))) (sym place) h.1)));
     }
 
-pub fills_all : {A : Type 0} (size : A → ℕ) (P : Image → ℕ → A → ℕ → Type 0) (xs : List A) (i : ℕ) (a b : Draft) → length xs ≤ i → Fills size P xs i a b → Puts a b (total (map size xs)) (λ image at. AllBySize size (P image) xs at)
-fills_all size P xs i a b all fills = subst (λ l. Puts a b (total (map size l)) (λ image at. AllBySize size (P image) l at)) (take_all i xs all) fills.puts
+pub fills_all : {A : Type 0} (size : A → ℕ) (P : Image → ℕ → A → ℕ → Type 0) (xs : List A) (i : ℕ) (a b : Draft) → length xs ≤ i → Fills size P xs i a b → Puts a b (sum_of_sizes (map size xs)) (λ image at. AllBySize size (P image) xs at)
+fills_all size P xs i a b all fills = subst (λ l. Puts a b (sum_of_sizes (map size l)) (λ image at. AllBySize size (P image) l at)) (take_all i xs all) fills.puts
 
 -- one item more, as a loop names it
 pub fills_next : {A : Type 0} (size : A → ℕ) (P : Image → ℕ → A → ℕ → Type 0) (xs : List A) (i : ℕ) (d : A) (a b c : Draft) → i < length xs →

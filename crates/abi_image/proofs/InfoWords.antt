@@ -3,10 +3,10 @@ use Rattle.cxx_hierarchy.specs.declared.records.ClassId.{ClassId}
 use Rattle.byte_code.specs.Numbers.{word_of}
 use Rattle.abi_slots.specs.declared.words.InfoBase.{InfoBase}
 use Rattle.abi_slots.specs.declared.words.TypeInfo.{TypeInfo}
-use Rattle.abi_slots.specs.Images.{Image, HasBase, HasBases, HasInfo, info_bases, info_flags}
+use Rattle.abi_slots.specs.Images.{Image, HasBaseWords, HasBases, HasInfo, info_bases, info_flags}
 use Rattle.abi_image.specs.declared.draft.Draft.{Draft}
 use Rattle.abi_image.specs.declared.TheConstants.{BASE}
-use Rattle.abi_image.specs.invariants.Drafts.{HasBasesAt, HasHead, Puts, first_base, info_size}
+use Rattle.abi_image.specs.invariants.Drafts.{HasBasesAt, HasHead, Puts, first_base_address, info_size}
 use Rattle.abi_image.proofs.Filling.{puts_as, puts_both, puts_word}
 
 -- two words are put
@@ -19,14 +19,14 @@ puts_two a b c v w words records place words2 records2 place2 = puts_both a b c 
 pub puts_base : (a b c : Draft) (info : ClassId → ℕ) (base : InfoBase) (v w : ℕ) → v ≡ info base.class → w ≡ word_of base.offset_flags →
     b.words.items ≡ a.words.items ++ v ∷ [] → b.records ≡ a.records → b.records_at ≡ a.records_at →
     c.words.items ≡ b.words.items ++ w ∷ [] → c.records ≡ b.records → c.records_at ≡ b.records_at →
-    Puts a c 2 (λ image at. HasBase image info base at)
+    Puts a c 2 (λ image at. HasBaseWords image info base at)
 puts_base a b c info base v w first second words records place words2 records2 place2 =
-    puts_as a c 2 2 (λ image at. (image at ≡ Some v) × (image (at + 8 * 1) ≡ Some w)) (λ image at. HasBase image info base at) (puts_two a b c v w words records place words2 records2 place2) refl
+    puts_as a c 2 2 (λ image at. (image at ≡ Some v) × (image (at + 8 * 1) ≡ Some w)) (λ image at. HasBaseWords image info base at) (puts_two a b c v w words records place words2 records2 place2) refl
     (λ image at h. record { class = h.0 ∙ ap Some first; offset_flags = h.1 ∙ ap Some second })
 
 -- the four words of the record of a class
 pub puts_head : (a b c d e : Draft) (id : ClassId) (info : TypeInfo) (v w x y : ℕ) → v ≡ id.0 → w ≡ info_flags info → x ≡ length (info_bases info) →
-    y ≡ first_base (BASE + 8 * length a.words.items) x → v < 2 ^ 32 → w < 2 ^ 32 → x < 2 ^ 32 →
+    y ≡ first_base_address (BASE + 8 * length a.words.items) x → v < 2 ^ 32 → w < 2 ^ 32 → x < 2 ^ 32 →
     b.words.items ≡ a.words.items ++ v ∷ [] → b.records ≡ a.records → b.records_at ≡ a.records_at →
     c.words.items ≡ b.words.items ++ w ∷ [] → c.records ≡ b.records → c.records_at ≡ b.records_at →
     d.words.items ≡ c.words.items ++ x ∷ [] → d.records ≡ c.records → d.records_at ≡ c.records_at →
@@ -51,18 +51,18 @@ puts_head a b c d e id info v w x y class flags count first vs ws xs b1 b2 b3 c1
             class = h.0.0 ∙ ap Some class;
             flags = h.0.1 ∙ ap Some flags;
             count = h.1.0 ∙ ap Some count;
-            first = sym (ap image there) ∙ h.1.1 ∙ ap Some (first ∙ ap (λ n. first_base at n) count);
+            first = sym (ap image there) ∙ h.1.1 ∙ ap Some (first ∙ ap (λ n. first_base_address at n) count);
             class_fits = subst (λ n. n < 2 ^ 32) class vs;
             flags_fit = subst (λ n. n < 2 ^ 32) flags ws;
             count_fits = subst (λ n. n < 2 ^ 32) count xs;
           };
     }
 
-first_behind : (at n : ℕ) → 0 < n → at ≤ first_base at n
+first_behind : (at n : ℕ) → 0 < n → at ≤ first_base_address at n
 first_behind at zero some = absurd (omega arith)
 first_behind at (suc n) some = omega arith
 
-bases_behind : (image : Image) (info : ClassId → ℕ) (bases : List InfoBase) (at : ℕ) → HasBasesAt image info bases (at + 32) → HasBases image info bases (first_base at (length bases))
+bases_behind : (image : Image) (info : ClassId → ℕ) (bases : List InfoBase) (at : ℕ) → HasBasesAt image info bases (at + 32) → HasBases image info bases (first_base_address at (length bases))
 bases_behind image info [] at h = refl
 bases_behind image info (base ∷ bases) at h = (omega arith, λ i b e. h i b e)
 
@@ -77,7 +77,7 @@ puts_info a b c info_at id info head bases = puts_as a c (4 + 2 * length (info_b
       class_fits = h.0.class_fits;
       flags_fit = h.0.flags_fit;
       count_fits = h.0.count_fits;
-      first = first_base at (length (info_bases info));
+      first = first_base_address at (length (info_bases info));
       at_first = h.0.first;
       behind = first_behind at (length (info_bases info));
       bases = bases_behind image info_at (info_bases info) at h.1;

@@ -10,8 +10,8 @@ use Rattle.abi_image.specs.declared.TheConstants.{BASE}
 use Rattle.abi_image.specs.declared.draft.Draft.{Draft}
 use Rattle.abi_image.specs.declared.parts.Parts.{Parts}
 use Rattle.abi_image.specs.declared.regions.Region.{Region}
-use Rattle.abi_image.specs.invariants.Drafts.{AllAt, AllBySize, HaveClassWords, Puts, address_in, address_of, class_id, class_in, group_size, info_size, total, vtt_size}
-use Rattle.abi_image.specs.invariants.Parts.{AreAt, AreParts, IsDraftOf, addresses_of, IsRegion, groups_start, infos_start, vtts_start}
+use Rattle.abi_image.specs.invariants.Drafts.{AllAt, AllBySize, HaveClassWords, Puts, address_in, address_of, class_id, class_address, group_size, info_size, sum_of_sizes, vtt_size}
+use Rattle.abi_image.specs.invariants.Parts.{AreAt, AreImageParts, IsDraftOf, addresses_of, IsRegion, groups_start, infos_start, vtts_start}
 use Rattle.abi_image.specs.invariants.Points.{AreFirstPoints, AreGroupPoints, HasPointAt}
 use Rattle.abi_image.proofs.Filling.{length_after, puts_both}
 
@@ -36,21 +36,21 @@ lies_above [] at i = omega arith
 lies_above (size ∷ sizes) at zero = omega arith
 lies_above (size ∷ sizes) at (suc i) = let more = lies_above sizes (at + 8 * size) i in omega arith
 
-lies_below : {A : Type 0} (size : A → ℕ) (xs : List A) (at i : ℕ) (x : A) → slice_get xs i ≡ Some x → address_of (map size xs) at i + 8 * size x ≤ at + 8 * total (map size xs)
+lies_below : {A : Type 0} (size : A → ℕ) (xs : List A) (at i : ℕ) (x : A) → slice_get xs i ≡ Some x → address_of (map size xs) at i + 8 * size x ≤ at + 8 * sum_of_sizes (map size xs)
 lies_below size [] at i x there = absurd (cc)
 lies_below size (y ∷ xs) at zero x there = let same : size y ≡ size x = ap size (cc (there)) in omega arith
 lies_below size (y ∷ xs) at (suc i) x there = let more = lies_below size xs (at + 8 * size y) i x there in omega arith
 
 -- so does each at the addresses of a list
-in_region : {A : Type 0} (size : A → ℕ) (xs : List A) (start : ℕ) (list : List ℕ) → AreAt start (map size xs) list → (i : ℕ) (x : A) → slice_get xs i ≡ Some x → address_in list i + 8 * size x ≤ start + 8 * total (map size xs)
+in_region : {A : Type 0} (size : A → ℕ) (xs : List A) (start : ℕ) (list : List ℕ) → AreAt start (map size xs) list → (i : ℕ) (x : A) → slice_get xs i ≡ Some x → address_in list i + 8 * size x ≤ start + 8 * sum_of_sizes (map size xs)
 in_region size xs start list are i x there =
     let l : length (map size xs) ≡ length xs = length_map size xs in
     let b : i < length xs = slice_get_within xs i x there in
     let less : i < length (map size xs) = omega arith in
-    subst (λ n. n + 8 * size x ≤ start + 8 * total (map size xs)) (sym (are.each i less)) (lies_below size xs start i x there)
+    subst (λ n. n + 8 * size x ≤ start + 8 * sum_of_sizes (map size xs)) (sym (are.each i less)) (lies_below size xs start i x there)
 
 -- the records of classes stand behind all others
-parts_below : (groups : List Group) (vtts : List (List VttWord)) (infos : List TypeInfo) (parts : Parts) → AreParts groups vtts infos parts → AreBelow groups vtts infos (addresses_of parts) BASE
+parts_below : (groups : List Group) (vtts : List (List VttWord)) (infos : List TypeInfo) (parts : Parts) → AreImageParts groups vtts infos parts → AreBelow groups vtts infos (addresses_of parts) BASE
 parts_below groups vtts infos parts are =
     let end_is : parts.vtts.end ≡ infos_start groups vtts = are.vtts_at.end_is in
     record {
@@ -73,17 +73,17 @@ parts_below groups vtts infos parts are =
     }
 
 -- what was put for all parts is what the image has
-pub together : (codes : List CodeRow) (groups : List Group) (vtts : List (List VttWord)) (infos : List TypeInfo) (parts : Parts) (a b c d e : Draft) → AreParts groups vtts infos parts → a.words.items ≡ [] → a.records_at ≡ parts.infos.end →
+pub together : (codes : List CodeRow) (groups : List Group) (vtts : List (List VttWord)) (infos : List TypeInfo) (parts : Parts) (a b c d e : Draft) → AreImageParts groups vtts infos parts → a.words.items ≡ [] → a.records_at ≡ parts.infos.end →
     Puts a b (2 * length vtts) (λ image at. HaveClassWords image parts.firsts.items parts.vtts.at.items vtts at) →
-    Puts b c (total (map group_size groups)) (λ image at. AllBySize group_size (λ i group there. StandsAt image codes (class_in parts.infos.at.items) group there) groups at) →
-    Puts c d (total (map vtt_size vtts)) (λ image at. AllBySize vtt_size (λ i vtt there. AllAt (HasPointAt image groups (address_in parts.groups.at.items)) vtt there) vtts at) →
-    Puts d e (total (map info_size infos)) (λ image at. AllBySize info_size (λ i info there. HasInfo image (class_in parts.infos.at.items) (class_id i) info there) infos at) →
+    Puts b c (sum_of_sizes (map group_size groups)) (λ image at. AllBySize group_size (λ i group there. StandsAt image codes (class_address parts.infos.at.items) group there) groups at) →
+    Puts c d (sum_of_sizes (map vtt_size vtts)) (λ image at. AllBySize vtt_size (λ i vtt there. AllAt (HasPointAt image groups (address_in parts.groups.at.items)) vtt there) vtts at) →
+    Puts d e (sum_of_sizes (map info_size infos)) (λ image at. AllBySize info_size (λ i info there. HasInfo image (class_address parts.infos.at.items) (class_id i) info there) infos at) →
     IsDraftOf codes groups vtts infos parts e
 together codes groups vtts infos parts a b c d e are nothing_yet place first second third fourth =
     let m1 : ℕ = 2 * length vtts in
-    let m2 : ℕ = total (map group_size groups) in
-    let m3 : ℕ = total (map vtt_size vtts) in
-    let m4 : ℕ = total (map info_size infos) in
+    let m2 : ℕ = sum_of_sizes (map group_size groups) in
+    let m3 : ℕ = sum_of_sizes (map vtt_size vtts) in
+    let m4 : ℕ = sum_of_sizes (map info_size infos) in
     let empty : length a.words.items ≡ 0 = ap length nothing_yet in
     let l1 : length b.words.items ≡ length a.words.items + m1 = length_after a b m1 _ first in
     let l2 : length c.words.items ≡ length b.words.items + m2 = length_after b c m2 _ second in
@@ -91,9 +91,9 @@ together codes groups vtts infos parts a b c d e are nothing_yet place first sec
     let l4 : length e.words.items ≡ length d.words.items + m4 = length_after d e m4 _ fourth in
     let end_is : parts.infos.end ≡ infos_start groups vtts + 8 * m4 = are.infos_at.end_is in
     let kept : e.records_at ≡ parts.infos.end = fourth.same_place ∙ third.same_place ∙ second.same_place ∙ first.same_place ∙ place in
-    let one = puts_both a b c m1 m2 (λ image at. HaveClassWords image parts.firsts.items parts.vtts.at.items vtts at) (λ image at. AllBySize group_size (λ i group there. StandsAt image codes (class_in parts.infos.at.items) group there) groups at) first second in
+    let one = puts_both a b c m1 m2 (λ image at. HaveClassWords image parts.firsts.items parts.vtts.at.items vtts at) (λ image at. AllBySize group_size (λ i group there. StandsAt image codes (class_address parts.infos.at.items) group there) groups at) first second in
     let two = puts_both a c d (m1 + m2) m3 _ (λ image at. AllBySize vtt_size (λ i vtt there. AllAt (HasPointAt image groups (address_in parts.groups.at.items)) vtt there) vtts at) one third in
-    let all = puts_both a d e (m1 + m2 + m3) m4 _ (λ image at. AllBySize info_size (λ i info there. HasInfo image (class_in parts.infos.at.items) (class_id i) info there) infos at) two fourth in
+    let all = puts_both a d e (m1 + m2 + m3) m4 _ (λ image at. AllBySize info_size (λ i info there. HasInfo image (class_address parts.infos.at.items) (class_id i) info there) infos at) two fourth in
     record {
       place = omega arith;
       says = λ image inside.
@@ -103,9 +103,9 @@ together codes groups vtts infos parts a b c d e are nothing_yet place first sec
           let vtt_place : at + 8 * (m1 + m2) ≡ vtts_start groups vtts = omega arith in
           let info_place : at + 8 * (m1 + m2 + m3) ≡ infos_start groups vtts = omega arith in
           record {
-            each_group = λ i group there. stood group_size (λ j g k. StandsAt image codes (class_in parts.infos.at.items) g k) groups (at + 8 * m1) (groups_start vtts) parts.groups.at.items group_place are.groups_at h.0.0.1 i group there;
+            each_group = λ i group there. stood group_size (λ j g k. StandsAt image codes (class_address parts.infos.at.items) g k) groups (at + 8 * m1) (groups_start vtts) parts.groups.at.items group_place are.groups_at h.0.0.1 i group there;
             each_vtt = λ id words i word there inner. stood vtt_size (λ j vtt k. AllAt (HasPointAt image groups (address_in parts.groups.at.items)) vtt k) vtts (at + 8 * (m1 + m2)) (vtts_start groups vtts) parts.vtts.at.items vtt_place are.vtts_at.each h.0.1 id.0 words there i word inner;
-            each_info = λ id info there. stood info_size (λ j t k. HasInfo image (class_in parts.infos.at.items) (class_id j) t k) infos (at + 8 * (m1 + m2 + m3)) (infos_start groups vtts) parts.infos.at.items info_place are.infos_at.each h.1 id.0 info there;
+            each_info = λ id info there. stood info_size (λ j t k. HasInfo image (class_address parts.infos.at.items) (class_id j) t k) infos (at + 8 * (m1 + m2 + m3)) (infos_start groups vtts) parts.infos.at.items info_place are.infos_at.each h.1 id.0 info there;
             directory = λ id words there.
                 let pair = h.0.0.0 id.0 words there in
                 let start : at + 16 * id.0 ≡ BASE + 16 * id.0 = omega arith in
@@ -113,7 +113,7 @@ together codes groups vtts infos parts a b c d e are nothing_yet place first sec
                   point = slice_index_or parts.firsts.items id.0 0;
                   at_point = subst (λ n. image n ≡ Some (slice_index_or parts.firsts.items id.0 0)) start pair.0;
                   is_point = are.firsts.each id (slice_get_within vtts id.0 words there);
-                  at_vtt = subst (λ n. image (n + 8) ≡ Some (vtt_address (class_in parts.vtts.at.items id) words)) start pair.1;
+                  at_vtt = subst (λ n. image (n + 8) ≡ Some (vtt_address (class_address parts.vtts.at.items id) words)) start pair.1;
                 };
             above = record {
               above_zero = omega arith;
@@ -130,11 +130,11 @@ pub parts_are : (groups : List Group) (vtts : List (List VttWord)) (infos : List
     half ≡ BASE + 8 * length vtts → start ≡ half + 8 * length vtts → group_sizes ≡ map group_size groups → vtt_sizes ≡ map vtt_size vtts → info_sizes ≡ map info_size infos →
     IsRegion start group_sizes group_region → IsRegion group_region.end vtt_sizes vtt_region → IsRegion vtt_region.end info_sizes info_region →
     p.groups.at.items ≡ group_region.at.items → p.vtts ≡ vtt_region → p.infos ≡ info_region →
-    AreGroupPoints groups p.groups.at.items p.groups.points.items → AreFirstPoints groups (address_in p.groups.at.items) (length vtts) p.firsts.items → AreParts groups vtts infos p
+    AreGroupPoints groups p.groups.at.items p.groups.points.items → AreFirstPoints groups (address_in p.groups.at.items) (length vtts) p.firsts.items → AreImageParts groups vtts infos p
 parts_are groups vtts infos p half start gs vs is gr vr ir half_is start_is gs_is vs_is is_is g v i at_is vtts_is infos_is points firsts =
     let s1 : start ≡ groups_start vtts = omega arith in
-    let g_end : gr.end ≡ vtts_start groups vtts = g.end_is ∙ ap (λ n. n + 8 * total gs) s1 ∙ ap (λ l. groups_start vtts + 8 * total l) gs_is in
-    let v_end : vr.end ≡ infos_start groups vtts = v.end_is ∙ ap (λ n. n + 8 * total vs) g_end ∙ ap (λ l. vtts_start groups vtts + 8 * total l) vs_is in
+    let g_end : gr.end ≡ vtts_start groups vtts = g.end_is ∙ ap (λ n. n + 8 * sum_of_sizes gs) s1 ∙ ap (λ l. groups_start vtts + 8 * sum_of_sizes l) gs_is in
+    let v_end : vr.end ≡ infos_start groups vtts = v.end_is ∙ ap (λ n. n + 8 * sum_of_sizes vs) g_end ∙ ap (λ l. vtts_start groups vtts + 8 * sum_of_sizes l) vs_is in
     record {
       groups_at = subst (λ l. AreAt (groups_start vtts) (map group_size groups) l) (sym at_is) (subst (λ l. AreAt (groups_start vtts) l gr.at.items) gs_is (subst (λ n. AreAt n gs gr.at.items) s1 g.each));
       vtts_at = subst (λ (r : Region). IsRegion (vtts_start groups vtts) (map vtt_size vtts) r) (sym vtts_is) (subst (λ l. IsRegion (vtts_start groups vtts) l vr) vs_is (subst (λ n. IsRegion n vs vr) g_end v));

@@ -8,7 +8,7 @@ use Rattle.abi_slots.specs.Images.{IsPoint}
 use Rattle.abi_image.specs.declared.draft.Draft.{Draft}
 use Rattle.abi_image.specs.Conditions.{HasTable, HaveOwnNames}
 use Rattle.abi_image.specs.invariants.Drafts.{Puts, address_in}
-use Rattle.abi_image.specs.invariants.Points.{AreGroupPoints, HasPointAt, IsNumberOf}
+use Rattle.abi_image.specs.invariants.Points.{AreGroupPoints, HasPointAt, NumbersGroup}
 use Rattle.abi_image.proofs.Filling.{puts_as, puts_word}
 
 -- the address points of a group that was found, and that of one of its tables
@@ -17,7 +17,7 @@ pub record FoundPoints (groups : List Group) (group_at : List ℕ) (points : Lis
   pub inside : (list : List ℕ) → slice_get points number ≡ Some list → table < length list
   pub point : (list : List ℕ) (p : ℕ) → slice_get points number ≡ Some list → slice_get list table ≡ Some p → IsPoint groups (address_in group_at) name table p
 
-pub found_points : (groups : List Group) (group_at : List ℕ) (points : List (List ℕ)) (name : GroupName) (table number : ℕ) → AreGroupPoints groups group_at points → HaveOwnNames groups → HasTable groups name table → IsNumberOf groups name number → FoundPoints groups group_at points name table number
+pub found_points : (groups : List Group) (group_at : List ℕ) (points : List (List ℕ)) (name : GroupName) (table number : ℕ) → AreGroupPoints groups group_at points → HaveOwnNames groups → HasTable groups name table → NumbersGroup groups name number → FoundPoints groups group_at points name table number
 found_points groups group_at points name table number are own has found =
     let same : number ≡ has.number = own number has.number found.group has.group found.there has.there (found.named ∙ sym has.named) in
     let group_is : found.group ≡ has.group = (let p = found.there in let q = subst (λ n. slice_get groups n ≡ Some has.group) (sym same) has.there in cc) in

@@ -5,7 +5,7 @@ ghost use Rattle.std.specs.Int.{to_le_bytes, w64};
 ghost use Rattle.byte_code.specs.Images.{word_at};
 ghost use Rattle.abi_image.specs.declared.TheConstants.{BASE};
 ghost use Rattle.abi_image.specs.invariants.Bytes.{PutsWords};
-ghost use Rattle.abi_image.specs.invariants.Drafts.{IsIn};
+ghost use Rattle.abi_image.specs.invariants.Drafts.{HasDraftWords};
 
 use crate::BASE;
 use crate::draft::Draft;
@@ -40,7 +40,7 @@ fn push_words(bytes: &mut Vec<u8>, words: &[u64]) -> Result<(), NoMemory>
 pub fn bytes_of(alloc: Global, draft: &Draft) -> Result<ImageBytes, NoMemory>
     requires { draft.now.records_at ≡ BASE + 8 * length draft.now.words.items }
     ensures base { IfOk result (λ image. image.base ≡ BASE) }
-    ensures words { IfOk result (λ image. IsIn (word_at image) draft.now) }
+    ensures words { IfOk result (λ image. HasDraftWords (word_at image) draft.now) }
 {
     let mut bytes = Vec::new(alloc);
     push_words(&mut bytes, &draft.words)?;

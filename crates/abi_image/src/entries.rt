@@ -5,7 +5,7 @@ ghost use Rattle.abi_slots.specs.declared.words.EntryWord.TheVariants.{Code};
 ghost use Rattle.abi_slots.specs.CodeRows.{block_kind, code_of};
 ghost use Rattle.abi_slots.specs.Images.{Image, HasEntry};
 ghost use Rattle.abi_image.specs.Conditions.{HasCode};
-ghost use Rattle.abi_image.specs.invariants.Drafts.{Stands, thunk_words, record_words};
+ghost use Rattle.abi_image.specs.invariants.Drafts.{WordsStandAt, thunk_words, record_words};
 
 use crate::numbers::{return_constant, return_vbase, this_constant, this_vcall, word_of};
 use crate::regions::behind;
@@ -73,7 +73,7 @@ fn code_word(
     requires code { (code : ℕ) × (code_of codes.now f (block_kind kind) ≡ Some code) }
     requires place { 0 < records_at }
     ensures grows { OnOk result ((more : List ℕ) × (records.new.items ≡ records.old.items ++ more)) }
-    ensures stands { IfOk result (λ word. (image : Image) (at : ℕ) → Stands image records_at records.new.items → image at ≡ Some word → HasEntry image codes.now at (Code f kind this adjusted)) }
+    ensures stands { IfOk result (λ word. (image : Image) (at : ℕ) → WordsStandAt image records_at records.new.items → image at ≡ Some word → HasEntry image codes.now at (Code f kind this adjusted)) }
 {
     match codes.code(f, block_kind(kind)) {
         Some(code) => {
@@ -97,7 +97,7 @@ pub fn entry_word(
     requires code { HasCode codes.now entry.now }
     requires place { 0 < records_at }
     ensures grows { OnOk result ((more : List ℕ) × (records.new.items ≡ records.old.items ++ more)) }
-    ensures stands { IfOk result (λ word. (image : Image) (at : ℕ) → Stands image records_at records.new.items → image at ≡ Some word → HasEntry image codes.now at entry.now) }
+    ensures stands { IfOk result (λ word. (image : Image) (at : ℕ) → WordsStandAt image records_at records.new.items → image at ≡ Some word → HasEntry image codes.now at entry.now) }
 {
     match *entry {
         EntryWord::Unused => Ok(0),

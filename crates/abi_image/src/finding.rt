@@ -2,7 +2,7 @@
 
 ghost use Rattle.std.specs.Prelude.{◌≡◌, ◌↔◌, ℕ, IsTrue};
 ghost use Rattle.abi_image.specs.Conditions.{HasTable};
-ghost use Rattle.abi_image.specs.invariants.Points.{IsNumberOf, same_name};
+ghost use Rattle.abi_image.specs.invariants.Points.{NumbersGroup, same_group_name};
 
 use abi_slots::{Group, GroupName};
 use cxx_subobject::{Root, is_same};
@@ -15,7 +15,7 @@ pub(crate) type Guesses = IndexMap<u64, usize>;
 
 /// Whether two names are one.
 fn is_same_name(one: &GroupName, other: &GroupName) -> bool
-    ensures { result ≡ same_name one.now other.now }
+    ensures { result ≡ same_group_name one.now other.now }
 {
     one.complete.0 == other.complete.0 && is_same(&one.view, &other.view)
 }
@@ -46,7 +46,7 @@ pub(crate) fn guess_numbers(alloc: Global, groups: &[Group]) -> Result<Guesses, 
 
 /// Whether the group of a number has a name.
 fn is_number_of(groups: &[Group], number: usize, name: &GroupName) -> bool
-    ensures { IsTrue result ↔ IsNumberOf groups.now name.now number }
+    ensures { IsTrue result ↔ NumbersGroup groups.now name.now number }
 {
     if number >= groups.len() {
         return false;
@@ -57,7 +57,7 @@ fn is_number_of(groups: &[Group], number: usize, name: &GroupName) -> bool
 /// The number of the first group with a name.
 fn first_named(groups: &[Group], name: &GroupName) -> usize
     requires { (table : ℕ) × HasTable groups.now name.now table }
-    ensures { IsNumberOf groups.now name.now result }
+    ensures { NumbersGroup groups.now name.now result }
 {
     for number in 0..groups.len() {
         if is_number_of(groups, number, name) {
@@ -70,7 +70,7 @@ fn first_named(groups: &[Group], name: &GroupName) -> usize
 /// The number of a group with a name, which is guessed first.
 pub(crate) fn find_group(groups: &[Group], guesses: &Guesses, name: &GroupName) -> usize
     requires { (table : ℕ) × HasTable groups.now name.now table }
-    ensures { IsNumberOf groups.now name.now result }
+    ensures { NumbersGroup groups.now name.now result }
 {
     if let Some(number) = guesses.get(&hash_of(name)) {
         if is_number_of(groups, *number, name) {

@@ -2,10 +2,10 @@
 
 ghost use Rattle.std.specs.Prelude.{◌≡◌, ◌<◌, ◌≤◌, ◌+◌, ◌*◌, ◌^◌, ℕ, Some, IfOk, OnOk, length, map, slice_get};
 ghost use Rattle.abi_slots.specs.declared.words.InfoBase.{InfoBase};
-ghost use Rattle.abi_slots.specs.Images.{HasBase, HasInfo, info_bases, info_flags};
+ghost use Rattle.abi_slots.specs.Images.{HasBaseWords, HasInfo, info_bases, info_flags};
 ghost use Rattle.abi_image.specs.Conditions.{AreKnownBases, AreKnownInfos};
 ghost use Rattle.abi_image.specs.declared.TheConstants.{BASE};
-ghost use Rattle.abi_image.specs.invariants.Drafts.{AllBySize, Puts, HasBasesAt, HasHead, class_id, class_in, first_base, info_size, total};
+ghost use Rattle.abi_image.specs.invariants.Drafts.{AllBySize, Puts, HasBasesAt, HasHead, class_id, class_address, first_base_address, info_size, sum_of_sizes};
 
 use crate::BASE;
 use crate::draft::Draft;
@@ -28,7 +28,7 @@ fn info_flags(info: &TypeInfo) -> u32
 /// Puts the two words of a base behind others.
 fn push_base(draft: &mut Draft, infos: &[u64], base: &InfoBase) -> Result<(), NoMemory>
     requires { base.now.class.0 < length infos.now }
-    ensures { OnOk result (Puts draft.old draft.new 2 (λ image at. HasBase image (class_in infos.now) base.now at)) }
+    ensures { OnOk result (Puts draft.old draft.new 2 (λ image at. HasBaseWords image (class_address infos.now) base.now at)) }
 {
     draft.push(infos[base.class.0 as usize])?;
     draft.push(word_of(base.offset_flags))?;
@@ -38,7 +38,7 @@ fn push_base(draft: &mut Draft, infos: &[u64], base: &InfoBase) -> Result<(), No
 /// Puts the words of bases behind others.
 fn push_base_list(draft: &mut Draft, infos: &[u64], bases: &[InfoBase]) -> Result<(), NoMemory>
     requires { AreKnownBases (length infos.now) bases.now }
-    ensures { OnOk result (Puts draft.old draft.new (2 * length bases.now) (λ image at. HasBasesAt image (class_in infos.now) bases.now at)) }
+    ensures { OnOk result (Puts draft.old draft.new (2 * length bases.now) (λ image at. HasBasesAt image (class_address infos.now) bases.now at)) }
 {
     for base in bases {
         push_base(draft, infos, base)?;
@@ -49,7 +49,7 @@ fn push_base_list(draft: &mut Draft, infos: &[u64], bases: &[InfoBase]) -> Resul
 /// Puts the words of the bases of a class behind others.
 fn push_bases(draft: &mut Draft, infos: &[u64], info: &TypeInfo) -> Result<(), NoMemory>
     requires { AreKnownBases (length infos.now) (info_bases info.now) }
-    ensures { OnOk result (Puts draft.old draft.new (2 * length (info_bases info.now)) (λ image at. HasBasesAt image (class_in infos.now) (info_bases info.now) at)) }
+    ensures { OnOk result (Puts draft.old draft.new (2 * length (info_bases info.now)) (λ image at. HasBasesAt image (class_address infos.now) (info_bases info.now) at)) }
 {
     match info {
         TypeInfo::Plain => push_base_list(draft, infos, &[])?,
@@ -67,7 +67,7 @@ fn push_bases(draft: &mut Draft, infos: &[u64], info: &TypeInfo) -> Result<(), N
 
 /// The address behind the four words of a record that stands at an address, or 0 where no base stands there.
 fn first_base(at: u64, bases: usize) -> Result<u64, NoMemory>
-    ensures { IfOk result (λ first. first ≡ first_base at bases) }
+    ensures { IfOk result (λ first. first ≡ first_base_address at bases) }
 {
     if bases == 0 { Ok(0) } else { behind(at, 4) }
 }
@@ -92,7 +92,7 @@ fn push_head(draft: &mut Draft, c: u32, info: &TypeInfo) -> Result<(), NoMemory>
 /// Puts the record of a class and its bases behind others.
 fn push_info(draft: &mut Draft, infos: &[u64], c: u32, info: &TypeInfo) -> Result<(), NoMemory>
     requires { AreKnownBases (length infos.now) (info_bases info.now) }
-    ensures { OnOk result (Puts draft.old draft.new (info_size info.now) (λ image at. HasInfo image (class_in infos.now) (class_id c) info.now at)) }
+    ensures { OnOk result (Puts draft.old draft.new (info_size info.now) (λ image at. HasInfo image (class_address infos.now) (class_id c) info.now at)) }
 {
     push_head(draft, c, info)?;
     push_bases(draft, infos, info)?;
@@ -104,7 +104,7 @@ fn push_info(draft: &mut Draft, infos: &[u64], c: u32, info: &TypeInfo) -> Resul
 /// Errors: want of memory, also where there are more classes than numbers for them.
 pub fn push_infos(draft: &mut Draft, infos_at: &[u64], infos: &[TypeInfo]) -> Result<(), NoMemory>
     requires { AreKnownInfos (length infos_at.now) infos.now }
-    ensures { OnOk result (Puts draft.old draft.new (total (map info_size infos.now)) (λ image at. AllBySize info_size (λ c info there. HasInfo image (class_in infos_at.now) (class_id c) info there) infos.now at)) }
+    ensures { OnOk result (Puts draft.old draft.new (sum_of_sizes (map info_size infos.now)) (λ image at. AllBySize info_size (λ c info there. HasInfo image (class_address infos_at.now) (class_id c) info there) infos.now at)) }
 {
     for (c, info) in infos.iter().enumerate() {
         if c > u32::MAX as usize {

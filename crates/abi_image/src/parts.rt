@@ -2,7 +2,7 @@
 
 ghost use Rattle.std.specs.Prelude.{◌≡◌, IfOk, length};
 ghost use Rattle.abi_image.specs.Conditions.{AllNameTables, AreKnownGroups, AreKnownInfos, HaveOwnNames};
-ghost use Rattle.abi_image.specs.invariants.Parts.{AreParts, IsDraftOf};
+ghost use Rattle.abi_image.specs.invariants.Parts.{AreImageParts, IsDraftOf};
 
 use crate::BASE;
 use crate::directory::{first_points, push_directory};
@@ -34,7 +34,7 @@ pub fn parts_of(
     vtts: &[VttList],
     infos: &[TypeInfo],
 ) -> Result<Parts, NoMemory>
-    ensures { IfOk result (AreParts groups.now vtts.now infos.now) }
+    ensures { IfOk result (AreImageParts groups.now vtts.now infos.now) }
 {
     let half = behind(BASE, vtts.len())?;
     let start = behind(half, vtts.len())?;
@@ -67,7 +67,7 @@ pub fn draft_of(
     requires tables { AllNameTables groups.now vtts.now }
     requires groups { AreKnownGroups codes.now (length infos.now) groups.now }
     requires infos { AreKnownInfos (length infos.now) infos.now }
-    requires parts { AreParts groups.now vtts.now infos.now parts.now }
+    requires parts { AreImageParts groups.now vtts.now infos.now parts.now }
     ensures { IfOk result (IsDraftOf codes.now groups.now vtts.now infos.now parts.now) }
 {
     let mut draft = Draft {

@@ -3,7 +3,7 @@
 ghost use Rattle.std.specs.Prelude.{◌≡◌, ◌<◌, ◌≤◌, ◌+◌, ◌++◌, ℕ, List, Some, IfOk, OnOk, length, map};
 ghost use Rattle.abi_slots.specs.Images.{Image, HasWord, StandsAt, all_words};
 ghost use Rattle.abi_image.specs.Conditions.{IsKnownWord, AreKnownWords, AreKnownTables, AreKnownGroups};
-ghost use Rattle.abi_image.specs.invariants.Drafts.{AllAt, AllBySize, Puts, Stands, class_in, group_size, total};
+ghost use Rattle.abi_image.specs.invariants.Drafts.{AllAt, AllBySize, Puts, WordsStandAt, class_address, group_size, sum_of_sizes};
 
 use crate::draft::Draft;
 use crate::entries::entry_word;
@@ -22,7 +22,7 @@ fn table_word(
     requires known { IsKnownWord codes.now (length infos.now) word.now }
     requires place { 0 < records_at }
     ensures grows { OnOk result ((more : List ℕ) × (records.new.items ≡ records.old.items ++ more)) }
-    ensures stands { IfOk result (λ number. (image : Image) (at : ℕ) → Stands image records_at records.new.items → image at ≡ Some number → HasWord image codes.now (class_in infos.now) at word.now) }
+    ensures stands { IfOk result (λ number. (image : Image) (at : ℕ) → WordsStandAt image records_at records.new.items → image at ≡ Some number → HasWord image codes.now (class_address infos.now) at word.now) }
 {
     match word {
         TableWord::Vcall(distance, _) => Ok(word_of(*distance)),
@@ -42,7 +42,7 @@ fn push_word(
 ) -> Result<(), NoMemory>
     requires known { IsKnownWord codes.now (length infos.now) word.now }
     requires place { 0 < draft.old.records_at }
-    ensures { OnOk result (Puts draft.old draft.new 1 (λ image at. HasWord image codes.now (class_in infos.now) at word.now)) }
+    ensures { OnOk result (Puts draft.old draft.new 1 (λ image at. HasWord image codes.now (class_address infos.now) at word.now)) }
 {
     let number = table_word(&mut draft.records, draft.records_at, codes, infos, word)?;
     draft.words.push(number)?;
@@ -58,7 +58,7 @@ fn push_words(
 ) -> Result<(), NoMemory>
     requires known { AreKnownWords codes.now (length infos.now) words.now }
     requires place { 0 < draft.old.records_at }
-    ensures { OnOk result (Puts draft.old draft.new (length words.now) (λ image at. AllAt (HasWord image codes.now (class_in infos.now)) words.now at)) }
+    ensures { OnOk result (Puts draft.old draft.new (length words.now) (λ image at. AllAt (HasWord image codes.now (class_address infos.now)) words.now at)) }
 {
     for word in words {
         push_word(draft, codes, infos, word)?;
@@ -75,7 +75,7 @@ fn push_tables(
 ) -> Result<(), NoMemory>
     requires known { AreKnownTables codes.now (length infos.now) tables.now }
     requires place { 0 < draft.old.records_at }
-    ensures { OnOk result (Puts draft.old draft.new (length (all_words tables.now)) (λ image at. AllAt (HasWord image codes.now (class_in infos.now)) (all_words tables.now) at)) }
+    ensures { OnOk result (Puts draft.old draft.new (length (all_words tables.now)) (λ image at. AllAt (HasWord image codes.now (class_address infos.now)) (all_words tables.now) at)) }
 {
     for table in tables {
         push_words(draft, codes, infos, table.words.as_slice())?;
@@ -94,7 +94,7 @@ pub fn push_groups(
 ) -> Result<(), NoMemory>
     requires known { AreKnownGroups codes.now (length infos.now) groups.now }
     requires place { 0 < draft.old.records_at }
-    ensures { OnOk result (Puts draft.old draft.new (total (map group_size groups.now)) (λ image at. AllBySize group_size (λ i group there. StandsAt image codes.now (class_in infos.now) group there) groups.now at)) }
+    ensures { OnOk result (Puts draft.old draft.new (sum_of_sizes (map group_size groups.now)) (λ image at. AllBySize group_size (λ i group there. StandsAt image codes.now (class_address infos.now) group there) groups.now at)) }
 {
     for group in groups {
         push_tables(draft, codes, infos, group.tables.as_slice())?;

@@ -3,7 +3,7 @@
 ghost use Rattle.std.specs.Prelude.{◌≡◌, ◌<◌, ℕ, Some, IfOk, OnOk, length, map};
 ghost use Rattle.abi_slots.specs.Images.{IsPoint};
 ghost use Rattle.abi_image.specs.Conditions.{HaveOwnNames, HasTable, NameTables, AllNameTables};
-ghost use Rattle.abi_image.specs.invariants.Drafts.{AllAt, AllBySize, Puts, address_in, vtt_size, total};
+ghost use Rattle.abi_image.specs.invariants.Drafts.{AllAt, AllBySize, Puts, address_in, vtt_size, sum_of_sizes};
 ghost use Rattle.abi_image.specs.invariants.Points.{AreGroupPoints, HasPointAt};
 
 use crate::draft::Draft;
@@ -80,7 +80,7 @@ pub fn push_vtts(
     requires places { AreGroupPoints groups.now places.now.at.items places.now.points.items }
     requires names { HaveOwnNames groups.now }
     requires tables { AllNameTables groups.now vtts.now }
-    ensures { OnOk result (Puts draft.old draft.new (total (map vtt_size vtts.now)) (λ image at. AllBySize vtt_size (λ c vtt there. AllAt (HasPointAt image groups.now (address_in places.now.at.items)) vtt there) vtts.now at)) }
+    ensures { OnOk result (Puts draft.old draft.new (sum_of_sizes (map vtt_size vtts.now)) (λ image at. AllBySize vtt_size (λ c vtt there. AllAt (HasPointAt image groups.now (address_in places.now.at.items)) vtt there) vtts.now at)) }
 {
     for vtt in vtts {
         push_vtt(draft, groups, places, vtt.as_slice())?;

@@ -12,15 +12,15 @@ use Rattle.cxx_hierarchy.specs.declared.records.ClassId.{ClassId}
 use Rattle.cxx_hierarchy.specs.Classes.{Class, Classes, class_names}
 use Rattle.cxx_hierarchy.specs.Hierarchies.{IsHierarchy}
 use Rattle.abi_sound.specs.Places.{Places}
-use Rattle.abi_print.specs.LayoutTexts.{name_in, name_of}
+use Rattle.abi_print.specs.LayoutTexts.{name_in_class, declared_class_name}
 use Rattle.abi_inspect.specs.declared.seen.Seen.{Seen}
 use Rattle.abi_inspect.specs.declared.seen.SeenValue.{SeenValue}
 use Rattle.abi_inspect.specs.declared.seen.InspectFault.{InspectFault}
 use Rattle.abi_inspect.specs.declared.seen.InspectFault.TheVariants.{UnknownClass, Form, NoMemory}
-use Rattle.abi_inspect.specs.Values.{most_number}
+use Rattle.abi_inspect.specs.Values.{most_dumped_number}
 use Rattle.abi_inspect.specs.Rows.{rows_of}
-use Rattle.abi_inspect.specs.SeenTexts.{AreValuesOf, IsFitting, first_line, row_lines}
-use Rattle.abi_inspect.specs.Faults.{AreNamesWords, BeginsDump, IsDumpOf, IsFault, IsFirstFault, NamesNoClass}
+use Rattle.abi_inspect.specs.SeenTexts.{AreValuesOf, IsFitting, dump_heading, row_lines}
+use Rattle.abi_inspect.specs.Faults.{AreNamesWords, BeginsDump, IsDumpOf, IsDumpFault, IsFirstBadLine, NamesNoClass}
 use Rattle.abi_inspect.specs.invariants.FirstLines.{AreFormed, IsFirstLine}
 use Rattle.abi_inspect.specs.invariants.RowReads.{BeginsRows}
 use Rattle.abi_inspect.specs.invariants.Inspections.{IsFaultBehind, IsObjectOf, IsReadBehind, IsSeenBehind}
@@ -73,32 +73,32 @@ pub no_form : (h : Classes) (text : List ℕ) → ((number name size rest : List
 no_form h text other u = other u.number u.name u.size u.rest (no_class_line h text u)
 
 module _ (h : Classes) (l : Places) (words : AreNamesWords h) (small : (c : ClassId) → c.0 < length h → l.size c ≤ 1048576) where
-  name_word : (c : ClassId) → c.0 < length h → IsToken (name_of h c) Word 0
+  name_word : (c : ClassId) → c.0 < length h → IsToken (declared_class_name h c) Word 0
   name_word c known =
       let g = get_within h c.0 known in
-      subst (λ (o : Option Class). IsToken (name_in o) Word 0) (sym g.1) (words.each c g.0 g.1)
+      subst (λ (o : Option Class). IsToken (name_in_class o) Word 0) (sym g.1) (words.each c g.0 g.1)
 
   -- the first line of a dump has the parts of one
-  pub head_of : (object : ℕ) (c : ClassId) (r text : List ℕ) → c.0 < length h → object ≤ most_number → text ≡ first_line h l object c ++ r → IsFirstLine (decimal object) (name_of h c) (decimal (l.size c)) r text
+  pub head_of : (object : ℕ) (c : ClassId) (r text : List ℕ) → c.0 < length h → object ≤ most_dumped_number → text ≡ dump_heading h l object c ++ r → IsFirstLine (decimal object) (declared_class_name h c) (decimal (l.size c)) r text
   head_of object c r text known high is =
       let size = small c known in
       record {
         is = is;
         number_ends = λ has. no_digit object 32 (small_word object high) (omega arith) (has_from_contains (decimal object) 32 has);
-        name_ends = word_has (name_of h c) (name_word c known) 32 (omega arith);
+        name_ends = word_has (declared_class_name h c) (name_word c known) 32 (omega arith);
         number_in_line = λ has. no_digit object 10 (small_word object high) (omega arith) (has_from_contains (decimal object) 10 has);
-        name_in_line = word_has (name_of h c) (name_word c known) 10 (omega arith);
+        name_in_line = word_has (declared_class_name h c) (name_word c known) 10 (omega arith);
         size_in_line = λ has. no_digit (l.size c) 10 (omega arith) (omega arith) (has_from_contains (decimal (l.size c)) 10 has);
       }
 
   -- a text that begins with some lines of a dump begins with the first
-  begins_head : (text : List ℕ) (k : ℕ) (b : BeginsDump h l text (suc k)) → (r : List ℕ) × (text ≡ first_line h l b.seen.object b.seen.class ++ r)
+  begins_head : (text : List ℕ) (k : ℕ) (b : BeginsDump h l text (suc k)) → (r : List ℕ) × (text ≡ dump_heading h l b.seen.object b.seen.class ++ r)
   begins_head text k b =
       let more = concat (take k (row_lines h (rows_of h l b.seen.class) b.seen.leaves)) in
-      (more ++ b.rest, b.is ∙ append_assoc (first_line h l b.seen.object b.seen.class) more b.rest)
+      (more ++ b.rest, b.is ∙ append_assoc (dump_heading h l b.seen.object b.seen.class) more b.rest)
 
   -- where no dump has the first line, the fault is in it
-  pub first_fault : (text : List ℕ) → (NamesNoClass h text → ⊥) → ((s : Seen) (r : List ℕ) → IsFitting h l s → text ≡ first_line h l s.object s.class ++ r → ⊥) → IsFirstFault h l text 1
+  pub first_fault : (text : List ℕ) → (NamesNoClass h text → ⊥) → ((s : Seen) (r : List ℕ) → IsFitting h l s → text ≡ dump_heading h l s.object s.class ++ r → ⊥) → IsFirstBadLine h l text 1
   first_fault text otherwise none = record {
     low = omega arith;
     none = λ s d. none s (concat (row_lines h (rows_of h l s.class) s.leaves)) d.fits d.is;
@@ -108,52 +108,52 @@ module _ (h : Classes) (l : Places) (words : AreNamesWords h) (small : (c : Clas
   }
 
   -- a text whose first line is of another form
-  pub no_dump : (text : List ℕ) → ((number name size rest : List ℕ) → IsFirstLine number name size rest text → ⊥) → (s : Seen) (r : List ℕ) → IsFitting h l s → text ≡ first_line h l s.object s.class ++ r → ⊥
-  no_dump text other s r fits is = other (decimal s.object) (name_of h s.class) (decimal (l.size s.class)) r (head_of s.object s.class r text fits.known fits.high is)
+  pub no_dump : (text : List ℕ) → ((number name size rest : List ℕ) → IsFirstLine number name size rest text → ⊥) → (s : Seen) (r : List ℕ) → IsFitting h l s → text ≡ dump_heading h l s.object s.class ++ r → ⊥
+  no_dump text other s r fits is = other (decimal s.object) (declared_class_name h s.class) (decimal (l.size s.class)) r (head_of s.object s.class r text fits.known fits.high is)
 
   module _ (number name size rest text : List ℕ) (line : IsFirstLine number name size rest text) where
-    parts_of : (s : Seen) (r : List ℕ) → IsFitting h l s → text ≡ first_line h l s.object s.class ++ r → AreSameParts (decimal s.object) (name_of h s.class) (decimal (l.size s.class)) r number name size rest
-    parts_of s r fits is = same_parts (decimal s.object) (name_of h s.class) (decimal (l.size s.class)) r number name size rest text (head_of s.object s.class r text fits.known fits.high is) line
+    parts_of : (s : Seen) (r : List ℕ) → IsFitting h l s → text ≡ dump_heading h l s.object s.class ++ r → AreSameParts (decimal s.object) (declared_class_name h s.class) (decimal (l.size s.class)) r number name size rest
+    parts_of s r fits is = same_parts (decimal s.object) (declared_class_name h s.class) (decimal (l.size s.class)) r number name size rest text (head_of s.object s.class r text fits.known fits.high is) line
 
     -- a text whose first line has no name of a class
-    pub not_found : (Contains (class_names h) name → ⊥) → (s : Seen) (r : List ℕ) → IsFitting h l s → text ≡ first_line h l s.object s.class ++ r → ⊥
+    pub not_found : (Contains (class_names h) name → ⊥) → (s : Seen) (r : List ℕ) → IsFitting h l s → text ≡ dump_heading h l s.object s.class ++ r → ⊥
     not_found none s r fits is =
         let same = parts_of s r fits is in
         let g = get_within h s.class.0 fits.known in
-        let called : g.0.name ≡ name = sym (ap name_in g.1) ∙ same.name in
+        let called : g.0.name ≡ name = sym (ap name_in_class g.1) ∙ same.name in
         none (contains_at (class_names h) s.class.0 name (named h s.class.0 g.0 g.1 ∙ ap (λ (n : List ℕ). Some n) called))
 
     -- the dumps whose first line the text has are of the class that it names, and of the object of its number
-    pub of_class : IsHierarchy h → (c : ClassId) → slice_get (class_names h) c.0 ≡ Some name → (s : Seen) (r : List ℕ) → IsFitting h l s → text ≡ first_line h l s.object s.class ++ r → s.class ≡ c
+    pub of_class : IsHierarchy h → (c : ClassId) → slice_get (class_names h) c.0 ≡ Some name → (s : Seen) (r : List ℕ) → IsFitting h l s → text ≡ dump_heading h l s.object s.class ++ r → s.class ≡ c
     of_class keeps c found s r fits is =
         let same = parts_of s r fits is in
         let g = get_within h s.class.0 fits.known in
         let m = get_mapped (λ (class : Class). class.name) h c.0 name found in
-        let called : g.0.name ≡ m.0.name = sym (ap name_in g.1) ∙ (same.name ∙ sym m.2) in
+        let called : g.0.name ≡ m.0.name = sym (ap name_in_class g.1) ∙ (same.name ∙ sym m.2) in
         same_class s.class c (keeps.names s.class c g.0 m.0 g.1 m.1 called)
 
-    pub of_number : (s : Seen) (r : List ℕ) → IsFitting h l s → text ≡ first_line h l s.object s.class ++ r → number ≡ decimal s.object
+    pub of_number : (s : Seen) (r : List ℕ) → IsFitting h l s → text ≡ dump_heading h l s.object s.class ++ r → number ≡ decimal s.object
     of_number s r fits is = sym (parts_of s r fits is).number
 
     -- the number is that of no object
-    pub no_object : ((n : ℕ) → 1 ≤ n → n ≤ most_number → number ≡ decimal n → ⊥) → (s : Seen) (r : List ℕ) → IsFitting h l s → text ≡ first_line h l s.object s.class ++ r → ⊥
+    pub no_object : ((n : ℕ) → 1 ≤ n → n ≤ most_dumped_number → number ≡ decimal n → ⊥) → (s : Seen) (r : List ℕ) → IsFitting h l s → text ≡ dump_heading h l s.object s.class ++ r → ⊥
     no_object none s r fits is = none s.object fits.low fits.high (of_number s r fits is)
 
     -- the first line is not that of an object of its number and class
-    pub other_first : IsHierarchy h → (c : ClassId) (object : ℕ) → slice_get (class_names h) c.0 ≡ Some name → IsObjectOf number object → ((r : List ℕ) → text ≡ first_line h l object c ++ r → ⊥) → (s : Seen) (r : List ℕ) → IsFitting h l s → text ≡ first_line h l s.object s.class ++ r → ⊥
+    pub other_first : IsHierarchy h → (c : ClassId) (object : ℕ) → slice_get (class_names h) c.0 ≡ Some name → IsObjectOf number object → ((r : List ℕ) → text ≡ dump_heading h l object c ++ r → ⊥) → (s : Seen) (r : List ℕ) → IsFitting h l s → text ≡ dump_heading h l s.object s.class ++ r → ⊥
     other_first keeps c object found of other s r fits is =
         let class_is = of_class keeps c found s r fits is in
         let object_is = of.one s.object fits.high (of_number s r fits is) in
-        other r (is ∙ (ap (λ (n : ℕ). first_line h l n s.class ++ r) (sym object_is) ∙ ap (λ (d : ClassId). first_line h l object d ++ r) class_is))
+        other r (is ∙ (ap (λ (n : ℕ). dump_heading h l n s.class ++ r) (sym object_is) ∙ ap (λ (d : ClassId). dump_heading h l object d ++ r) class_is))
 
     -- the lines behind the first
-    module _ (keeps : IsHierarchy h) (c : ClassId) (object : ℕ) (found : slice_get (class_names h) c.0 ≡ Some name) (of : IsObjectOf number object) (left : List ℕ) (begins : text ≡ first_line h l object c ++ left) where
+    module _ (keeps : IsHierarchy h) (c : ClassId) (object : ℕ) (found : slice_get (class_names h) c.0 ≡ Some name) (of : IsObjectOf number object) (left : List ℕ) (begins : text ≡ dump_heading h l object c ++ left) where
       -- a dump that has the first line is of the object, and so is what is behind that line
-      behind : (s : Seen) (r : List ℕ) → IsFitting h l s → text ≡ first_line h l s.object s.class ++ r → left ≡ r
+      behind : (s : Seen) (r : List ℕ) → IsFitting h l s → text ≡ dump_heading h l s.object s.class ++ r → left ≡ r
       behind s r fits is =
           let class_is = of_class keeps c found s r fits is in
           let object_is = of.one s.object fits.high (of_number s r fits is) in
-          append_cancel_left (first_line h l object c) left r (sym begins ∙ (is ∙ (ap (λ (n : ℕ). first_line h l n s.class ++ r) (sym object_is) ∙ ap (λ (d : ClassId). first_line h l object d ++ r) class_is)))
+          append_cancel_left (dump_heading h l object c) left r (sym begins ∙ (is ∙ (ap (λ (n : ℕ). dump_heading h l n s.class ++ r) (sym object_is) ∙ ap (λ (d : ClassId). dump_heading h l object d ++ r) class_is)))
 
       values_fit : (s : Seen) → IsFitting h l s → s.class ≡ c → AreValuesOf (rows_of h l c) s.leaves
       values_fit s fits class_is = subst (λ (d : ClassId). AreValuesOf (rows_of h l d) s.leaves) class_is fits.leaves
@@ -184,7 +184,7 @@ module _ (h : Classes) (l : Places) (words : AreNamesWords h) (small : (c : Clas
       as_rows k b =
           let s = b.seen in
           let more = concat (take k (row_lines h (rows_of h l s.class) s.leaves)) in
-          let is : text ≡ first_line h l s.object s.class ++ (more ++ b.rest) = b.is ∙ append_assoc (first_line h l s.object s.class) more b.rest in
+          let is : text ≡ dump_heading h l s.object s.class ++ (more ++ b.rest) = b.is ∙ append_assoc (dump_heading h l s.object s.class) more b.rest in
           let class_is : s.class ≡ c = of_class keeps c found s (more ++ b.rest) b.fits is in
           let enough : suc k ≤ suc (length (row_lines h (rows_of h l s.class) s.leaves)) = b.enough in
           let few : k ≤ length (row_lines h (rows_of h l s.class) s.leaves) = omega arith in
@@ -205,10 +205,10 @@ module _ (h : Classes) (l : Places) (words : AreNamesWords h) (small : (c : Clas
             rest = s.0 ++ b.rest;
             fits = record { known = known; low = of.low; high = of.high; leaves = b.fits };
             enough = more_lines (length lines) k j le enough;
-            is = begins ∙ (ap (λ (r : List ℕ). first_line h l object c ++ r) (b.is ∙ (ap (λ (r : List ℕ). r ++ b.rest) s.1 ∙ append_assoc (concat (take j lines)) s.0 b.rest)) ∙ sym (append_assoc (first_line h l object c) (concat (take j lines)) (s.0 ++ b.rest)));
+            is = begins ∙ (ap (λ (r : List ℕ). dump_heading h l object c ++ r) (b.is ∙ (ap (λ (r : List ℕ). r ++ b.rest) s.1 ∙ append_assoc (concat (take j lines)) s.0 b.rest)) ∙ sym (append_assoc (dump_heading h l object c) (concat (take j lines)) (s.0 ++ b.rest)));
           }
 
-      pub fault_behind : (line_number : ℕ) → c.0 < length h → (NamesNoClass h text → ⊥) → IsFaultBehind h l c left line_number → IsFirstFault h l text line_number
+      pub fault_behind : (line_number : ℕ) → c.0 < length h → (NamesNoClass h text → ⊥) → IsFaultBehind h l c left line_number → IsFirstBadLine h l text line_number
       fault_behind line_number known otherwise fault =
           let n = fault.lines in
           let same : line_number ≡ suc (suc n) = fault.line_is ∙ plus_two n in
@@ -233,11 +233,11 @@ module _ (h : Classes) (l : Places) (words : AreNamesWords h) (small : (c : Clas
               (d.seen.leaves, as_rows (suc n) d)
 
 -- the values that were read are those of the dump
-pub dump_read : (h : Classes) (l : Places) (text left number : List ℕ) (c : ClassId) (object : ℕ) (seen : Seen) → c.0 < length h → IsObjectOf number object → text ≡ first_line h l object c ++ left → IsSeenBehind h l object c left seen → IsDumpOf h l seen text
+pub dump_read : (h : Classes) (l : Places) (text left number : List ℕ) (c : ClassId) (object : ℕ) (seen : Seen) → c.0 < length h → IsObjectOf number object → text ≡ dump_heading h l object c ++ left → IsSeenBehind h l object c left seen → IsDumpOf h l seen text
 dump_read h l text left number c object seen known of begins is =
     subst (λ (s : Seen). IsDumpOf h l s text) (sym (seen_made seen object c is.object_is is.class_is)) (record {
       fits = record { known = known; low = of.low; high = of.high; leaves = is.read.fits };
-      is = begins ∙ ap (λ (r : List ℕ). first_line h l object c ++ r) is.read.is;
+      is = begins ∙ ap (λ (r : List ℕ). dump_heading h l object c ++ r) is.read.is;
     })
 
 -- a first line that names a class is no other
@@ -247,17 +247,17 @@ named_class h number name size rest text c line found u =
     u.unknown (subst (λ (n : List ℕ). Contains (class_names h) n) (sym same.name) (contains_at (class_names h) c.0 name found))
 
 -- where no dump has the first line, none has the text
-pub begins_none : (h : Classes) (l : Places) (text : List ℕ) → ((s : Seen) (r : List ℕ) → IsFitting h l s → text ≡ first_line h l s.object s.class ++ r → ⊥) → (s : Seen) → IsDumpOf h l s text → ⊥
+pub begins_none : (h : Classes) (l : Places) (text : List ℕ) → ((s : Seen) (r : List ℕ) → IsFitting h l s → text ≡ dump_heading h l s.object s.class ++ r → ⊥) → (s : Seen) → IsDumpOf h l s text → ⊥
 begins_none h l text none s d = none s (concat (row_lines h (rows_of h l s.class) s.leaves)) d.fits d.is
 
 -- what a result says, by the lines behind the first
 
-pub found_behind : (h : Classes) (l : Places) (text left number : List ℕ) (c : ClassId) (object : ℕ) (r : Result Seen InspectFault) → c.0 < length h → IsObjectOf number object → text ≡ first_line h l object c ++ left → IsReadBehind h l object c left r → IfOk r (λ seen. IsDumpOf h l seen text)
+pub found_behind : (h : Classes) (l : Places) (text left number : List ℕ) (c : ClassId) (object : ℕ) (r : Result Seen InspectFault) → c.0 < length h → IsObjectOf number object → text ≡ dump_heading h l object c ++ left → IsReadBehind h l object c left r → IfOk r (λ seen. IsDumpOf h l seen text)
 found_behind h l text left number c object (Ok seen) known of begins read = dump_read h l text left number c object seen known of begins read
 found_behind h l text left number c object (Err fault) known of begins read = tt
 
 pub each_behind : (h : Classes) (l : Places) → AreNamesWords h → ((c : ClassId) → c.0 < length h → l.size c ≤ 1048576) → (number name size rest text : List ℕ) → IsFirstLine number name size rest text → IsHierarchy h →
-    (c : ClassId) (object : ℕ) → slice_get (class_names h) c.0 ≡ Some name → IsObjectOf number object → (left : List ℕ) → text ≡ first_line h l object c ++ left → (r : Result Seen InspectFault) → IsReadBehind h l object c left r →
+    (c : ClassId) (object : ℕ) → slice_get (class_names h) c.0 ≡ Some name → IsObjectOf number object → (left : List ℕ) → text ≡ dump_heading h l object c ++ left → (r : Result Seen InspectFault) → IsReadBehind h l object c left r →
     (s : Seen) → IsDumpOf h l s text → MatchResult r (λ seen. seen ≡ s) (λ fault. fault ≡ NoMemory)
 each_behind h l words small number name size rest text line keeps c object found of left begins (Ok seen) read s d = one_seen h l words small number name size rest text line keeps c object found of left begins seen read s d
 each_behind h l words small number name size rest text line keeps c object found of left begins (Err UnknownClass) read s d = absurd read
@@ -265,8 +265,8 @@ each_behind h l words small number name size rest text line keeps c object found
 each_behind h l words small number name size rest text line keeps c object found of left begins (Err NoMemory) read s d = refl
 
 pub fault_given : (h : Classes) (l : Places) → AreNamesWords h → ((c : ClassId) → c.0 < length h → l.size c ≤ 1048576) → (number name size rest text : List ℕ) → IsFirstLine number name size rest text → IsHierarchy h →
-    (c : ClassId) (object : ℕ) → slice_get (class_names h) c.0 ≡ Some name → IsObjectOf number object → (left : List ℕ) → text ≡ first_line h l object c ++ left → c.0 < length h → (r : Result Seen InspectFault) → IsReadBehind h l object c left r →
-    IfErr r (λ fault. IsFault h l text fault)
+    (c : ClassId) (object : ℕ) → slice_get (class_names h) c.0 ≡ Some name → IsObjectOf number object → (left : List ℕ) → text ≡ dump_heading h l object c ++ left → c.0 < length h → (r : Result Seen InspectFault) → IsReadBehind h l object c left r →
+    IfErr r (λ fault. IsDumpFault h l text fault)
 fault_given h l words small number name size rest text line keeps c object found of left begins known (Ok seen) read = tt
 fault_given h l words small number name size rest text line keeps c object found of left begins known (Err UnknownClass) read = absurd read
 fault_given h l words small number name size rest text line keeps c object found of left begins known (Err (Form at_line)) read =
@@ -311,9 +311,9 @@ unknown_given number name size fault (inl is) formed = inl is.0
 unknown_given number name size fault (inr is) formed = absurd (is.1 formed)
 
 pub fault_unknown : (h : Classes) (l : Places) → AreNamesWords h → ((c : ClassId) → c.0 < length h → l.size c ≤ 1048576) → (number name size rest text : List ℕ) → IsFirstLine number name size rest text → (Contains (class_names h) name → ⊥) →
-    (fault : InspectFault) → ((fault ≡ UnknownClass) × AreFormed number name size) ⊎ ((fault ≡ Form 1) × (AreFormed number name size → ⊥)) → IsFault h l text fault
+    (fault : InspectFault) → ((fault ≡ UnknownClass) × AreFormed number name size) ⊎ ((fault ≡ Form 1) × (AreFormed number name size → ⊥)) → IsDumpFault h l text fault
 fault_unknown h l words small number name size rest text line none fault (inl is) =
-    subst (λ (f : InspectFault). IsFault h l text f) (sym is.0) (unknown_named h number name size rest text line none is.1)
+    subst (λ (f : InspectFault). IsDumpFault h l text f) (sym is.0) (unknown_named h number name size rest text line none is.1)
 fault_unknown h l words small number name size rest text line none fault (inr is) =
-    subst (λ (f : InspectFault). IsFault h l text f) (sym is.0)
+    subst (λ (f : InspectFault). IsDumpFault h l text f) (sym is.0)
     (first_fault h l words small text (λ u. is.1 (unknown_formed h number name size rest text line u)) (not_found h l words small number name size rest text line none))

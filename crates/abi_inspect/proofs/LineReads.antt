@@ -4,7 +4,7 @@ use Rattle.std.specs.Prelude.{Contains, MatchOption, codes}
 use Rattle.std.proofs.lemmas.List.{append_cancel_left}
 use Rattle.foundation.proofs.Members.{has_from_contains}
 use Rattle.cxx_hierarchy.specs.Classes.{Classes}
-use Rattle.abi_print.specs.LayoutTexts.{value_text as type_text}
+use Rattle.abi_print.specs.LayoutTexts.{value_type_text as type_text}
 use Rattle.abi_inspect.specs.declared.seen.SeenValue.{SeenValue}
 use Rattle.abi_inspect.specs.declared.slots.LeafLine.{LeafLine}
 use Rattle.abi_inspect.specs.Values.{IsValueOf, value_text}

@@ -17,7 +17,7 @@ use Rattle.cxx_hierarchy.specs.Hierarchies.{IsHierarchy}
 use Rattle.abi_sound.specs.declared.class_layout.ClassLayout.{ClassLayout}
 use Rattle.abi_sound.specs.Places.{Places, places_of}
 use Rattle.abi_sound.specs.Sound.{IsSoundLayout}
-use Rattle.abi_print.specs.LayoutTexts.{name_in, name_of, value_text as type_text}
+use Rattle.abi_print.specs.LayoutTexts.{name_in_class, declared_class_name, value_type_text as type_text}
 use Rattle.abi_print.specs.Texts.{location_text}
 use Rattle.abi_inspect.specs.declared.seen.Seen.{Seen}
 use Rattle.abi_inspect.specs.declared.seen.SeenValue.{SeenValue}
@@ -25,10 +25,10 @@ use Rattle.abi_inspect.specs.declared.seen.SeenValue.TheVariants.{Unset, Number,
 use Rattle.abi_inspect.specs.declared.slots.LeafLine.{LeafLine}
 use Rattle.abi_inspect.specs.declared.slots.Row.{Row}
 use Rattle.abi_inspect.specs.declared.slots.Row.TheVariants.{Fixed, Leaf}
-use Rattle.abi_inspect.specs.Values.{IsHeld, IsPlace, IsValueOf, most_number, number_value, unset_value, value_text}
-use Rattle.abi_inspect.specs.Rows.{by_place, rows_of, slots_of}
+use Rattle.abi_inspect.specs.Values.{IsNumberOfLeaf, IsHeapPlace, IsValueOf, most_dumped_number, number_value_text, unset_value, value_text}
+use Rattle.abi_inspect.specs.Rows.{slots_by_place, rows_of, slots_of}
 use Rattle.abi_inspect.specs.SeenTexts.{AreValuesOf, before_value, leaf_line, row_lines}
-use Rattle.abi_inspect.specs.Faults.{AreNamesWords, IsDumpOf, IsFirstFault, NamesNoClass}
+use Rattle.abi_inspect.specs.Faults.{AreNamesWords, IsDumpOf, IsFirstBadLine, NamesNoClass}
 use Rattle.abi_inspect.specs.invariants.Digits.{IsBelowWord, hex_word}
 use Rattle.abi_inspect.specs.invariants.Readable.{IsNarrow, IsPointerValue}
 use Rattle.abi_inspect.specs.invariants.Inspections.{IsObjectOf}
@@ -55,16 +55,16 @@ one_signed (negsuc a) (negsuc b) small also e =
     let less : a ≡ b = omega (arith, number) in
     ap negsuc less
 
-one_number : (width : Option ℕ) (t : Scalar) (y z : ℤ) → IsNarrow width → IsHeld width t y → IsHeld width t z → number_value width (NumberType t) y ≡ number_value width (NumberType t) z → y ≡ z
+one_number : (width : Option ℕ) (t : Scalar) (y z : ℤ) → IsNarrow width → IsNumberOfLeaf width t y → IsNumberOfLeaf width t z → number_value_text width (NumberType t) y ≡ number_value_text width (NumberType t) z → y ≡ z
 one_number None t y z narrow held also e =
-    let text : List ℕ = number_value None (NumberType t) y in
+    let text : List ℕ = number_value_text None (NumberType t) y in
     sym (number_each None t text (hex_word text) tt (λ n f x below is. cc) (λ f few. refl) y held refl)
     ∙ number_each None t text (hex_word text) tt (λ n f x below is. cc) (λ f few. refl) z also e
 one_number (Some n) t y z narrow held also e = one_signed y z (below_word t n y narrow held) (below_word t n z narrow also) e
 
 -- pointers
 
-one_place : (n p number place : ℕ) → IsPlace n p → IsPlace number place → decimal n ++ codes "+" ++ decimal p ≡ decimal number ++ codes "+" ++ decimal place → Place n p ≡ Place number place
+one_place : (n p number place : ℕ) → IsHeapPlace n p → IsHeapPlace number place → decimal n ++ codes "+" ++ decimal p ≡ decimal number ++ codes "+" ++ decimal place → Place n p ≡ Place number place
 one_place n p number place is also e =
     let cut = plus_cut (decimal n ++ codes "+" ++ decimal p) (decimal n) (decimal p) number place also (grouped n p) (λ has. no_digit n 43 (small_word n is.high) (omega arith) (has_from_contains (decimal n) 43 has)) e in
     ap (λ (k : ℕ). Place k p) (decimal_injective n number (small_word n is.high) (small_word number also.high) cut.0)
@@ -96,7 +96,7 @@ one_value width (NumberType t) Unset w narrow fits also e =
     let b = unset_begins width (NumberType t) in
     dashes_unset width t (unset_value width (NumberType t)) b.0 w narrow b.1 also e
 one_value width (NumberType t) (Number y) w narrow fits also e =
-    other_number width t (number_value width (NumberType t) y) y w (λ rest begins. no_dashes width t y rest narrow fits begins) (λ z held is. one_number width t y z narrow fits held is) also e
+    other_number width t (number_value_text width (NumberType t) y) y w (λ rest begins. no_dashes width t y rest narrow fits begins) (λ z held is. one_number width t y z narrow fits held is) also e
 one_value width (NumberType t) Null w narrow fits also e = absurd fits
 one_value width (NumberType t) (Place number place) w narrow fits also e = absurd fits
 one_value width (PointerType c) v w narrow fits also e = one_pointer width c v w (to_pointer width c v fits) (to_pointer width c w also) e
@@ -126,7 +126,7 @@ one_rows h (Leaf x ∷ rows) (v ∷ values) (w ∷ others) narrow fits also e =
     ap (λ (u : SeenValue). u ∷ values) one ∙ ap (λ (vs : List SeenValue). w ∷ vs) (one_rows h rows values others (λ y has. narrow y (inr has)) fits.1 also.1 same)
 
 -- the number of an object by its digits
-pub own_number : (object : ℕ) → 1 ≤ object → object ≤ most_number → IsObjectOf (decimal object) object
+pub own_number : (object : ℕ) → 1 ≤ object → object ≤ most_dumped_number → IsObjectOf (decimal object) object
 own_number object low high = record {
   low = low;
   high = high;
@@ -134,16 +134,16 @@ own_number object low high = record {
 }
 
 -- the name of a class by its number
-pub own_name : (h : Classes) (c : ClassId) → c.0 < length h → slice_get (class_names h) c.0 ≡ Some (name_of h c)
+pub own_name : (h : Classes) (c : ClassId) → c.0 < length h → slice_get (class_names h) c.0 ≡ Some (declared_class_name h c)
 own_name h c known =
     let g = get_within h c.0 known in
-    named h c.0 g.0 g.1 ∙ ap (λ (n : List ℕ). Some n) (sym (ap name_in g.1))
+    named h c.0 g.0 g.1 ∙ ap (λ (n : List ℕ). Some n) (sym (ap name_in_class g.1))
 
 -- the leaves of a class are narrow
 pub leaves_narrow : (h : Classes) (rows : List ClassLayout) → IsHierarchy h → IsSoundLayout h rows → (c : ClassId) → c.0 < length h → (x : LeafLine) → Has (rows_of h (places_of h rows) c) (Leaf x) → IsNarrow x.bits.width
 leaves_narrow h rows keeps sound c known x has =
     let l : Places = places_of h rows in
-    rows_narrow (l.size c) 0 (by_place (l.size c) (slots_of h l c))
+    rows_narrow (l.size c) 0 (slots_by_place (l.size c) (slots_of h l c))
     (λ slot there. (slots_lie h rows keeps sound c known slot (from_by_place (l.size c) (slots_of h l c) slot there)).narrow) x has
 
 pub sizes_small : (h : Classes) (rows : List ClassLayout) → IsSoundLayout h rows → (c : ClassId) → c.0 < length h → (places_of h rows).size c ≤ 1048576
@@ -156,7 +156,7 @@ one_dump h rows text seen other words keeps sound d also =
     let c : ClassId = seen.class in
     let left : List ℕ = concat (row_lines h (rows_of h l c) seen.leaves) in
     let line = head_of h l words (sizes_small h rows sound) seen.object c left text d.fits.known d.fits.high d.is in
-    one_seen h l words (sizes_small h rows sound) (decimal seen.object) (name_of h c) (decimal (l.size c)) left text line keeps c seen.object (own_name h c d.fits.known) (own_number seen.object d.fits.low d.fits.high) left d.is seen
+    one_seen h l words (sizes_small h rows sound) (decimal seen.object) (declared_class_name h c) (decimal (l.size c)) left text line keeps c seen.object (own_name h c d.fits.known) (own_number seen.object d.fits.low d.fits.high) left d.is seen
     (record {
       object_is = refl;
       class_is = refl;
@@ -173,10 +173,10 @@ dump_named h rows text seen words sound d =
     let l : Places = places_of h rows in
     let c : ClassId = seen.class in
     let left : List ℕ = concat (row_lines h (rows_of h l c) seen.leaves) in
-    named_class h (decimal seen.object) (name_of h c) (decimal (l.size c)) left text c (head_of h l words (sizes_small h rows sound) seen.object c left text d.fits.known d.fits.high d.is) (own_name h c d.fits.known)
+    named_class h (decimal seen.object) (declared_class_name h c) (decimal (l.size c)) left text c (head_of h l words (sizes_small h rows sound) seen.object c left text d.fits.known d.fits.high d.is) (own_name h c d.fits.known)
 
 -- the line of a fault
-pub one_line : (h : Classes) (l : Places) (text : List ℕ) (m n : ℕ) → IsFirstFault h l text m → IsFirstFault h l text n → m ≡ n
+pub one_line : (h : Classes) (l : Places) (text : List ℕ) (m n : ℕ) → IsFirstBadLine h l text m → IsFirstBadLine h l text n → m ≡ n
 one_line h l text m n fault other =
     ⊎_elim (λ lt. absurd (fault.here (other.before m fault.low lt)))
     (λ le. ⊎_elim (λ lt. absurd (other.here (fault.before n other.low lt))) (λ ge. omega (arith, le, ge)) (cases_lt n m)) (cases_lt m n)

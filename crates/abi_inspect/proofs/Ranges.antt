@@ -12,9 +12,9 @@ use Rattle.byte_code.specs.Numbers.{number_of_bits, signed_in, word_of}
 use Rattle.byte_code.proofs.Pow.{bit_pos, bits_word}
 use Rattle.byte_code.proofs.Words.{word_of-low_bits}
 use Rattle.text_bytes.proofs.BitReads.{bits_read}
-use Rattle.abi_inspect.specs.Values.{IsHeld}
+use Rattle.abi_inspect.specs.Values.{IsNumberOfLeaf}
 use Rattle.abi_inspect.specs.invariants.Digits.{IsBelowWord}
-use Rattle.abi_inspect.specs.invariants.Readable.{bits_in}
+use Rattle.abi_inspect.specs.invariants.Readable.{number_bits}
 
 -- all bits of a type hold the numbers of the type
 pub range_width : (t : Scalar) (z : ℤ) → IsInRange t z → IsInWidth t (most_bits t) z
@@ -45,7 +45,7 @@ width_range ULong z r = record { least = r.least; greatest = r.greatest }
 width_range LongLong z r = record { least = r.least; greatest = r.greatest }
 width_range ULongLong z r = record { least = r.least; greatest = r.greatest }
 
-pub from_width : (width : Option ℕ) (t : Scalar) (z : ℤ) → IsInWidth t (bits_in width t) z → IsHeld width t z
+pub from_width : (width : Option ℕ) (t : Scalar) (z : ℤ) → IsInWidth t (number_bits width t) z → IsNumberOfLeaf width t z
 from_width None t z held = width_range t z held
 from_width (Some n) t z held = held
 

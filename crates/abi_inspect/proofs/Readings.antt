@@ -11,23 +11,23 @@ use Rattle.cxx_hierarchy.specs.Scalars.{is_signed, size_of}
 use Rattle.byte_code.specs.Numbers.{number_of_bits, word_of}
 use Rattle.abi_inspect.specs.declared.seen.SeenValue.{SeenValue}
 use Rattle.abi_inspect.specs.declared.seen.SeenValue.TheVariants.{Unset, Number, Null, Place}
-use Rattle.abi_inspect.specs.Values.{IsHeld, IsPlace, IsValueOf, number_value, value_text}
+use Rattle.abi_inspect.specs.Values.{IsNumberOfLeaf, IsHeapPlace, IsValueOf, number_value_text, value_text}
 use Rattle.abi_inspect.specs.invariants.Digits.{IsBelowWord, hex_word}
-use Rattle.abi_inspect.specs.invariants.Readable.{IsNarrow, IsPointerValue, bits_in}
+use Rattle.abi_inspect.specs.invariants.Readable.{IsNarrow, IsPointerValue, number_bits}
 use Rattle.abi_inspect.proofs.Cuts.{same_cut}
 use Rattle.abi_inspect.proofs.Hex.{digits_many, few_bytes, word_back}
 use Rattle.abi_inspect.proofs.Ranges.{below_word, bits_inside, bits_of_word, bytes_of_word, from_width}
 use Rattle.abi_inspect.proofs.Tokens.{no_dashes, no_digit, small_word, unset_begins}
 
-pub number_fits : (width : Option ℕ) (t : Scalar) (word : ℕ) → IsHeld width t (number_of_bits (record { bits = bits_in width t; signed = is_signed t }) word)
-number_fits width t word = from_width width t (number_of_bits (record { bits = bits_in width t; signed = is_signed t }) word) (bits_inside t (bits_in width t) word)
+pub number_fits : (width : Option ℕ) (t : Scalar) (word : ℕ) → IsNumberOfLeaf width t (number_of_bits (record { bits = number_bits width t; signed = is_signed t }) word)
+number_fits width t word = from_width width t (number_of_bits (record { bits = number_bits width t; signed = is_signed t }) word) (bits_inside t (number_bits width t) word)
 
 take_few : (n : ℕ) (xs : List ℕ) → length (take n xs) ≤ n
 take_few zero xs = omega arith
 take_few (suc n) [] = omega arith
 take_few (suc n) (x ∷ xs) = let ih = take_few n xs in omega (arith, ih)
 
-short : (t : Scalar) (z : ℤ) → length (number_value None (NumberType t) z) ≤ 16
+short : (t : Scalar) (z : ℤ) → length (number_value_text None (NumberType t) z) ≤ 16
 short t z =
     let many = digits_many (take (size_of t) (to_le_bytes w64 (word_of z))) in
     let few = take_few (size_of t) (to_le_bytes w64 (word_of z)) in
@@ -35,7 +35,7 @@ short t z =
     omega (arith, many, few, size)
 
 pub number_each : (width : Option ℕ) (t : Scalar) (text : List ℕ) (word : ℕ) → IsNarrow width → ((n : ℕ) → width ≡ Some n → (z : ℤ) → IsBelowWord z → text ≡ signed_decimal z → word ≡ word_of z) → (width ≡ None → length text ≤ 16 → word ≡ hex_word text) →
-    (z : ℤ) → IsHeld width t z → text ≡ number_value width (NumberType t) z → number_of_bits (record { bits = bits_in width t; signed = is_signed t }) word ≡ z
+    (z : ℤ) → IsNumberOfLeaf width t z → text ≡ number_value_text width (NumberType t) z → number_of_bits (record { bits = number_bits width t; signed = is_signed t }) word ≡ z
 number_each None t text word narrow bits bytes z held is =
     let small : length text ≤ 16 = subst (λ (xs : List ℕ). length xs ≤ 16) (sym is) (short t z) in
     bytes_of_word t z word (bytes refl small ∙ (ap hex_word is ∙ word_back t (word_of z))) held
@@ -50,7 +50,7 @@ dashes_unset width t text rest Null narrow begins fits is = absurd fits
 dashes_unset width t text rest (Place number place) narrow begins fits is = absurd fits
 
 -- and any other is of a number
-pub other_number : (width : Option ℕ) (t : Scalar) (text : List ℕ) (read : ℤ) (v : SeenValue) → ((rest : List ℕ) → text ≡ 45 ∷ 45 ∷ rest → ⊥) → ((z : ℤ) → IsHeld width t z → text ≡ number_value width (NumberType t) z → read ≡ z) → IsValueOf width (NumberType t) v → text ≡ value_text width (NumberType t) v → Number read ≡ v
+pub other_number : (width : Option ℕ) (t : Scalar) (text : List ℕ) (read : ℤ) (v : SeenValue) → ((rest : List ℕ) → text ≡ 45 ∷ 45 ∷ rest → ⊥) → ((z : ℤ) → IsNumberOfLeaf width t z → text ≡ number_value_text width (NumberType t) z → read ≡ z) → IsValueOf width (NumberType t) v → text ≡ value_text width (NumberType t) v → Number read ≡ v
 other_number width t text read Unset begins each fits is = let b = unset_begins width (NumberType t) in absurd (begins b.0 (is ∙ b.1))
 other_number width t text read (Number z) begins each fits is = ap Number (each z fits is)
 other_number width t text read Null begins each fits is = absurd fits
@@ -65,7 +65,7 @@ pub plus_there : (text : List ℕ) (number place : ℕ) → (Contains text 43 �
 plus_there text number place none is =
     none (contains_from_has text 43 (subst (λ (xs : List ℕ). Has xs 43) (sym (is ∙ grouped number place)) (has_right (decimal number) (43 ∷ decimal place) 43 (inl refl))))
 
-pub plus_cut : (text front back : List ℕ) (number place : ℕ) → IsPlace number place → text ≡ front ++ 43 ∷ back → (Contains front 43 → ⊥) → text ≡ decimal number ++ codes "+" ++ decimal place → (front ≡ decimal number) × (back ≡ decimal place)
+pub plus_cut : (text front back : List ℕ) (number place : ℕ) → IsHeapPlace number place → text ≡ front ++ 43 ∷ back → (Contains front 43 → ⊥) → text ≡ decimal number ++ codes "+" ++ decimal place → (front ≡ decimal number) × (back ≡ decimal place)
 plus_cut text front back number place is cut before same =
     same_cut front back (decimal number) (decimal place) 43 (sym cut ∙ (same ∙ grouped number place)) (λ has. before (contains_from_has front 43 has)) (λ has. no_digit number 43 (small_word number is.high) (omega arith) has)
 
@@ -73,7 +73,7 @@ pub head_same : (a b : ℕ) (xs ys : List ℕ) → a ∷ xs ≡ b ∷ ys → a �
 head_same a b xs ys e = cc
 
 -- which pointer a text is of
-pub hash_pointer : (width : Option ℕ) (c : ClassId) (text rest : List ℕ) (read : SeenValue) (v : SeenValue) → text ≡ 35 ∷ rest → ((number place : ℕ) → IsPlace number place → rest ≡ decimal number ++ codes "+" ++ decimal place → read ≡ Place number place) → IsPointerValue v → text ≡ value_text width (PointerType c) v → read ≡ v
+pub hash_pointer : (width : Option ℕ) (c : ClassId) (text rest : List ℕ) (read : SeenValue) (v : SeenValue) → text ≡ 35 ∷ rest → ((number place : ℕ) → IsHeapPlace number place → rest ≡ decimal number ++ codes "+" ++ decimal place → read ≡ Place number place) → IsPointerValue v → text ≡ value_text width (PointerType c) v → read ≡ v
 hash_pointer width c text rest read Unset begins each fits is =
     let b = unset_begins width (PointerType c) in
     let both : 35 ∷ rest ≡ 45 ∷ 45 ∷ b.0 = sym begins ∙ (is ∙ b.1) in

@@ -14,7 +14,7 @@ use Rattle.abi_inspect.specs.declared.slots.Row.{Row}
 use Rattle.abi_inspect.specs.declared.slots.Row.TheVariants.{Fixed, Leaf}
 use Rattle.abi_inspect.specs.Values.{IsValueOf}
 use Rattle.abi_inspect.specs.SeenTexts.{AreValuesOf, leaf_line, row_lines}
-use Rattle.abi_inspect.specs.invariants.RowReads.{AreRead, BeginsRows, IsStopped}
+use Rattle.abi_inspect.specs.invariants.RowReads.{AreReadFrom, BeginsRows, IsStopped}
 
 -- lists of lines
 
@@ -266,7 +266,7 @@ module _ (h : Classes) (rows : List Row) (text : List ℕ) (values : List SeenVa
       let g = so.only others (record { rest = concat (drop i (row_lines h rows others)); fits = fits; enough = omega (arith, many, end); is = is ∙ two_parts (row_lines h rows others) i }) in
       g.is ∙ (ap (λ (vs : List SeenValue). values ++ vs) (no_more g.more (subst (λ (rs : List Row). AreValuesOf rs g.more) all g.fits)) ∙ no_values_behind values)
 
-  pub rows_read : rest ≡ [] → AreRead h rows text values
+  pub rows_read : rest ≡ [] → AreReadFrom h rows text values
   rows_read none = record {
     fits = fits_all;
     is = so.is ∙ (ap (λ (l : List ℕ). concat so.done ++ l) none ∙ (nothing_behind (concat so.done) ∙ ap concat (sym lines_all)));
@@ -337,7 +337,7 @@ leaf_next h rows text i values after rest x found v left so there is some each v
 
 -- the end of the rows
 
-pub all_read : (h : Classes) (rows : List Row) (text : List ℕ) (i : ℕ) (values : List SeenValue) (rest : List ℕ) → IsReadTo h rows text i values rest → i ≡ length rows → rest ≡ [] → AreRead h rows text values
+pub all_read : (h : Classes) (rows : List Row) (text : List ℕ) (i : ℕ) (values : List SeenValue) (rest : List ℕ) → IsReadTo h rows text i values rest → i ≡ length rows → rest ≡ [] → AreReadFrom h rows text values
 all_read h rows text i values rest so end none = rows_read h rows text values rest i so (drop_all i rows (omega (arith, end))) end none
 
 pub some_left : (h : Classes) (rows : List Row) (text : List ℕ) (i : ℕ) (values : List SeenValue) (rest : List ℕ) → IsReadTo h rows text i values rest → i ≡ length rows → (rest ≡ [] → ⊥) → IsStopped h rows text (length rows)

@@ -14,9 +14,9 @@ use Rattle.byte_code.proofs.Words.{word_of-fits}
 use Rattle.abi_inspect.specs.declared.seen.SeenValue.{SeenValue}
 use Rattle.abi_inspect.specs.declared.seen.SeenValue.TheVariants.{Unset, Number, Null, Place}
 use Rattle.abi_inspect.specs.declared.slots.LeafLine.{LeafLine}
-use Rattle.abi_inspect.specs.Values.{IsHeld, IsPlace, IsValueOf, most_number}
+use Rattle.abi_inspect.specs.Values.{IsNumberOfLeaf, IsHeapPlace, IsValueOf, most_dumped_number}
 use Rattle.abi_inspect.specs.SeenTexts.{leaf_line}
-use Rattle.abi_inspect.specs.invariants.Readable.{IsNarrow, bits_in}
+use Rattle.abi_inspect.specs.invariants.Readable.{IsNarrow, number_bits}
 use Rattle.abi_inspect.proofs.Cuts.{IsCut}
 use Rattle.abi_inspect.proofs.Ranges.{bits_of_word, most_narrow, range_width}
 use Rattle.abi_inspect.proofs.Readings.{number_fits}
@@ -82,15 +82,15 @@ pub record HasValue (width : Option ℕ) (type : ValueType ClassId) (line : Seen
 
 module _ (width : Option ℕ) (line : SeenValue → List ℕ) (text : List ℕ) where
   -- numbers: each is that of a word
-  search_number : (t : Scalar) (bound : ℕ) → ((z : ℤ) → IsHeld width t z → (word : ℕ) × (word < bound) × (number_of_bits (record { bits = bits_in width t; signed = is_signed t }) word ≡ z)) →
-      HasValue width (NumberType t) line text ⊎ ((z : ℤ) → IsHeld width t z → Begins text (line (Number z)) → ⊥)
+  search_number : (t : Scalar) (bound : ℕ) → ((z : ℤ) → IsNumberOfLeaf width t z → (word : ℕ) × (word < bound) × (number_of_bits (record { bits = number_bits width t; signed = is_signed t }) word ≡ z)) →
+      HasValue width (NumberType t) line text ⊎ ((z : ℤ) → IsNumberOfLeaf width t z → Begins text (line (Number z)) → ⊥)
   search_number t bound each = ⊎_elim
-      (λ k. inl (record { value = Number (number_of_bits (record { bits = bits_in width t; signed = is_signed t }) k.number); fits = number_fits width t k.number; rest = k.is.rest; is = k.is.is }))
+      (λ k. inl (record { value = Number (number_of_bits (record { bits = number_bits width t; signed = is_signed t }) k.number); fits = number_fits width t k.number; rest = k.is.rest; is = k.is.is }))
       (λ none. inr (λ z held begins. let w = each z held in none w.0 w.1 (subst (λ (y : ℤ). Begins text (line (Number y))) (sym w.2) begins)))
-      (decide_below (λ word. Begins text (line (Number (number_of_bits (record { bits = bits_in width t; signed = is_signed t }) word)))) bound
-      (λ i lt. decide_begins text (line (Number (number_of_bits (record { bits = bits_in width t; signed = is_signed t }) i)))))
+      (decide_below (λ word. Begins text (line (Number (number_of_bits (record { bits = number_bits width t; signed = is_signed t }) word)))) bound
+      (λ i lt. decide_begins text (line (Number (number_of_bits (record { bits = number_bits width t; signed = is_signed t }) i)))))
 
-  decide_number_value : (t : Scalar) (bound : ℕ) → ((z : ℤ) → IsHeld width t z → (word : ℕ) × (word < bound) × (number_of_bits (record { bits = bits_in width t; signed = is_signed t }) word ≡ z)) →
+  decide_number_value : (t : Scalar) (bound : ℕ) → ((z : ℤ) → IsNumberOfLeaf width t z → (word : ℕ) × (word < bound) × (number_of_bits (record { bits = number_bits width t; signed = is_signed t }) word ≡ z)) →
       Decided (HasValue width (NumberType t) line text)
   decide_number_value t bound each = ⊎_elim
       (λ b. inl (record { value = Unset; fits = tt; rest = b.rest; is = b.is }))
@@ -100,7 +100,7 @@ module _ (width : Option ℕ) (line : SeenValue → List ℕ) (text : List ℕ) 
       (search_number t bound each))
       (decide_begins text (line Unset))
     where
-      no_value : (Begins text (line Unset) → ⊥) → ((z : ℤ) → IsHeld width t z → Begins text (line (Number z)) → ⊥) → (v : SeenValue) → IsValueOf width (NumberType t) v → Begins text (line v) → ⊥
+      no_value : (Begins text (line Unset) → ⊥) → ((z : ℤ) → IsNumberOfLeaf width t z → Begins text (line (Number z)) → ⊥) → (v : SeenValue) → IsValueOf width (NumberType t) v → Begins text (line v) → ⊥
       no_value unset none Unset fits b = unset b
       no_value unset none (Number z) fits b = none z fits b
       no_value unset none Null fits b = absurd fits
@@ -111,20 +111,20 @@ module _ (width : Option ℕ) (line : SeenValue → List ℕ) (text : List ℕ) 
   search_place most = decide_below (λ i. HasBelow (λ j. Begins text (line (Place (suc i) j))) (suc most)) most
       (λ i lt. decide_has_below (λ j. Begins text (line (Place (suc i) j))) (suc most) (λ j less. decide_begins text (line (Place (suc i) j))))
 
-  decide_place : (most : ℕ) → most ≡ most_number → ((number place : ℕ) × IsPlace number place × Begins text (line (Place number place))) ⊎ ((number place : ℕ) → IsPlace number place → Begins text (line (Place number place)) → ⊥)
+  decide_place : (most : ℕ) → most ≡ most_dumped_number → ((number place : ℕ) × IsHeapPlace number place × Begins text (line (Place number place))) ⊎ ((number place : ℕ) → IsHeapPlace number place → Begins text (line (Place number place)) → ⊥)
   decide_place most same = ⊎_elim
       (λ k. inl (suc k.number, k.is.number, (let lt = k.below in let near = k.is.below in record { low = omega arith; high = omega (arith, same, lt); near = omega (arith, same, near) }), k.is.is))
       (λ none. inr (λ number place is b. no_place none number place is b))
       (search_place most)
     where
-      no_place : ((i : ℕ) → i < most → HasBelow (λ j. Begins text (line (Place (suc i) j))) (suc most) → ⊥) → (number place : ℕ) → IsPlace number place → Begins text (line (Place number place)) → ⊥
+      no_place : ((i : ℕ) → i < most → HasBelow (λ j. Begins text (line (Place (suc i) j))) (suc most) → ⊥) → (number place : ℕ) → IsHeapPlace number place → Begins text (line (Place number place)) → ⊥
       no_place none zero place is b = let low = is.low in omega (arith, low)
       no_place none (suc i) place is b =
           let high = is.high in
           let near = is.near in
           none i (omega (arith, same, high)) (record { number = place; below = omega (arith, same, near); is = b })
 
-  decide_pointer : (c : ClassId) (most : ℕ) → most ≡ most_number → Decided (HasValue width (PointerType c) line text)
+  decide_pointer : (c : ClassId) (most : ℕ) → most ≡ most_dumped_number → Decided (HasValue width (PointerType c) line text)
   decide_pointer c most same = ⊎_elim
       (λ b. inl (record { value = Unset; fits = tt; rest = b.rest; is = b.is }))
       (λ unset. ⊎_elim
@@ -136,21 +136,21 @@ module _ (width : Option ℕ) (line : SeenValue → List ℕ) (text : List ℕ) 
       (decide_begins text (line Null)))
       (decide_begins text (line Unset))
     where
-      no_value : (Begins text (line Unset) → ⊥) → (Begins text (line Null) → ⊥) → ((number place : ℕ) → IsPlace number place → Begins text (line (Place number place)) → ⊥) → (v : SeenValue) → IsValueOf width (PointerType c) v → Begins text (line v) → ⊥
+      no_value : (Begins text (line Unset) → ⊥) → (Begins text (line Null) → ⊥) → ((number place : ℕ) → IsHeapPlace number place → Begins text (line (Place number place)) → ⊥) → (v : SeenValue) → IsValueOf width (PointerType c) v → Begins text (line v) → ⊥
       no_value unset null none Unset fits b = unset b
       no_value unset null none (Number z) fits b = absurd fits
       no_value unset null none Null fits b = null b
       no_value unset null none (Place number place) fits b = none number place fits b
 
 -- each number that a leaf can hold is that of its word
-word_for : (width : Option ℕ) (t : Scalar) → IsNarrow width → (z : ℤ) → IsHeld width t z → (word : ℕ) × (word < 2 ^ 64) × (number_of_bits (record { bits = bits_in width t; signed = is_signed t }) word ≡ z)
+word_for : (width : Option ℕ) (t : Scalar) → IsNarrow width → (z : ℤ) → IsNumberOfLeaf width t z → (word : ℕ) × (word < 2 ^ 64) × (number_of_bits (record { bits = number_bits width t; signed = is_signed t }) word ≡ z)
 word_for None t narrow z held = (word_of z, word_of-fits z, bits_of_word t (most_bits t) z (most_narrow t) (range_width t z held))
 word_for (Some n) t narrow z held = (word_of z, word_of-fits z, bits_of_word t n z narrow held)
 
 -- whether a text begins with the line of a value
 decide_value : (width : Option ℕ) (type : ValueType ClassId) (line : SeenValue → List ℕ) (text : List ℕ) → IsNarrow width → Decided (HasValue width type line text)
 decide_value width (NumberType t) line text narrow = decide_number_value width line text t (2 ^ 64) (word_for width t narrow)
-decide_value width (PointerType c) line text narrow = decide_pointer width line text c most_number refl
+decide_value width (PointerType c) line text narrow = decide_pointer width line text c most_dumped_number refl
 
 pub decide_leaf : (h : Classes) (x : LeafLine) (text : List ℕ) → IsNarrow x.bits.width → Decided (HasValue x.bits.width x.ty (leaf_line h x) text)
 decide_leaf h x text narrow = decide_value x.bits.width x.ty (leaf_line h x) text narrow

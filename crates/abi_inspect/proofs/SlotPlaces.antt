@@ -28,7 +28,7 @@ use Rattle.abi_inspect.specs.declared.slots.Slot.{Slot}
 use Rattle.abi_inspect.specs.declared.slots.LeafLine.{LeafLine}
 use Rattle.abi_inspect.specs.declared.slots.Row.{Row}
 use Rattle.abi_inspect.specs.declared.slots.Row.TheVariants.{Fixed, Leaf}
-use Rattle.abi_inspect.specs.Rows.{begins_at, bit_of, by_place, gap_rows, leaf_by_type, leaf_slot, pointer_slot, rows_from, slots_of}
+use Rattle.abi_inspect.specs.Rows.{slot_starts_at, slot_bit, slots_by_place, gap_rows, typed_leaf_slot, leaf_slot, pointer_slot, rows_from, slots_of}
 use Rattle.abi_inspect.specs.invariants.Readable.{IsNarrow}
 
 -- the leaf of a row has at most 64 bits
@@ -43,14 +43,14 @@ pub record LiesIn (size : ℕ) (slot : Slot) : Type 0 where
   pub few : slot.size ≤ 8
   pub narrow : IsNarrowRow slot.row
 
-pub begins_inside : (size : ℕ) (slot : Slot) → LiesIn size slot → bit_of slot < 8 * size
+pub begins_inside : (size : ℕ) (slot : Slot) → LiesIn size slot → slot_bit slot < 8 * size
 begins_inside size slot lies = let inside = lies.inside in let near = lies.near in omega arith
 
 narrow_by : (row : LeafRow) (width : Option ℕ) → ((t : ValueType ClassId) → row.first + bits_of_value width t ≤ 64) → (t : ValueType ClassId) → IsNarrow width
 narrow_by row None near t = tt
 narrow_by row (Some n) near t = let le = near t in omega (arith, le)
 
-leaf_lies : (size : ℕ) (row : LeafRow) (width : Option ℕ) (o : Option (ValueType ClassId)) → row.place < size → (row.first < 8) × ((t : ValueType ClassId) → row.first + bits_of_value width t ≤ 64) → LiesIn size (leaf_by_type row width o)
+leaf_lies : (size : ℕ) (row : LeafRow) (width : Option ℕ) (o : Option (ValueType ClassId)) → row.place < size → (row.first < 8) × ((t : ValueType ClassId) → row.first + bits_of_value width t ≤ 64) → LiesIn size (typed_leaf_slot row width o)
 leaf_lies size row width None lt near = record { inside = lt; near = omega arith; few = omega arith; narrow = tt }
 leaf_lies size row width (Some type) lt near = record { inside = lt; near = near.0; few = few_touched row.first (bits_of_value width type) (near.1 type); narrow = narrow_by row width near.1 type }
 
@@ -77,10 +77,10 @@ slots_lie h rows keeps sound c known slot has = ⊎_elim from_pointer from_leaf 
         subst (LiesIn (l.size c)) f.2 (leaf_lies (l.size c) row (width_of_member h row.class row.number) (value_type (member_at h (Some row.class) row.number)) (row_inside h rows keeps sound (c.0 + 1) c row known f.1)
         (row_starts h rows sound (c.0 + 1) c row known f.1))
 
-pub from_by_place : (size : ℕ) (slots : List Slot) (slot : Slot) → Has (by_place size slots) slot → Has slots slot
+pub from_by_place : (size : ℕ) (slots : List Slot) (slot : Slot) → Has (slots_by_place size slots) slot → Has slots slot
 from_by_place size slots slot has =
-    let f = from_flat_map (λ bit. filter (begins_at bit) slots) (range_with_len 0 (8 * size)) slot has in
-    (has_filter (begins_at f.0) slots slot f.2).0
+    let f = from_flat_map (λ bit. filter (slot_starts_at bit) slots) (range_with_len 0 (8 * size)) slot has in
+    (has_filter (slot_starts_at f.0) slots slot f.2).0
 
 -- the leaves among rows are those of slots
 

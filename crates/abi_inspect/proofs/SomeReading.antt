@@ -21,13 +21,13 @@ use Rattle.abi_inspect.specs.declared.seen.SeenValue.{SeenValue}
 use Rattle.abi_inspect.specs.declared.slots.LeafLine.{LeafLine}
 use Rattle.abi_inspect.specs.declared.slots.Row.{Row}
 use Rattle.abi_inspect.specs.declared.slots.Row.TheVariants.{Fixed, Leaf}
-use Rattle.abi_inspect.specs.Values.{most_number}
+use Rattle.abi_inspect.specs.Values.{most_dumped_number}
 use Rattle.abi_inspect.specs.Rows.{rows_of}
-use Rattle.abi_inspect.specs.SeenTexts.{first_line}
-use Rattle.abi_inspect.specs.Faults.{AreNamesWords, IsDumpOf, IsFirstFault, NamesNoClass}
+use Rattle.abi_inspect.specs.SeenTexts.{dump_heading}
+use Rattle.abi_inspect.specs.Faults.{AreNamesWords, IsDumpOf, IsFirstBadLine, NamesNoClass}
 use Rattle.abi_inspect.specs.invariants.FirstLines.{AreFormed, IsFirstLine}
 use Rattle.abi_inspect.specs.invariants.Readable.{IsNarrow}
-use Rattle.abi_inspect.specs.invariants.RowReads.{AreRead, IsStopped}
+use Rattle.abi_inspect.specs.invariants.RowReads.{AreReadFrom, IsStopped}
 use Rattle.abi_inspect.specs.invariants.Inspections.{IsObjectOf}
 use Rattle.abi_inspect.proofs.Tokens.{small_word}
 use Rattle.abi_inspect.proofs.Headers.{has_line, has_other_space, has_space, line_cut, number_cut, parts_cut, word_made, word_parts}
@@ -51,7 +51,7 @@ next_rows rows i row left e =
 
 -- the rows are read with values, or stop
 abbrev pub AnswersRows : Classes → List Row → List ℕ → Type 0
-AnswersRows h rows text = ((values : List SeenValue) × AreRead h rows text values) ⊎ ((lines : ℕ) × IsStopped h rows text lines)
+AnswersRows h rows text = ((values : List SeenValue) × AreReadFrom h rows text values) ⊎ ((lines : ℕ) × IsStopped h rows text lines)
 
 module _ (h : Classes) (rows : List Row) (text : List ℕ) where
   at_end : (i : ℕ) (values : List SeenValue) (rest : List ℕ) → i ≡ length rows → IsReadTo h rows text i values rest → AnswersRows h rows text
@@ -153,30 +153,30 @@ decide_formed number name size = ⊎_elim
     (decide_flag (is_numeral number))
 
 -- the object of a number
-decide_object : (digits : List ℕ) (most : ℕ) → most ≡ most_number → ((object : ℕ) × IsObjectOf digits object) ⊎ ((n : ℕ) → 1 ≤ n → n ≤ most_number → digits ≡ decimal n → ⊥)
+decide_object : (digits : List ℕ) (most : ℕ) → most ≡ most_dumped_number → ((object : ℕ) × IsObjectOf digits object) ⊎ ((n : ℕ) → 1 ≤ n → n ≤ most_dumped_number → digits ≡ decimal n → ⊥)
 decide_object digits most same = ⊎_elim (λ k. inl (object_at k.number k.below k.is)) (λ none. inr (λ n low high e. no_object_at none n low high e))
     (decide_below (λ i. digits ≡ decimal (suc i)) most (λ i lt. decide_list decide_number digits (decimal (suc i))))
   where
     object_at : (i : ℕ) → i < most → digits ≡ decimal (suc i) → (object : ℕ) × IsObjectOf digits object
     object_at i lt is =
-        let high : suc i ≤ most_number = omega (arith, same, lt) in
+        let high : suc i ≤ most_dumped_number = omega (arith, same, lt) in
         (suc i, record { low = omega arith; high = high; one = λ n le e. decimal_injective (suc i) n (small_word (suc i) high) (small_word n le) (sym is ∙ e) })
 
-    no_object_at : ((i : ℕ) → i < most → digits ≡ decimal (suc i) → ⊥) → (n : ℕ) → 1 ≤ n → n ≤ most_number → digits ≡ decimal n → ⊥
+    no_object_at : ((i : ℕ) → i < most → digits ≡ decimal (suc i) → ⊥) → (n : ℕ) → 1 ≤ n → n ≤ most_dumped_number → digits ≡ decimal n → ⊥
     no_object_at none zero low high e = omega (arith, low)
     no_object_at none (suc i) low high e = none i (omega (arith, same, high)) e
 
 -- the readings of a text
 abbrev pub HasReading : Classes → Places → List ℕ → Type 0
-HasReading h l text = ((seen : Seen) × IsDumpOf h l seen text) ⊎ (NamesNoClass h text ⊎ ((line : ℕ) × IsFirstFault h l text line))
+HasReading h l text = ((seen : Seen) × IsDumpOf h l seen text) ⊎ (NamesNoClass h text ⊎ ((line : ℕ) × IsFirstBadLine h l text line))
 
 module _ (h : Classes) (rows : List ClassLayout) (words : AreNamesWords h) (keeps : IsHierarchy h) (sound : IsSoundLayout h rows) (text : List ℕ) where
-  fault_at : (line : ℕ) → IsFirstFault h (places_of h rows) text line → HasReading h (places_of h rows) text
+  fault_at : (line : ℕ) → IsFirstBadLine h (places_of h rows) text line → HasReading h (places_of h rows) text
   fault_at line fault = inr (inr (line, fault))
 
   module _ (number name size rest : List ℕ) (line : IsFirstLine number name size rest text) where
     -- the lines behind the first
-    behind_line : (c : ClassId) (object : ℕ) → slice_get (class_names h) c.0 ≡ Some name → IsObjectOf number object → (left : List ℕ) → text ≡ first_line h (places_of h rows) object c ++ left → HasReading h (places_of h rows) text
+    behind_line : (c : ClassId) (object : ℕ) → slice_get (class_names h) c.0 ≡ Some name → IsObjectOf number object → (left : List ℕ) → text ≡ dump_heading h (places_of h rows) object c ++ left → HasReading h (places_of h rows) text
     behind_line c object found of left begins =
         let l : Places = places_of h rows in
         let known : c.0 < length h = known_class h c name found in
@@ -195,9 +195,9 @@ module _ (h : Classes) (rows : List ClassLayout) (words : AreNamesWords h) (keep
         (λ o. ⊎_elim
         (λ b. behind_line c o.0 found o.1 b.rest b.is)
         (λ none. fault_at 1 (first_fault h l words (sizes_small h rows sound) text otherwise (other_first h l words (sizes_small h rows sound) number name size rest text line keeps c o.0 found o.1 (λ r e. none (record { rest = r; is = e })))))
-        (decide_begins text (first_line h l o.0 c)))
+        (decide_begins text (dump_heading h l o.0 c)))
         (λ none. fault_at 1 (first_fault h l words (sizes_small h rows sound) text otherwise (no_object h l words (sizes_small h rows sound) number name size rest text line none)))
-        (decide_object number most_number refl)
+        (decide_object number most_dumped_number refl)
 
     -- one that names none
     of_none : (Contains (class_names h) name → ⊥) → HasReading h (places_of h rows) text

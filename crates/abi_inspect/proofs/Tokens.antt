@@ -15,7 +15,7 @@ use Rattle.abi_print.specs.Texts.{location_text}
 use Rattle.text_told.specs.Dumps.{unset_text}
 use Rattle.abi_inspect.specs.declared.seen.SeenValue.{SeenValue}
 use Rattle.abi_inspect.specs.declared.seen.SeenValue.TheVariants.{Unset, Number, Null, Place}
-use Rattle.abi_inspect.specs.Values.{IsHeld, IsPlace, IsValueOf, number_value, unset_value, value_text}
+use Rattle.abi_inspect.specs.Values.{IsNumberOfLeaf, IsHeapPlace, IsValueOf, number_value_text, unset_value, value_text}
 use Rattle.abi_inspect.specs.invariants.Digits.{IsBelowWord}
 use Rattle.abi_inspect.specs.invariants.Readable.{IsNarrow}
 use Rattle.abi_inspect.proofs.Digits.{decimal_digits, no_low}
@@ -58,7 +58,7 @@ no_signed (pos a) small has = no_low (decimal a) 32 (omega arith) (decimal_digit
 no_signed (negsuc a) small (inl e) = absurd (omega (arith, e))
 no_signed (negsuc a) small (inr has) = no_low (decimal (suc a)) 32 (omega arith) (decimal_digits (suc a) small) has
 
-no_number : (width : Option ℕ) (t : Scalar) (z : ℤ) → IsNarrow width → IsHeld width t z → Has (number_value width (NumberType t) z) 32 → ⊥
+no_number : (width : Option ℕ) (t : Scalar) (z : ℤ) → IsNarrow width → IsNumberOfLeaf width t z → Has (number_value_text width (NumberType t) z) 32 → ⊥
 no_number None t z narrow held has = no_space_in_bytes (take (size_of t) (to_le_bytes w64 (word_of z))) 32 (omega arith) has
 no_number (Some n) t z narrow held has = no_signed z (below_word t n z narrow held) has
 
@@ -76,7 +76,7 @@ no_digit n c lt low has = no_low (decimal n) c low (decimal_digits n lt) has
 pub small_word : (n : ℕ) → n ≤ 4294967295 → n < 2 ^ 64
 small_word n le = omega arith
 
-no_place : (number place : ℕ) → IsPlace number place → Has (location_text number place) 32 → ⊥
+no_place : (number place : ℕ) → IsHeapPlace number place → Has (location_text number place) 32 → ⊥
 no_place number place is (inl e) = absurd (omega (arith, e))
 no_place number place is (inr has) =
     ⊎_elim front back (has_cases (decimal number ++ codes "+") (decimal place) 32 has)
@@ -103,7 +103,7 @@ no_space width (PointerType c) Null narrow fits has = no_null has
 no_space width (PointerType c) (Place number place) narrow fits has = no_place number place fits has
 
 -- a number does not begin with `--`
-pub no_dashes : (width : Option ℕ) (t : Scalar) (z : ℤ) (rest : List ℕ) → IsNarrow width → IsHeld width t z → number_value width (NumberType t) z ≡ 45 ∷ 45 ∷ rest → ⊥
+pub no_dashes : (width : Option ℕ) (t : Scalar) (z : ℤ) (rest : List ℕ) → IsNarrow width → IsNumberOfLeaf width t z → number_value_text width (NumberType t) z ≡ 45 ∷ 45 ∷ rest → ⊥
 no_dashes None t z rest narrow held e =
     no_space_in_bytes (take (size_of t) (to_le_bytes w64 (word_of z))) 45 (omega arith) (subst (λ (ds : List ℕ). Has ds 45) (sym e) (inl refl))
 no_dashes (Some n) t (pos a) rest narrow held e =

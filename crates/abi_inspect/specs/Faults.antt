@@ -9,7 +9,7 @@ use Rattle.abi_sound.specs.Places.{Places}
 use Rattle.abi_inspect.specs.declared.seen.Seen.{Seen}
 use Rattle.abi_inspect.specs.declared.seen.InspectFault.{InspectFault}
 use Rattle.abi_inspect.specs.declared.seen.InspectFault.TheVariants.{UnknownClass, Form, NoMemory}
-use Rattle.abi_inspect.specs.SeenTexts.{IsFitting, dump_of, lines_of}
+use Rattle.abi_inspect.specs.SeenTexts.{IsFitting, dump_of_seen, dump_lines}
 
 -- the name of each class is a word, as it is in a source (ISO C++03 2.10)
 pub record AreNamesWords (h : Classes) : Type 0 where
@@ -31,19 +31,19 @@ pub record NamesNoClass (h : Classes) (text : List ℕ) : Type 0 where
 -- the text is the dump of these values
 pub record IsDumpOf (h : Classes) (l : Places) (seen : Seen) (text : List ℕ) : Type 0 where
   pub fits : IsFitting h l seen
-  pub is : text ≡ dump_of h l seen
+  pub is : text ≡ dump_of_seen h l seen
 
 -- the text begins with so many lines of a dump
 pub record BeginsDump (h : Classes) (l : Places) (text : List ℕ) (lines : ℕ) : Type 0 where
   pub seen : Seen
   pub rest : List ℕ
   pub fits : IsFitting h l seen
-  pub enough : lines ≤ length (lines_of h l seen)
-  pub is : text ≡ concat (take lines (lines_of h l seen)) ++ rest
+  pub enough : lines ≤ length (dump_lines h l seen)
+  pub is : text ≡ concat (take lines (dump_lines h l seen)) ++ rest
 
 -- the text is no dump, and this is the first line with which it begins none, or the line after the last where lines are missing. Lines
 -- count from 1
-pub record IsFirstFault (h : Classes) (l : Places) (text : List ℕ) (line : ℕ) : Type 0 where
+pub record IsFirstBadLine (h : Classes) (l : Places) (text : List ℕ) (line : ℕ) : Type 0 where
   pub low : 1 ≤ line
   pub none : (seen : Seen) → IsDumpOf h l seen text → ⊥
   pub otherwise : NamesNoClass h text → ⊥
@@ -51,7 +51,7 @@ pub record IsFirstFault (h : Classes) (l : Places) (text : List ℕ) (line : ℕ
   pub here : BeginsDump h l text line → ⊥
 
 -- why a text has no values
-abbrev pub IsFault : Classes → Places → List ℕ → InspectFault → Type 0
-IsFault h l text UnknownClass = NamesNoClass h text
-IsFault h l text (Form line) = IsFirstFault h l text line
-IsFault h l text NoMemory = Unit {0}
+abbrev pub IsDumpFault : Classes → Places → List ℕ → InspectFault → Type 0
+IsDumpFault h l text UnknownClass = NamesNoClass h text
+IsDumpFault h l text (Form line) = IsFirstBadLine h l text line
+IsDumpFault h l text NoMemory = Unit {0}

@@ -24,9 +24,9 @@ abbrev pub pointer_slot : Item → Slot
 pointer_slot item = record { place = item.place; first = item.first; size = item.size; row = Fixed (decimal item.place ++ codes " " ++ item.text) }
 
 -- a leaf, by its width and its type
-abbrev pub leaf_by_type : LeafRow → Option ℕ → Option (ValueType ClassId) → Slot
-leaf_by_type row width None = record { place = row.place; first = 0; size = 0; row = Fixed [] }
-leaf_by_type row width (Some type) = record {
+abbrev pub typed_leaf_slot : LeafRow → Option ℕ → Option (ValueType ClassId) → Slot
+typed_leaf_slot row width None = record { place = row.place; first = 0; size = 0; row = Fixed [] }
+typed_leaf_slot row width (Some type) = record {
   place = row.place;
   first = row.first;
   size = bytes_touched row.first (bits_of_value width type);
@@ -34,7 +34,7 @@ leaf_by_type row width (Some type) = record {
 }
 
 abbrev pub leaf_slot : Classes → LeafRow → Slot
-leaf_slot h row = leaf_by_type row (width_of_member h row.class row.number) (value_type (member_at h (Some row.class) row.number))
+leaf_slot h row = typed_leaf_slot row (width_of_member h row.class row.number) (value_type (member_at h (Some row.class) row.number))
 
 -- the virtual pointers and leaves of an object of class c (Itanium C++ ABI 2.4, 2.5)
 abbrev pub slots_of : Classes → Places → ClassId → List Slot
@@ -43,15 +43,15 @@ slots_of h l c = map pointer_slot (map (pointer_item h) (pointers_of h l c)) ++ 
 -- their order
 
 -- the bit at which a slot begins, counted from the first bit of the object
-abbrev pub bit_of : Slot → ℕ
-bit_of slot = 8 * slot.place + slot.first
+abbrev pub slot_bit : Slot → ℕ
+slot_bit slot = 8 * slot.place + slot.first
 
-abbrev pub begins_at : ℕ → Slot → Bool
-begins_at bit slot = nat_eq (bit_of slot) bit
+abbrev pub slot_starts_at : ℕ → Slot → Bool
+slot_starts_at bit slot = nat_eq (slot_bit slot) bit
 
 -- the slots of an object of this size by place, and at one place by their first bits: for each bit those that begin there
-abbrev pub by_place : ℕ → List Slot → List Slot
-by_place size slots = flat_map (λ bit. filter (begins_at bit) slots) (range_with_len 0 (8 * size))
+abbrev pub slots_by_place : ℕ → List Slot → List Slot
+slots_by_place size slots = flat_map (λ bit. filter (slot_starts_at bit) slots) (range_with_len 0 (8 * size))
 
 -- the bytes from a place to another, if there are any, have nothing in them
 abbrev pub gap_rows : ℕ → ℕ → List Row
@@ -65,4 +65,4 @@ rows_from end at (slot ∷ slots) = gap_rows at slot.place ++ slot.row ∷ rows_
 
 -- the lines of an object of class c behind the first line of its dump
 abbrev pub rows_of : Classes → Places → ClassId → List Row
-rows_of h l c = rows_from (l.size c) 0 (by_place (l.size c) (slots_of h l c))
+rows_of h l c = rows_from (l.size c) 0 (slots_by_place (l.size c) (slots_of h l c))

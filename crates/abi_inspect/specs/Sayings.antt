@@ -3,7 +3,7 @@ use Rattle.std.specs.Prelude.{List, [], ◌∷◌, ◌++◌, codes, ℕ}
 use Rattle.std.specs.Fmt.{decimal, signed_decimal}
 use Rattle.cxx_hierarchy.specs.Classes.{Classes}
 use Rattle.abi_sound.specs.Places.{Places}
-use Rattle.abi_print.specs.LayoutTexts.{name_of}
+use Rattle.abi_print.specs.LayoutTexts.{declared_class_name}
 use Rattle.abi_print.specs.Texts.{location_text}
 use Rattle.abi_inspect.specs.declared.seen.SeenValue.{SeenValue}
 use Rattle.abi_inspect.specs.declared.seen.SeenValue.TheVariants.{Unset, Number, Null, Place}
@@ -33,4 +33,4 @@ said_leaves (Leaf x ∷ rows) (value ∷ values) = said_leaf x value ++ said_lea
 
 -- the object and its class, and each leaf in the order of the dump
 abbrev pub seen_text : Classes → Places → Seen → List ℕ
-seen_text h l seen = codes "object " ++ decimal seen.object ++ codes " class " ++ name_of h seen.class ++ codes "\n" ++ said_leaves (rows_of h l seen.class) seen.leaves
+seen_text h l seen = codes "object " ++ decimal seen.object ++ codes " class " ++ declared_class_name h seen.class ++ codes "\n" ++ said_leaves (rows_of h l seen.class) seen.leaves

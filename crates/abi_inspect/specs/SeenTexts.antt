@@ -5,13 +5,13 @@ use Rattle.std.specs.Fmt.{decimal}
 use Rattle.cxx_hierarchy.specs.declared.records.ClassId.{ClassId}
 use Rattle.cxx_hierarchy.specs.Classes.{Classes}
 use Rattle.abi_sound.specs.Places.{Places}
-use Rattle.abi_print.specs.LayoutTexts.{bits_text, name_of, value_text as type_text}
+use Rattle.abi_print.specs.LayoutTexts.{bits_text, declared_class_name, value_type_text as type_text}
 use Rattle.abi_inspect.specs.declared.seen.SeenValue.{SeenValue}
 use Rattle.abi_inspect.specs.declared.seen.Seen.{Seen}
 use Rattle.abi_inspect.specs.declared.slots.LeafLine.{LeafLine}
 use Rattle.abi_inspect.specs.declared.slots.Row.{Row}
 use Rattle.abi_inspect.specs.declared.slots.Row.TheVariants.{Fixed, Leaf}
-use Rattle.abi_inspect.specs.Values.{IsValueOf, most_number, value_text}
+use Rattle.abi_inspect.specs.Values.{IsValueOf, most_dumped_number, value_text}
 use Rattle.abi_inspect.specs.Rows.{rows_of}
 
 -- a bit-field says its first bit and its width before its value (ISO C++03 9.6)
@@ -50,17 +50,17 @@ AreValuesOf (Leaf x ∷ rows) (value ∷ values) = IsValueOf x.bits.width x.ty v
 pub record IsFitting (h : Classes) (l : Places) (seen : Seen) : Type 0 where
   pub known : seen.class.0 < length h
   pub low : 1 ≤ seen.object
-  pub high : seen.object ≤ most_number
+  pub high : seen.object ≤ most_dumped_number
   pub leaves : AreValuesOf (rows_of h l seen.class) seen.leaves
 
 -- the first line: the number of the object, its class and the size of that
-abbrev pub first_line : Classes → Places → ℕ → ClassId → List ℕ
-first_line h l object c = codes "dump #" ++ decimal object ++ codes " " ++ name_of h c ++ codes " " ++ decimal (l.size c) ++ codes "\n"
+abbrev pub dump_heading : Classes → Places → ℕ → ClassId → List ℕ
+dump_heading h l object c = codes "dump #" ++ decimal object ++ codes " " ++ declared_class_name h c ++ codes " " ++ decimal (l.size c) ++ codes "\n"
 
 -- the lines of the dump, each with its line feed
-abbrev pub lines_of : Classes → Places → Seen → List (List ℕ)
-lines_of h l seen = first_line h l seen.object seen.class ∷ row_lines h (rows_of h l seen.class) seen.leaves
+abbrev pub dump_lines : Classes → Places → Seen → List (List ℕ)
+dump_lines h l seen = dump_heading h l seen.object seen.class ∷ row_lines h (rows_of h l seen.class) seen.leaves
 
 -- the dump: its first line, and by place the virtual pointers, the leaves and the gaps
-abbrev pub dump_of : Classes → Places → Seen → List ℕ
-dump_of h l seen = concat (lines_of h l seen)
+abbrev pub dump_of_seen : Classes → Places → Seen → List ℕ
+dump_of_seen h l seen = concat (dump_lines h l seen)

@@ -16,30 +16,30 @@ use Rattle.abi_inspect.specs.declared.seen.SeenValue.{SeenValue}
 use Rattle.abi_inspect.specs.declared.seen.SeenValue.TheVariants.{Unset, Number, Null, Place}
 
 -- the greatest number of an object, and the greatest place, that a dump can name
-abbrev pub most_number : ℕ
-most_number = 4294967295
+abbrev pub most_dumped_number : ℕ
+most_dumped_number = 4294967295
 
 -- a number that a leaf can hold: one of its type, or of the width of a bit-field (ISO C++03 3.9.1, 9.6)
-abbrev pub IsHeld : Option ℕ → Scalar → ℤ → Type 0
-IsHeld None t z = IsInRange t z
-IsHeld (Some n) t z = IsInWidth t n z
+abbrev pub IsNumberOfLeaf : Option ℕ → Scalar → ℤ → Type 0
+IsNumberOfLeaf None t z = IsInRange t z
+IsNumberOfLeaf (Some n) t z = IsInWidth t n z
 
 -- a place in a heap object; objects count from 1
-pub record IsPlace (number place : ℕ) : Type 0 where
+pub record IsHeapPlace (number place : ℕ) : Type 0 where
   pub low : 1 ≤ number
-  pub high : number ≤ most_number
-  pub near : place ≤ most_number
+  pub high : number ≤ most_dumped_number
+  pub near : place ≤ most_dumped_number
 
 -- a value that a leaf of a type, and of a width where it is a bit-field, can have
 abbrev pub IsValueOf : Option ℕ → ValueType ClassId → SeenValue → Type 0
 IsValueOf width (NumberType t) Unset = Unit {0}
-IsValueOf width (NumberType t) (Number z) = IsHeld width t z
+IsValueOf width (NumberType t) (Number z) = IsNumberOfLeaf width t z
 IsValueOf width (NumberType t) Null = ⊥
 IsValueOf width (NumberType t) (Place number place) = ⊥
 IsValueOf width (PointerType c) Unset = Unit {0}
 IsValueOf width (PointerType c) (Number z) = ⊥
 IsValueOf width (PointerType c) Null = Unit {0}
-IsValueOf width (PointerType c) (Place number place) = IsPlace number place
+IsValueOf width (PointerType c) (Place number place) = IsHeapPlace number place
 
 -- an unset leaf: `--` for each of its bytes, and for all bits of a bit-field
 abbrev pub unset_value : Option ℕ → ValueType ClassId → List ℕ
@@ -47,13 +47,13 @@ unset_value None type = unset_text (size_of_value type)
 unset_value (Some n) type = codes "--"
 
 -- a number: its bytes from the low one on, in two's complement, and the number itself in a bit-field
-abbrev pub number_value : Option ℕ → ValueType ClassId → ℤ → List ℕ
-number_value None type z = flat_map byte_text (take (size_of_value type) (to_le_bytes w64 (word_of z)))
-number_value (Some n) type z = signed_decimal z
+abbrev pub number_value_text : Option ℕ → ValueType ClassId → ℤ → List ℕ
+number_value_text None type z = flat_map byte_text (take (size_of_value type) (to_le_bytes w64 (word_of z)))
+number_value_text (Some n) type z = signed_decimal z
 
 -- the text of a value of a leaf
 abbrev pub value_text : Option ℕ → ValueType ClassId → SeenValue → List ℕ
 value_text width type Unset = unset_value width type
-value_text width type (Number z) = number_value width type z
+value_text width type (Number z) = number_value_text width type z
 value_text width type Null = codes "null"
 value_text width type (Place number place) = location_text number place

@@ -5,11 +5,11 @@ ghost use Rattle.std.specs.Fmt.{decimal};
 ghost use Rattle.cxx_hierarchy.specs.Classes.{class_names};
 ghost use Rattle.abi_sound.specs.Places.{places_of};
 ghost use Rattle.abi_inspect.specs.declared.seen.Seen.{Seen};
-ghost use Rattle.abi_inspect.specs.Values.{most_number};
-ghost use Rattle.abi_inspect.specs.SeenTexts.{first_line};
+ghost use Rattle.abi_inspect.specs.Values.{most_dumped_number};
+ghost use Rattle.abi_inspect.specs.SeenTexts.{dump_heading};
 ghost use Rattle.abi_inspect.specs.invariants.FirstLines.{AreFormed, IsFirstLine};
 ghost use Rattle.abi_inspect.specs.invariants.Inspections.{IsObjectOf, IsReadBehind};
-ghost use Rattle.abi_inspect.specs.Faults.{AreNamesWords, IsDumpOf, IsFault, NamesNoClass};
+ghost use Rattle.abi_inspect.specs.Faults.{AreNamesWords, IsDumpOf, IsDumpFault, NamesNoClass};
 
 use crate::header::{FirstLine, first_line, is_numeral, is_word};
 use crate::lines::append_first;
@@ -82,7 +82,7 @@ fn behind_first<'a, L: SoundLayout>(
 ) -> Result<Option<&'a [u8]>, NoMemory>
     requires layout { L.lays_out layout.now h.now }
     requires known { c.0 < length h.now }
-    ensures { IfOk result (λ found. MatchOption found ((rest : List ℕ) → text.now ≡ first_line h.now (places_of h.now (L.rows layout.now)) object c ++ rest → ⊥) (λ rest. text.now ≡ first_line h.now (places_of h.now (L.rows layout.now)) object c ++ rest.now)) }
+    ensures { IfOk result (λ found. MatchOption found ((rest : List ℕ) → text.now ≡ dump_heading h.now (places_of h.now (L.rows layout.now)) object c ++ rest → ⊥) (λ rest. text.now ≡ dump_heading h.now (places_of h.now (L.rows layout.now)) object c ++ rest.now)) }
 {
     let mut line = Vec::new(alloc);
     append_first(alloc, &mut line, h, object, c, layout.layout(c).size)?;
@@ -91,7 +91,7 @@ fn behind_first<'a, L: SoundLayout>(
 
 /// The number of an object whose digits these are; None where there is none from 1 to 4,294,967,295.
 fn object_of(digits: &[u8]) -> Option<u32>
-    ensures { MatchOption result ((n : ℕ) → 1 ≤ n → n ≤ most_number → digits.now ≡ decimal n → ⊥) (IsObjectOf digits.now) }
+    ensures { MatchOption result ((n : ℕ) → 1 ≤ n → n ≤ most_dumped_number → digits.now ≡ decimal n → ⊥) (IsObjectOf digits.now) }
 {
     match u32::try_from(read_number(digits)) {
         Ok(0) => None,
@@ -114,7 +114,7 @@ fn inspect_class<L: SoundLayout>(
     requires line { IsFirstLine line.now.number.now line.now.name.now line.now.size.now line.now.rest.now text.now }
     ensures found { IfOk result (λ seen. IsDumpOf h.now (places_of h.now (L.rows layout.now)) seen text.now) }
     ensures each { AreNamesWords h.now → (s : Seen) → IsDumpOf h.now (places_of h.now (L.rows layout.now)) s text.now → MatchResult result (λ seen. seen ≡ s) (λ fault. fault ≡ InspectFault.NoMemory) }
-    ensures fault { AreNamesWords h.now → IfErr result (λ fault. IsFault h.now (places_of h.now (L.rows layout.now)) text.now fault) }
+    ensures fault { AreNamesWords h.now → IfErr result (λ fault. IsDumpFault h.now (places_of h.now (L.rows layout.now)) text.now fault) }
 {
     h.keeps();
     let Some(object) = object_of(line.number) else {
@@ -140,7 +140,7 @@ pub fn inspect<L: SoundLayout>(
     ensures found { IfOk result (λ seen. IsDumpOf h.now (places_of h.now (L.rows layout.now)) seen text.now) }
     ensures each { AreNamesWords h.now → (s : Seen) → IsDumpOf h.now (places_of h.now (L.rows layout.now)) s text.now → MatchResult result (λ seen. seen ≡ s) (λ fault. fault ≡ InspectFault.NoMemory) }
     ensures unknown { NamesNoClass h.now text.now → MatchResult result (λ seen. ⊥) (λ fault. (fault ≡ InspectFault.UnknownClass) ⊎ (fault ≡ InspectFault.NoMemory)) }
-    ensures fault { AreNamesWords h.now → IfErr result (λ fault. IsFault h.now (places_of h.now (L.rows layout.now)) text.now fault) }
+    ensures fault { AreNamesWords h.now → IfErr result (λ fault. IsDumpFault h.now (places_of h.now (L.rows layout.now)) text.now fault) }
 {
     let Some(line) = first_line(text) else {
         return Err(InspectFault::Form(1));

@@ -2,7 +2,7 @@
 //!
 //! This crate owns the text of a dump by the values of its leaves: which values a leaf can have, and the text of each
 //! (`specs/Values.antt`); the lines of an object by its class and a layout alone, in the order of places (`specs/Rows.antt`); the lines
-//! with the values, and when values fit (`specs/SeenTexts.antt`: `dump_of`, `IsFitting`); why a text is no dump (`specs/Faults.antt`);
+//! with the values, and when values fit (`specs/SeenTexts.antt`: `dump_of_seen`, `IsFitting`); why a text is no dump (`specs/Faults.antt`);
 //! and how the values are said (`specs/Sayings.antt`: `seen_text`).
 //!
 //! The layer above may rely on: `inspect` gives the values exactly where they fit and the text is their dump, and else the fault with

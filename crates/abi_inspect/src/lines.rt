@@ -2,7 +2,7 @@
 
 ghost use Rattle.std.specs.Prelude.{◌≡◌, ◌++◌, ◌∷◌, [], ℕ, List, MatchOption, IfOk, OnOk, codes};
 ghost use Rattle.std.specs.Fmt.{decimal};
-ghost use Rattle.abi_print.specs.LayoutTexts.{name_of};
+ghost use Rattle.abi_print.specs.LayoutTexts.{declared_class_name};
 ghost use Rattle.abi_inspect.specs.declared.seen.SeenValue.{SeenValue};
 ghost use Rattle.abi_inspect.specs.Values.{IsValueOf};
 ghost use Rattle.abi_inspect.specs.SeenTexts.{before_value, behind_value, bits_before, leaf_line};
@@ -88,7 +88,7 @@ pub(crate) fn append_first(
     c: ClassId,
     size: u32,
 ) -> Result<(), NoMemory>
-    ensures { OnOk result (text.new.items ≡ text.old.items ++ codes "dump #" ++ decimal object ++ codes " " ++ name_of h.now c ++ codes " " ++ decimal size ++ codes "\n") }
+    ensures { OnOk result (text.new.items ≡ text.old.items ++ codes "dump #" ++ decimal object ++ codes " " ++ declared_class_name h.now c ++ codes " " ++ decimal size ++ codes "\n") }
 {
     append(text, b"dump #")?;
     append_number(alloc, text, object)?;

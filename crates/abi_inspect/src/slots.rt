@@ -7,7 +7,7 @@ ghost use Rattle.text_told.specs.declared.items.Item.{Item};
 ghost use Rattle.abi_inspect.specs.declared.slots.Slot.{Slot};
 ghost use Rattle.abi_inspect.specs.declared.slots.LeafLine.{LeafLine};
 ghost use Rattle.abi_inspect.specs.declared.slots.Row.TheVariants.{Leaf};
-ghost use Rattle.abi_inspect.specs.Rows.{bit_of, by_place, gap_rows, leaf_by_type, leaf_slot, pointer_slot, rows_from, rows_of, slots_of};
+ghost use Rattle.abi_inspect.specs.Rows.{slot_bit, slots_by_place, gap_rows, typed_leaf_slot, leaf_slot, pointer_slot, rows_from, rows_of, slots_of};
 ghost use Rattle.abi_inspect.specs.invariants.Readable.{IsNarrow};
 
 use abi_print::text::{append, append_number};
@@ -101,7 +101,7 @@ fn typed_slot(
 ) -> Result<Slot, NoMemory>
     requires first { bits.first ≡ row.now.first }
     requires few { (n : ℕ) → bits.width ≡ Some n → n ≤ 64 }
-    ensures { IfOk result (λ slot. slot ≡ leaf_by_type row.now bits.width (Some ty.now)) }
+    ensures { IfOk result (λ slot. slot ≡ typed_leaf_slot row.now bits.width (Some ty.now)) }
 {
     Ok(Slot {
         place: row.place,
@@ -173,15 +173,15 @@ fn slots_of<L: SoundLayout>(
 
 /// The bit at which a slot begins, counted from the first bit of the object.
 fn bit_of(slot: &Slot) -> u64
-    ensures { result ≡ bit_of slot.now }
+    ensures { result ≡ slot_bit slot.now }
 {
     8 * slot.place as u64 + slot.first as u64
 }
 
 /// Sorts slots by their places, and at one place by their first bits; each begins before the end of the object, whose size is in bytes.
 fn sort_by_place(slots: &mut Vec<Slot>, size: u32) -> Result<(), NoMemory>
-    requires { (slot : Slot) → Contains slots.old.items slot → bit_of slot < 8 * size }
-    ensures { OnOk result (slots.new.items ≡ by_place size slots.old.items) }
+    requires { (slot : Slot) → Contains slots.old.items slot → slot_bit slot < 8 * size }
+    ensures { OnOk result (slots.new.items ≡ slots_by_place size slots.old.items) }
 {
     slots.sort_by_key(|slot| bit_of(slot))?;
     Ok(())

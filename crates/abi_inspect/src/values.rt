@@ -9,10 +9,10 @@ ghost use Rattle.cxx_hierarchy.specs.Scalars.{is_signed, most_bits};
 ghost use Rattle.byte_code.specs.Numbers.{word_of};
 ghost use Rattle.abi_print.specs.Texts.{location_text};
 ghost use Rattle.text_told.specs.Dumps.{byte_text};
-ghost use Rattle.abi_inspect.specs.Values.{IsHeld, IsPlace, IsValueOf, number_value, unset_value, value_text};
+ghost use Rattle.abi_inspect.specs.Values.{IsNumberOfLeaf, IsHeapPlace, IsValueOf, number_value_text, unset_value, value_text};
 ghost use Rattle.abi_inspect.specs.declared.seen.SeenValue.{SeenValue};
 ghost use Rattle.abi_inspect.specs.invariants.Digits.{IsBelowWord, hex_word};
-ghost use Rattle.abi_inspect.specs.invariants.Readable.{IsNarrow, IsPointerValue, bits_in};
+ghost use Rattle.abi_inspect.specs.invariants.Readable.{IsNarrow, IsPointerValue, number_bits};
 
 use crate::numbers::{number_in, read_bytes, read_number, read_signed, word};
 use crate::seen::SeenValue;
@@ -58,7 +58,7 @@ fn append_number_value(
     ty: &ValueType<ClassId>,
     number: i128,
 ) -> Result<(), NoMemory>
-    ensures { OnOk result (text.new.items ≡ text.old.items ++ number_value width ty.now number) }
+    ensures { OnOk result (text.new.items ≡ text.old.items ++ number_value_text width ty.now number) }
 {
     match width {
         None => append_low_bytes(text, size_of_value(ty), number)?,
@@ -131,7 +131,7 @@ fn most_bits(scalar: Scalar) -> u8
 /// How many bits of a number stand in a leaf.
 fn bits_in(width: Option<u32>, scalar: Scalar) -> u8
     requires { IsNarrow width }
-    ensures is { result ≡ bits_in width scalar }
+    ensures is { result ≡ number_bits width scalar }
     ensures few { result ≤ 64 }
 {
     match width {
@@ -159,8 +159,8 @@ fn word_read(width: Option<u32>, text: &[u8]) -> u64
 /// The number that a text may be of, which the leaf can hold.
 fn number_of(width: Option<u32>, scalar: Scalar, text: &[u8]) -> i128
     requires { IsNarrow width }
-    ensures fits { IsHeld width scalar result }
-    ensures each { (z : ℤ) → IsHeld width scalar z → text.now ≡ number_value width (ValueType.Number scalar) z → result ≡ z }
+    ensures fits { IsNumberOfLeaf width scalar result }
+    ensures each { (z : ℤ) → IsNumberOfLeaf width scalar z → text.now ≡ number_value_text width (ValueType.Number scalar) z → result ≡ z }
 {
     let bits = BitWidth {
         bits: bits_in(width, scalar),
@@ -194,7 +194,7 @@ fn read_small(text: &[u8]) -> u32
 /// The place in a heap object whose text may stand behind a `#`; else an unset leaf.
 fn place_read(text: &[u8]) -> SeenValue
     ensures fits { IsPointerValue result }
-    ensures each { (number place : ℕ) → IsPlace number place → text.now ≡ decimal number ++ codes "+" ++ decimal place → result ≡ SeenValue.Place number place }
+    ensures each { (number place : ℕ) → IsHeapPlace number place → text.now ≡ decimal number ++ codes "+" ++ decimal place → result ≡ SeenValue.Place number place }
 {
     let Some((number, place)) = split_at_byte(text, b'+') else {
         return SeenValue::Unset;

@@ -3,7 +3,7 @@
 ghost use Rattle.std.specs.Prelude.{◌≡◌, ◌++◌, IfOk, OnOk};
 ghost use Rattle.std.specs.List.{concat};
 ghost use Rattle.abi_sound.specs.Places.{places_of};
-ghost use Rattle.abi_inspect.specs.SeenTexts.{AreValuesOf, IsFitting, dump_of, row_lines};
+ghost use Rattle.abi_inspect.specs.SeenTexts.{AreValuesOf, IsFitting, dump_of_seen, row_lines};
 
 use crate::lines::{append_first, append_fixed, append_leaf};
 use crate::seen::{Seen, SeenValue};
@@ -51,7 +51,7 @@ pub fn dump_text<L: SoundLayout>(
 ) -> Result<Vec<u8>, NoMemory>
     requires layout { L.lays_out layout.now h.now }
     requires fitting { IsFitting h.now (places_of h.now (L.rows layout.now)) seen.now }
-    ensures { IfOk result (λ text. text.items ≡ dump_of h.now (places_of h.now (L.rows layout.now)) seen.now) }
+    ensures { IfOk result (λ text. text.items ≡ dump_of_seen h.now (places_of h.now (L.rows layout.now)) seen.now) }
 {
     let rows = rows_of(alloc, h, layout, seen.class)?;
     let size = layout.layout(seen.class).size;

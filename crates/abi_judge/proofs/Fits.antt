@@ -20,14 +20,14 @@ use Rattle.cxx_subobject.specs.Locations.{LeadsTo}
 use Rattle.cxx_subobject.proofs.TreeLemmas.{subobject_same, same_itself}
 use Rattle.abi_primary.specs.Kinds.{IsDynamic, flag_of}
 use Rattle.abi_sound.specs.Places.{Places, size_of_value}
-use Rattle.abi_sound.specs.Locations.{place_at, last_member, leaf_span, bits_of_value, Span}
+use Rattle.abi_sound.specs.Locations.{place_along_hops, last_member, leaf_span, bits_of_value, Span}
 use Rattle.abi_sound.specs.Sound.{Divides, IsAligned}
 use Rattle.abi_sound.proofs.LeafSpans.{EndsIn, span_is, one_member}
 use Rattle.abi_judge.specs.declared.things.Thing.{Thing}
 use Rattle.abi_judge.specs.declared.things.PlacedLeaf.{PlacedLeaf}
 use Rattle.abi_judge.specs.Rules.{KeepsAlign, KeepsInside}
 use Rattle.abi_judge.specs.invariants.Ways.{End, to_leaf, to_part, Way, way, ways}
-use Rattle.abi_judge.specs.invariants.Things.{Setting, align_of, leaf_thing, thing_of, things_of, is_multiple, is_leaf_fit, is_fit, bits_in, is_inside}
+use Rattle.abi_judge.specs.invariants.Things.{Setting, align_of, leaf_thing, thing_of, things_of, is_multiple, is_leaf_fit, is_fit, bits_of_leaf, fits_in_size}
 use Rattle.abi_judge.proofs.WayLemmas.{last_hop, IsLeafWay, IsPartWay, IsWayTo, IsEnd, ways_valid, ways_listed}
 
 -- all that lies in an object of class c
@@ -153,15 +153,15 @@ pub one_last : (xs ys : List Hop) (s t : Subobject) → xs ++ Inherit s ∷ [] �
 one_last xs ys s t e =
     let both : Some (Inherit s) ≡ Some (Inherit t) = sym (last_hop_is xs (Inherit s)) ∙ (ap last_hop e ∙ last_hop_is ys (Inherit t)) in cc
 
-part_multiple : (x : Setting) → IsHierarchy x.h → (c d : ClassId) (front : List Hop) (s : Subobject) → list_all is_fit (all_things x c) ≡ true → LeadsTo x.h c (front ++ Inherit s ∷ []) (Object d) → Divides (align_of x.l s d) (place_at x.h x.l c (front ++ Inherit s ∷ []))
+part_multiple : (x : Setting) → IsHierarchy x.h → (c d : ClassId) (front : List Hop) (s : Subobject) → list_all is_fit (all_things x c) ≡ true → LeadsTo x.h c (front ++ Inherit s ∷ []) (Object d) → Divides (align_of x.l s d) (place_along_hops x.h x.l c (front ++ Inherit s ∷ []))
 part_multiple x keeps c d front s all leads =
     let hops : List Hop = front ++ Inherit s ∷ [] in
     let p = part_listed x keeps c hops d leads in
     let same : s ≡ p.at = one_last front p.is.front s p.at p.is.is in
     let fit = tested x c is_fit (way hops (to_part p.complete p.at d)) all p.has in
-    let at : 0 + place_at x.h x.l c hops ≡ place_at x.h x.l c hops = omega arith in
-    let q : Divides (align_of x.l p.at d) (0 + place_at x.h x.l c hops) = divides_from_test (align_of x.l p.at d) (0 + place_at x.h x.l c hops) fit in
-    subst (λ (t : Subobject). Divides (align_of x.l t d) (place_at x.h x.l c hops)) (sym same) (subst (λ k. Divides (align_of x.l p.at d) k) at q)
+    let at : 0 + place_along_hops x.h x.l c hops ≡ place_along_hops x.h x.l c hops = omega arith in
+    let q : Divides (align_of x.l p.at d) (0 + place_along_hops x.h x.l c hops) = divides_from_test (align_of x.l p.at d) (0 + place_along_hops x.h x.l c hops) fit in
+    subst (λ (t : Subobject). Divides (align_of x.l t d) (place_along_hops x.h x.l c hops)) (sym same) (subst (λ k. Divides (align_of x.l p.at d) k) at q)
 
 -- where all things pass the test, the rule is kept
 pub keeps_align : (x : Setting) → IsHierarchy x.h → (c : ClassId) → list_all is_fit (all_things x c) ≡ true → KeepsAlign x.h x.l c
@@ -169,32 +169,32 @@ keeps_align x keeps c all = record {
   aligned = λ type hops d m leads last.
       let p = leaf_listed x keeps c hops type leads in
       let one = one_member (last_member x.h (Some c) hops) p.class d p.member m p.is.last last in
-      let at : 0 + place_at x.h x.l c hops ≡ place_at x.h x.l c hops = omega arith in
+      let at : 0 + place_along_hops x.h x.l c hops ≡ place_along_hops x.h x.l c hops = omega arith in
       let fit = tested x c is_fit (way hops (to_leaf p.class p.member type)) all p.has in
-      let q : IsAligned (width_of_member x.h p.class p.member) type (0 + place_at x.h x.l c hops) (x.l.first p.class p.member) =
-      leaf_aligned (width_of_member x.h p.class p.member) type (leaf_thing x (0 + place_at x.h x.l c hops) p.class p.member (size_of_value type)) refl fit in
-      let r : IsAligned (width_of_member x.h p.class p.member) type (place_at x.h x.l c hops) (x.l.first p.class p.member) = subst (λ k. IsAligned (width_of_member x.h p.class p.member) type k (x.l.first p.class p.member)) at q in
-      subst (λ n. IsAligned (width_of_member x.h d n) type (place_at x.h x.l c hops) (x.l.first d n)) one.1
-      (subst (λ (e : ClassId). IsAligned (width_of_member x.h e p.member) type (place_at x.h x.l c hops) (x.l.first e p.member)) one.0 r);
-  base_multiple = λ d front s leads differ. subst (λ k. Divides k (place_at x.h x.l c (front ++ Inherit s ∷ []))) (align_base x.l s d differ) (part_multiple x keeps c d front s all leads);
-  object_multiple = λ d front leads. subst (λ k. Divides k (place_at x.h x.l c (front ++ Inherit (whole_of d) ∷ []))) (align_whole x.l (whole_of d) d refl) (part_multiple x keeps c d front (whole_of d) all leads);
+      let q : IsAligned (width_of_member x.h p.class p.member) type (0 + place_along_hops x.h x.l c hops) (x.l.first p.class p.member) =
+      leaf_aligned (width_of_member x.h p.class p.member) type (leaf_thing x (0 + place_along_hops x.h x.l c hops) p.class p.member (size_of_value type)) refl fit in
+      let r : IsAligned (width_of_member x.h p.class p.member) type (place_along_hops x.h x.l c hops) (x.l.first p.class p.member) = subst (λ k. IsAligned (width_of_member x.h p.class p.member) type k (x.l.first p.class p.member)) at q in
+      subst (λ n. IsAligned (width_of_member x.h d n) type (place_along_hops x.h x.l c hops) (x.l.first d n)) one.1
+      (subst (λ (e : ClassId). IsAligned (width_of_member x.h e p.member) type (place_along_hops x.h x.l c hops) (x.l.first e p.member)) one.0 r);
+  base_multiple = λ d front s leads differ. subst (λ k. Divides k (place_along_hops x.h x.l c (front ++ Inherit s ∷ []))) (align_base x.l s d differ) (part_multiple x keeps c d front s all leads);
+  object_multiple = λ d front leads. subst (λ k. Divides k (place_along_hops x.h x.l c (front ++ Inherit (whole_of d) ∷ []))) (align_whole x.l (whole_of d) d refl) (part_multiple x keeps c d front (whole_of d) all leads);
 }
 
 -- a class subobject lies as the rule asks, a complete object or a base
-kept_part : (x : Setting) (c : ClassId) → KeepsAlign x.h x.l c → (d : ClassId) (s : Subobject) (front : List Hop) → LeadsTo x.h c (front ++ Inherit s ∷ []) (Object d) → Divides (align_of x.l s d) (place_at x.h x.l c (front ++ Inherit s ∷ []))
+kept_part : (x : Setting) (c : ClassId) → KeepsAlign x.h x.l c → (d : ClassId) (s : Subobject) (front : List Hop) → LeadsTo x.h c (front ++ Inherit s ∷ []) (Object d) → Divides (align_of x.l s d) (place_along_hops x.h x.l c (front ++ Inherit s ∷ []))
 kept_part x c rule d s front leads = by_same (same_subobject s (whole_of d)) refl
   where
-    whole : s ≡ whole_of d → Divides (x.l.align d) (place_at x.h x.l c (front ++ Inherit s ∷ []))
+    whole : s ≡ whole_of d → Divides (x.l.align d) (place_along_hops x.h x.l c (front ++ Inherit s ∷ []))
     whole same =
-        subst (λ (t : Subobject). Divides (x.l.align d) (place_at x.h x.l c (front ++ Inherit t ∷ []))) (sym same)
+        subst (λ (t : Subobject). Divides (x.l.align d) (place_along_hops x.h x.l c (front ++ Inherit t ∷ []))) (sym same)
         (rule.object_multiple d front (subst (λ (t : Subobject). LeadsTo x.h c (front ++ Inherit t ∷ []) (Object d)) same leads))
 
     other : same_subobject s (whole_of d) ≡ false → s ≡ whole_of d → ⊥
     other e same = let k : true ≡ false = sym (ap (λ (t : Subobject). same_subobject t (whole_of d)) same ∙ same_itself (whole_of d)) ∙ e in cc
 
-    by_same : (b : Bool) → same_subobject s (whole_of d) ≡ b → Divides (align_of x.l s d) (place_at x.h x.l c (front ++ Inherit s ∷ []))
-    by_same true e = subst (λ k. Divides k (place_at x.h x.l c (front ++ Inherit s ∷ []))) (sym (align_whole x.l s d (subobject_same s (whole_of d) e))) (whole (subobject_same s (whole_of d) e))
-    by_same false e = subst (λ k. Divides k (place_at x.h x.l c (front ++ Inherit s ∷ []))) (sym (align_base x.l s d (other e))) (rule.base_multiple d front s leads (other e))
+    by_same : (b : Bool) → same_subobject s (whole_of d) ≡ b → Divides (align_of x.l s d) (place_along_hops x.h x.l c (front ++ Inherit s ∷ []))
+    by_same true e = subst (λ k. Divides k (place_along_hops x.h x.l c (front ++ Inherit s ∷ []))) (sym (align_whole x.l s d (subobject_same s (whole_of d) e))) (whole (subobject_same s (whole_of d) e))
+    by_same false e = subst (λ k. Divides k (place_along_hops x.h x.l c (front ++ Inherit s ∷ []))) (sym (align_base x.l s d (other e))) (rule.base_multiple d front s leads (other e))
 
 -- and all pass it where the rule is kept
 pub align_kept : (x : Setting) → IsHierarchy x.h → (c : ClassId) → KeepsAlign x.h x.l c → list_all is_fit (all_things x c) ≡ true
@@ -202,29 +202,29 @@ align_kept x keeps c rule = tests x keeps c is_fit (λ w is. by_end w.hops w.end
   where
     by_end : (hops : List Hop) (end : End) → IsWayTo x.h c hops end → is_fit (thing_of x (Some c) 0 (way hops end)) ≡ true
     by_end hops (to_leaf d m type) is =
-        let at : 0 + place_at x.h x.l c hops ≡ place_at x.h x.l c hops = omega arith in
+        let at : 0 + place_along_hops x.h x.l c hops ≡ place_along_hops x.h x.l c hops = omega arith in
         let k = rule.aligned type hops d m is.leads is.last in
-        leaf_fits (width_of_member x.h d m) type (leaf_thing x (0 + place_at x.h x.l c hops) d m (size_of_value type)) refl (subst (λ p. IsAligned (width_of_member x.h d m) type p (x.l.first d m)) (sym at) k)
+        leaf_fits (width_of_member x.h d m) type (leaf_thing x (0 + place_along_hops x.h x.l c hops) d m (size_of_value type)) refl (subst (λ p. IsAligned (width_of_member x.h d m) type p (x.l.first d m)) (sym at) k)
     by_end hops (to_part e s d) is =
-        let at : 0 + place_at x.h x.l c hops ≡ place_at x.h x.l c hops = omega arith in
+        let at : 0 + place_along_hops x.h x.l c hops ≡ place_along_hops x.h x.l c hops = omega arith in
         let leads : LeadsTo x.h c (is.front ++ Inherit s ∷ []) (Object d) = subst (λ (t : List Hop). LeadsTo x.h c t (Object d)) is.is is.leads in
-        let there : place_at x.h x.l c (is.front ++ Inherit s ∷ []) ≡ 0 + place_at x.h x.l c hops = ap (place_at x.h x.l c) (sym is.is) ∙ sym at in
+        let there : place_along_hops x.h x.l c (is.front ++ Inherit s ∷ []) ≡ 0 + place_along_hops x.h x.l c hops = ap (place_along_hops x.h x.l c) (sym is.is) ∙ sym at in
         let k = kept_part x c rule d s is.front leads in
-        test_from_divides (align_of x.l s d) (0 + place_at x.h x.l c hops) (subst (λ p. Divides (align_of x.l s d) p) there k)
+        test_from_divides (align_of x.l s d) (0 + place_along_hops x.h x.l c hops) (subst (λ p. Divides (align_of x.l s d) p) there k)
 
 -- lying inside
 
-pub bits_same : (w : Option ℕ) (type : ValueType ClassId) → bits_in (size_of_value type) w ≡ bits_of_value w type
+pub bits_same : (w : Option ℕ) (type : ValueType ClassId) → bits_of_leaf (size_of_value type) w ≡ bits_of_value w type
 bits_same None type = refl
 bits_same (Some n) type = refl
 
 -- the bits of a leaf are those of its thing
 pub leaf_bits : (x : Setting) (c : ClassId) (hops : List Hop) (d : ClassId) (m : ℕ) (type : ValueType ClassId) → IsLeafWay x.h c hops d m type
-    → ((leaf_span x.h x.l c hops).start ≡ 8 * (0 + place_at x.h x.l c hops) + x.l.first d m) × ((leaf_span x.h x.l c hops).length ≡ bits_in (size_of_value type) (width_of_member x.h d m))
+    → ((leaf_span x.h x.l c hops).start ≡ 8 * (0 + place_along_hops x.h x.l c hops) + x.l.first d m) × ((leaf_span x.h x.l c hops).length ≡ bits_of_leaf (size_of_value type) (width_of_member x.h d m))
 leaf_bits x c hops d m type is =
     let ends : EndsIn x.h c hops type = record { class = d; member = m; index = is.index; last = is.last; element = is.element } in
     let span = span_is x.h x.l c hops type ends in
-    let at : 8 * place_at x.h x.l c hops + x.l.first d m ≡ 8 * (0 + place_at x.h x.l c hops) + x.l.first d m = omega arith in
+    let at : 8 * place_along_hops x.h x.l c hops + x.l.first d m ≡ 8 * (0 + place_along_hops x.h x.l c hops) + x.l.first d m = omega arith in
     (ap (λ (s : Span). s.start) span ∙ at, ap (λ (s : Span). s.length) span ∙ sym (bits_same (width_of_member x.h d m) type))
 
 or_right : (a b : Bool) → a ≡ true → (not a || b) ≡ true → b ≡ true
@@ -235,24 +235,24 @@ or_both : (a b : Bool) → (a ≡ true → b ≡ true) → (not a || b) ≡ true
 or_both true b e = e refl
 or_both false b e = refl
 
-part_inside : (x : Setting) → IsHierarchy x.h → (c d : ClassId) (hops : List Hop) → list_all (is_inside (x.l.size c)) (all_things x c) ≡ true → LeadsTo x.h c hops (Object d)
-    → (place_at x.h x.l c hops < x.l.size c) × (flag_of x.dynamic d ≡ true → place_at x.h x.l c hops + 8 ≤ x.l.size c)
+part_inside : (x : Setting) → IsHierarchy x.h → (c d : ClassId) (hops : List Hop) → list_all (fits_in_size (x.l.size c)) (all_things x c) ≡ true → LeadsTo x.h c hops (Object d)
+    → (place_along_hops x.h x.l c hops < x.l.size c) × (flag_of x.dynamic d ≡ true → place_along_hops x.h x.l c hops + 8 ≤ x.l.size c)
 part_inside x keeps c d hops all leads =
     let p = part_listed x keeps c hops d leads in
     let size = x.l.size c in
-    let place = 0 + place_at x.h x.l c hops in
-    let fit = tested x c (is_inside size) (way hops (to_part p.complete p.at d)) all p.has in
+    let place = 0 + place_along_hops x.h x.l c hops in
+    let fit = tested x c (fits_in_size size) (way hops (to_part p.complete p.at d)) all p.has in
     let both = and_parts (nat_lt place size) (not (flag_of x.dynamic d) || nat_le (place + 8) size) fit in
     let low = ltb-true place size both.0 in
     (omega (arith, low), λ e. let high = leb-true (place + 8) size (or_right (flag_of x.dynamic d) (nat_le (place + 8) size) e both.1) in omega (arith, high))
 
-pub keeps_inside : (x : Setting) → IsHierarchy x.h → (c : ClassId) → x.l.size c ≤ 1048576 → ((d : ClassId) → IsDynamic x.h d → flag_of x.dynamic d ≡ true) → list_all (is_inside (x.l.size c)) (all_things x c) ≡ true → KeepsInside x.h x.l c
+pub keeps_inside : (x : Setting) → IsHierarchy x.h → (c : ClassId) → x.l.size c ≤ 1048576 → ((d : ClassId) → IsDynamic x.h d → flag_of x.dynamic d ≡ true) → list_all (fits_in_size (x.l.size c)) (all_things x c) ≡ true → KeepsInside x.h x.l c
 keeps_inside x keeps c few tells all = record {
   bounded = few;
   leaf_inside = λ type hops leads.
       let p = leaf_listed x keeps c hops type leads in
-      let fit = tested x c (is_inside (x.l.size c)) (way hops (to_leaf p.class p.member type)) all p.has in
-      let low = leb-true (8 * (0 + place_at x.h x.l c hops) + x.l.first p.class p.member + bits_in (size_of_value type) (width_of_member x.h p.class p.member)) (8 * x.l.size c) fit in
+      let fit = tested x c (fits_in_size (x.l.size c)) (way hops (to_leaf p.class p.member type)) all p.has in
+      let low = leb-true (8 * (0 + place_along_hops x.h x.l c hops) + x.l.first p.class p.member + bits_of_leaf (size_of_value type) (width_of_member x.h p.class p.member)) (8 * x.l.size c) fit in
       let b = leaf_bits x c hops p.class p.member type p.is in
       let start = b.0 in
       let length = b.1 in
@@ -261,19 +261,19 @@ keeps_inside x keeps c few tells all = record {
   begins_inside = λ d hops leads. (part_inside x keeps c d hops all leads).0;
 }
 
-pub inside_kept : (x : Setting) → IsHierarchy x.h → (c : ClassId) → ((d : ClassId) → flag_of x.dynamic d ≡ true → IsDynamic x.h d) → KeepsInside x.h x.l c → list_all (is_inside (x.l.size c)) (all_things x c) ≡ true
-inside_kept x keeps c tells rule = tests x keeps c (is_inside (x.l.size c)) (λ w is. by_end w.hops w.end is)
+pub inside_kept : (x : Setting) → IsHierarchy x.h → (c : ClassId) → ((d : ClassId) → flag_of x.dynamic d ≡ true → IsDynamic x.h d) → KeepsInside x.h x.l c → list_all (fits_in_size (x.l.size c)) (all_things x c) ≡ true
+inside_kept x keeps c tells rule = tests x keeps c (fits_in_size (x.l.size c)) (λ w is. by_end w.hops w.end is)
   where
-    by_end : (hops : List Hop) (end : End) → IsWayTo x.h c hops end → is_inside (x.l.size c) (thing_of x (Some c) 0 (way hops end)) ≡ true
+    by_end : (hops : List Hop) (end : End) → IsWayTo x.h c hops end → fits_in_size (x.l.size c) (thing_of x (Some c) 0 (way hops end)) ≡ true
     by_end hops (to_leaf d m type) is =
         let low = rule.leaf_inside type hops is.leads in
         let b = leaf_bits x c hops d m type is in
         let start = b.0 in
         let length = b.1 in
-        le-leb (8 * (0 + place_at x.h x.l c hops) + x.l.first d m + bits_in (size_of_value type) (width_of_member x.h d m)) (8 * x.l.size c) (omega (arith, low, start, length))
+        le-leb (8 * (0 + place_along_hops x.h x.l c hops) + x.l.first d m + bits_of_leaf (size_of_value type) (width_of_member x.h d m)) (8 * x.l.size c) (omega (arith, low, start, length))
     by_end hops (to_part e s d) is =
         let size = x.l.size c in
-        let place = 0 + place_at x.h x.l c hops in
+        let place = 0 + place_along_hops x.h x.l c hops in
         let low = rule.begins_inside d hops is.leads in
         and_both (nat_lt place size) (not (flag_of x.dynamic d) || nat_le (place + 8) size) (lt-ltb place size (omega (arith, low)))
         (or_both (flag_of x.dynamic d) (nat_le (place + 8) size) (λ f. let high = rule.pointer_inside d hops (tells d f) is.leads in le-leb (place + 8) size (omega (arith, high))))

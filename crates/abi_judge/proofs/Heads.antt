@@ -21,7 +21,7 @@ use Rattle.abi_primary.specs.declared.Primary.TheVariants.{None as NoPrimary, Di
 use Rattle.abi_primary.specs.Kinds.{IsDynamic, shares, inherits}
 use Rattle.abi_primary.specs.PrimaryBase.{is_virtual_primary}
 use Rattle.abi_sound.specs.Places.{Places}
-use Rattle.abi_sound.specs.Locations.{place_at, element_class}
+use Rattle.abi_sound.specs.Locations.{place_along_hops, element_class}
 use Rattle.abi_sound.specs.Chains.{primary_part, but_last, kept_above, IsInChain, itself, further, ShareChain, downwards, upwards, in_element, above}
 use Rattle.abi_sound.specs.Sound.{is_primary_of}
 use Rattle.abi_sound.proofs.PlaceLemmas.{place_at_base, place_at_inner, element_class_is}
@@ -30,7 +30,7 @@ use Rattle.abi_sound.proofs.ChainLemmas.{chain_more, last_step, primary_above, a
 use Rattle.std.proofs.lemmas.Bool.{eqb-true}
 use Rattle.foundation.proofs.Chosen.{find_passes}
 use Rattle.cxx_subobject.proofs.PathLemmas.{same_id}
-use Rattle.abi_judge.specs.Rules.{AreHeld, KeepsPrimary, KeepsPlace}
+use Rattle.abi_judge.specs.Rules.{HasFirstHolders, KeepsPrimary, KeepsPlace}
 use Rattle.abi_judge.specs.invariants.Things.{is_direct_primary, is_none, is_top}
 use Rattle.abi_judge.proofs.WayLemmas.{LeadsToObject, at_start, through}
 
@@ -189,7 +189,7 @@ front_leads h _ _ k _ t (at_start c) valid class = to_subobject c k t valid clas
 front_leads h _ _ k _ t (through c d b e s m i front is of element rest) valid class =
     to_inner c d b s m i (front ++ Inherit t ∷ []) (Object k) is of element (front_leads h b e k front t rest valid class)
 
-pub front_place : (h : Classes) (l : Places) (c e : ClassId) (front : List Hop) (s t : Subobject) → LeadsToObject h c front e → l.place e t ≡ l.place e s → place_at h l c (front ++ Inherit t ∷ []) ≡ place_at h l c (front ++ Inherit s ∷ [])
+pub front_place : (h : Classes) (l : Places) (c e : ClassId) (front : List Hop) (s t : Subobject) → LeadsToObject h c front e → l.place e t ≡ l.place e s → place_along_hops h l c (front ++ Inherit t ∷ []) ≡ place_along_hops h l c (front ++ Inherit s ∷ [])
 front_place h l _ _ _ s t (at_start c) same = place_at_base h l c t ∙ (same ∙ sym (place_at_base h l c s))
 front_place h l _ _ _ u t (through c d b e s m i front is of element rest) same =
     place_at_inner h l c d b s m i (front ++ Inherit t ∷ []) of element
@@ -242,14 +242,14 @@ held_part l e v t held passes = by_class (class_of t) refl passes
     by_class (Some d) f k = primary_is l e t (shared_base v) (by_holder t d v f (virtual_is (l.primary d) v k) held)
 
 -- a virtual base is the primary base of none exactly where none holds it
-pub shared_top : (h : Classes) (l : Places) (e v : ClassId) (o : Option Subobject) → AreHeld h l e → HasVirtualBase h e v → l.holder e v ≡ o → is_top l e (shared_base v) ≡ is_none o
+pub shared_top : (h : Classes) (l : Places) (e v : ClassId) (o : Option Subobject) → HasFirstHolders h l e → HasVirtualBase h e v → l.holder e v ≡ o → is_top l e (shared_base v) ≡ is_none o
 shared_top h l e v None held has f = ap (λ (o : Option Subobject). is_none (kept_above l e (shared_base v) o)) f
 shared_top h l e v (Some t) held has f =
     let found = find_passes (λ (s : Subobject). is_primary_of l v (class_of s)) (preorder h e) t (sym (held.holder v has) ∙ f) in
     ap is_none (above_primary l e (shared_base v) t (held_part l e v t f found.1))
 
 -- the same of the virtual base that a short path names
-pub short_top : (h : Classes) (l : Places) (e v : ClassId) (s : Subobject) (o : Option Subobject) → AreHeld h l e → IsSubobject h e s → s.root ≡ Shared v → length s.path < 2 → l.holder e v ≡ o → is_top l e s ≡ is_none o
+pub short_top : (h : Classes) (l : Places) (e v : ClassId) (s : Subobject) (o : Option Subobject) → HasFirstHolders h l e → IsSubobject h e s → s.root ≡ Shared v → length s.path < 2 → l.holder e v ≡ o → is_top l e s ≡ is_none o
 short_top h l e v _ o held (whole path leads) root short f = let n : Whole ≡ Shared v = root in absurd (cc)
 short_top h l e v _ o held (shared w [] has leads) root short f =
     let n : Shared w ≡ Shared v = root in
@@ -257,7 +257,7 @@ short_top h l e v _ o held (shared w [] has leads) root short f =
     subst (λ (u : ClassId). is_top l e (shared_base u) ≡ is_none o) (sym same) (shared_top h l e v o held (subst (λ (u : ClassId). HasVirtualBase h e u) same has) f)
 short_top h l e v _ o held (shared w (b ∷ path) has leads) root short f = absurd (omega arith)
 
-pub top_held : (h : Classes) (l : Places) (e v : ClassId) (s t : Subobject) → AreHeld h l e → IsSubobject h e s → s.root ≡ Shared v → length s.path < 2 → Some t ≡ l.holder e v → false ≡ is_top l e s
+pub top_held : (h : Classes) (l : Places) (e v : ClassId) (s t : Subobject) → HasFirstHolders h l e → IsSubobject h e s → s.root ≡ Shared v → length s.path < 2 → Some t ≡ l.holder e v → false ≡ is_top l e s
 top_held h l e v s t held valid root short f = sym (short_top h l e v s (Some t) held valid root short (sym f))
 
 -- a longer path

@@ -19,16 +19,16 @@ use Rattle.abi_primary.specs.Kinds.{IsDynamic, declares, shares, inherits, flag_
 use Rattle.cxx_subobject.specs.declared.Subobject.{Subobject}
 use Rattle.cxx_subobject.specs.Subobjects.{subobject, shared_base, class_of}
 use Rattle.abi_sound.specs.declared.class_layout.ClassLayout.{ClassLayout}
-use Rattle.abi_sound.specs.Places.{Places, places_of, size_in, base_place, virtual_place, place_of}
+use Rattle.abi_sound.specs.Places.{Places, places_of, size_in_row, direct_base_place, virtual_place, place_in_class}
 use Rattle.abi_sound.specs.Chains.{primary_part}
 use Rattle.abi_sound.proofs.PlaceLemmas.{direct_place}
 use Rattle.abi_sound.proofs.PrimaryParts.{IsPrimaryPart, by_direct, by_holder, primary_cases, primary_is}
 use Rattle.abi_sound.specs.Sound.{IsSoundClass}
 use Rattle.abi_judge.specs.declared.rules.SoundRule.{SoundRule}
 use Rattle.abi_judge.specs.declared.rules.SoundRule.TheVariants.{Primary, Place, Align, Inside, Overlap, Twice}
-use Rattle.abi_judge.specs.Rules.{AreHeld, IsNext, KeepsPrimary, KeepsPlace, Keeps, turn, IsFault}
+use Rattle.abi_judge.specs.Rules.{HasFirstHolders, MayBeJudged, KeepsPrimary, KeepsPlace, Keeps, turn, IsFault}
 use Rattle.abi_judge.specs.declared.draft.Draft.{Draft}
-use Rattle.abi_judge.specs.invariants.Drafts.{IsDraft, IsDraftTo}
+use Rattle.abi_judge.specs.invariants.Drafts.{AreDraftRows, IsDraftTo}
 use Rattle.abi_judge.specs.invariants.Things.{Setting, setting_of}
 use Rattle.abi_judge.specs.invariants.Places.{IsFaultOfThings, LiesAtHeld, LiesAtPrimary, AllLie}
 use Rattle.abi_judge.proofs.Fits.{all_things, keeps_align, align_kept, keeps_inside, inside_kept}
@@ -67,14 +67,14 @@ told_by_flag h flags tells d e =
 
 -- the primary base
 
-pub no_primary : (h : Classes) (l : Places) (c : ClassId) → AreHeld h l c → l.primary c ≡ NoPrimary → KeepsPrimary h l c
+pub no_primary : (h : Classes) (l : Places) (c : ClassId) → HasFirstHolders h l c → l.primary c ≡ NoPrimary → KeepsPrimary h l c
 no_primary h l c held e = record {
   direct = λ b f. let k : NoPrimary ≡ Direct b = sym e ∙ f in absurd cc;
   virtual = λ v f. let k : NoPrimary ≡ Virtual v = sym e ∙ f in absurd cc;
   held = held;
 }
 
-pub direct_primary : (h : Classes) (l : Places) (c b : ClassId) → AreHeld h l c → l.primary c ≡ Direct b → IsDirectBase h c false b → IsDynamic h b → KeepsPrimary h l c
+pub direct_primary : (h : Classes) (l : Places) (c b : ClassId) → HasFirstHolders h l c → l.primary c ≡ Direct b → IsDirectBase h c false b → IsDynamic h b → KeepsPrimary h l c
 direct_primary h l c b held e base dynamic = record {
   direct = λ d f.
       let k : Direct b ≡ Direct d = sym e ∙ f in
@@ -84,7 +84,7 @@ direct_primary h l c b held e base dynamic = record {
   held = held;
 }
 
-pub virtual_primary : (h : Classes) (l : Places) (c v : ClassId) → AreHeld h l c → l.primary c ≡ Virtual v → HasVirtualBase h c v → IsDynamic h v → KeepsPrimary h l c
+pub virtual_primary : (h : Classes) (l : Places) (c v : ClassId) → HasFirstHolders h l c → l.primary c ≡ Virtual v → HasVirtualBase h c v → IsDynamic h v → KeepsPrimary h l c
 virtual_primary h l c v held e base dynamic = record {
   direct = λ b f. let k : Virtual v ≡ Direct b = sym e ∙ f in absurd cc;
   virtual = λ w f.
@@ -200,7 +200,7 @@ lies_alone l c d s class e = record { same = λ t step. none t (primary_cases l 
     none _ (by_direct _ k b of f) = let same : Some k ≡ Some d = sym of ∙ class in let one : k ≡ d = cc in let n : Direct b ≡ NoPrimary = sym f ∙ (ap l.primary one ∙ e) in absurd cc
     none _ (by_holder _ k v of f held) = let same : Some k ≡ Some d = sym of ∙ class in let one : k ≡ d = cc in let n : Virtual v ≡ NoPrimary = sym f ∙ (ap l.primary one ∙ e) in absurd cc
 
-pub lies_direct : (h : Classes) (rows : List ClassLayout) (c d b : ClassId) (s : Subobject) → class_of s ≡ Some d → (places_of h rows).primary d ≡ Direct b → (base_place h rows d b ≡ 0) ↔ LiesAtPrimary (places_of h rows) c s
+pub lies_direct : (h : Classes) (rows : List ClassLayout) (c d b : ClassId) (s : Subobject) → class_of s ≡ Some d → (places_of h rows).primary d ≡ Direct b → (direct_base_place h rows d b ≡ 0) ↔ LiesAtPrimary (places_of h rows) c s
 lies_direct h rows c d b s class e =
     let l = places_of h rows in
     let below : Subobject = subobject s.root (s.path ++ b ∷ []) in
@@ -217,7 +217,7 @@ lies_direct h rows c d b s class e =
     )
 
 pub lies_virtual : (h : Classes) (rows : List ClassLayout) (c d v : ClassId) (s : Subobject) → class_of s ≡ Some d → (places_of h rows).primary d ≡ Virtual v → (places_of h rows).holder c v ≡ Some s
-    → (virtual_place rows c v ≡ place_of h rows c s) ↔ LiesAtPrimary (places_of h rows) c s
+    → (virtual_place rows c v ≡ place_in_class h rows c s) ↔ LiesAtPrimary (places_of h rows) c s
 lies_virtual h rows c d v s class e held =
     let l = places_of h rows in
     let step : primary_part l c s ≡ Some (shared_base v) = primary_is l c s (shared_base v) (by_holder s d v class e held) in (
@@ -233,10 +233,10 @@ lies_virtual h rows c d v s class e held =
 
 -- the tests of the primary base
 
-pub base_told : (h : Classes) (l : Places) (c b : ClassId) (r : Bool) → AreHeld h l c → l.primary c ≡ Direct b → IsTrue r ↔ (IsDirectBase h c false b × IsDynamic h b) → IsTrue r ↔ KeepsPrimary h l c
+pub base_told : (h : Classes) (l : Places) (c b : ClassId) (r : Bool) → HasFirstHolders h l c → l.primary c ≡ Direct b → IsTrue r ↔ (IsDirectBase h c false b × IsDynamic h b) → IsTrue r ↔ KeepsPrimary h l c
 base_told h l c b r held e told = (λ t. let both = told.0 t in direct_primary h l c b held e both.0 both.1, λ k. told.1 (k.direct b e))
 
-pub virtual_base_told : (h : Classes) (l : Places) (c v : ClassId) (r : Bool) → AreHeld h l c → l.primary c ≡ Virtual v → IsTrue r ↔ (HasVirtualBase h c v × IsDynamic h v) → IsTrue r ↔ KeepsPrimary h l c
+pub virtual_base_told : (h : Classes) (l : Places) (c v : ClassId) (r : Bool) → HasFirstHolders h l c → l.primary c ≡ Virtual v → IsTrue r ↔ (HasVirtualBase h c v × IsDynamic h v) → IsTrue r ↔ KeepsPrimary h l c
 virtual_base_told h l c v r held e told = (λ t. let both = told.0 t in virtual_primary h l c v held e both.0 both.1, λ k. told.1 (k.virtual v e))
 
 -- where a subobject holds a virtual base
@@ -259,7 +259,7 @@ held_told h rows c d v s r class e told =
       λ lies. told.1 (record { same = λ held. (lies_virtual h rows c d v s class e held).1 lies }),
     )
 
-pub direct_lies : (h : Classes) (rows : List ClassLayout) (c d b : ClassId) (s : Subobject) (n : ℕ) → class_of s ≡ Some d → (places_of h rows).primary d ≡ Direct b → n ≡ base_place h rows d b → IsTrue (n == 0) ↔ LiesAtPrimary (places_of h rows) c s
+pub direct_lies : (h : Classes) (rows : List ClassLayout) (c d b : ClassId) (s : Subobject) (n : ℕ) → class_of s ≡ Some d → (places_of h rows).primary d ≡ Direct b → n ≡ direct_base_place h rows d b → IsTrue (n == 0) ↔ LiesAtPrimary (places_of h rows) c s
 direct_lies h rows c d b s n class e is =
     let told = lies_direct h rows c d b s class e in
     (λ t. told.0 (sym is ∙ eqb-true n 0 t), λ lies. eq-eqb n 0 (is ∙ told.1 lies))
@@ -281,7 +281,7 @@ pub none_placed : (h : Classes) (l : Places) (c : ClassId) → l.size c ≡ 0 �
 none_placed h l c e = never (λ k. let some = k.positive in omega (arith, e, some))
 
 -- what is known when a class is judged is known of it and of all before
-pub next_draft : (draft : Draft) (c : ClassId) → IsDraft draft → IsNext draft.h.now draft.rows.now c → IsDraftTo draft c
+pub next_draft : (draft : Draft) (c : ClassId) → AreDraftRows draft → MayBeJudged draft.h.now draft.rows.now c → IsDraftTo draft c
 next_draft draft c is next = record {
   is = is;
   known = next.known;
@@ -291,16 +291,16 @@ next_draft draft c is next = record {
     below : (a b : ℕ) → a ≤ b → (a < b) ⊎ (a ≡ b)
     below a b le = grind arith
 
-    by_place : (d : ClassId) → (d.0 < c.0) ⊎ (d.0 ≡ c.0) → AreHeld draft.h.now (places_of draft.h.now draft.rows.now) d
+    by_place : (d : ClassId) → (d.0 < c.0) ⊎ (d.0 ≡ c.0) → HasFirstHolders draft.h.now (places_of draft.h.now draft.rows.now) d
     by_place d (inl less) = record { holder = (next.before d less).holder }
-    by_place d (inr same) = subst (λ (e : ClassId). AreHeld draft.h.now (places_of draft.h.now draft.rows.now) e) (same_id c d (sym same)) next.held
+    by_place d (inr same) = subst (λ (e : ClassId). HasFirstHolders draft.h.now (places_of draft.h.now draft.rows.now) e) (same_id c d (sym same)) next.held
 
 -- the size of a class by its row
 pub row_size : (draft : Draft) (c : ClassId) (row : ClassLayout) → slice_get draft.rows.now c.0 ≡ Some row → row.size ≡ (setting_of draft).l.size c
-row_size draft c row there = sym (ap size_in there)
+row_size draft c row there = sym (ap size_in_row there)
 
 -- the answer on things is one on the class
-pub judged : (draft : Draft) (c : ClassId) (row : ClassLayout) (fault : Option SoundRule) → IsDraft draft → IsNext draft.h.now draft.rows.now c → slice_get draft.rows.now c.0 ≡ Some row → KeepsPrimary draft.h.now (places_of draft.h.now draft.rows.now) c → KeepsPlace draft.h.now (places_of draft.h.now draft.rows.now) c
+pub judged : (draft : Draft) (c : ClassId) (row : ClassLayout) (fault : Option SoundRule) → AreDraftRows draft → MayBeJudged draft.h.now draft.rows.now c → slice_get draft.rows.now c.0 ≡ Some row → KeepsPrimary draft.h.now (places_of draft.h.now draft.rows.now) c → KeepsPlace draft.h.now (places_of draft.h.now draft.rows.now) c
     → IsFaultOfThings row.size (all_things (setting_of draft) c) fault → IsFault draft.h.now (places_of draft.h.now draft.rows.now) c fault
 judged draft c row fault is next there primary place told =
     let x = setting_of draft in

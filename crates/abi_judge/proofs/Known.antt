@@ -12,14 +12,14 @@ use Rattle.cxx_subobject.specs.declared.Subobject.{Subobject}
 use Rattle.cxx_subobject.specs.Subobjects.{Leads, IsSubobject, whole, shared}
 use Rattle.cxx_subobject.proofs.PathLemmas.{base_before, virtual_below}
 use Rattle.abi_judge.specs.declared.draft.Draft.{Draft}
-use Rattle.abi_judge.specs.invariants.Drafts.{IsDraft, IsDraftTo}
+use Rattle.abi_judge.specs.invariants.Drafts.{AreDraftRows, IsDraftTo}
 
 -- what is known of a class is known of those before it
 pub draft_lower : (draft : Draft) (c d : ClassId) → IsDraftTo draft c → d.0 ≤ c.0 → IsDraftTo draft d
 draft_lower draft c d known low = let lt = known.known in record { is = known.is; known = omega (arith, lt, low); held = λ e le. known.held e (omega (arith, le, low)) }
 
 -- each class has a row
-pub row_known : (draft : Draft) → IsDraft draft → (c : ClassId) → c.0 < length draft.h.now → c.0 < length draft.rows.now
+pub row_known : (draft : Draft) → AreDraftRows draft → (c : ClassId) → c.0 < length draft.h.now → c.0 < length draft.rows.now
 row_known draft is c known = let all = is.full.one_each in omega (arith, all, known)
 
 -- a member object is of a class before

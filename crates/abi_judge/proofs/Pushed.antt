@@ -14,38 +14,38 @@ use Rattle.cxx_subobject.specs.declared.locations.Hop.TheVariants.{Inherit, Memb
 use Rattle.cxx_subobject.specs.Subobjects.{class_of}
 use Rattle.cxx_subobject.specs.Preorder.{preorder}
 use Rattle.abi_sound.specs.Places.{size_of_value}
-use Rattle.abi_sound.specs.Locations.{size_of_type, stride_in, class_in, class_of_type, element_place, element_class, place_behind}
+use Rattle.abi_sound.specs.Locations.{size_of_type, stride_in, class_of_member, class_of_type, element_place, element_class, place_behind}
 use Rattle.abi_judge.specs.declared.things.Thing.{Thing}
 use Rattle.abi_judge.specs.declared.things.Thing.TheVariants.{Leaf, Part}
 use Rattle.abi_judge.specs.declared.things.PlacedLeaf.{PlacedLeaf}
 use Rattle.abi_judge.specs.declared.things.PlacedPart.{PlacedPart}
-use Rattle.abi_judge.specs.invariants.Ways.{to_leaf, to_part, Way, way, behind, typed_ways, member_ways, own_ways, base_ways, ways_within}
+use Rattle.abi_judge.specs.invariants.Ways.{to_leaf, to_part, Way, way, behind_hop, typed_ways, member_ways, own_ways, base_ways, ways_within}
 use Rattle.abi_judge.specs.invariants.Things.{Setting, part_thing, thing_at, thing_of, things_of}
 use Rattle.abi_judge.specs.invariants.Leaves.{leaf_from}
 use Rattle.abi_judge.specs.invariants.Pushes.{base_things, member_things, object_things, AddsBases, AddsObject, AddsMembers, AddsOwn, AddsMember, AddsObjects}
 use Rattle.abi_judge.proofs.Ranges.{map_flat, items_next, range_next}
 
 -- ways from a subobject are those from its object
-pub behind_base : (x : Setting) (e d : ClassId) (s : Subobject) (at : ℕ) (ws : List Way) → class_of s ≡ Some d → things_of x (Some e) at (map (behind (Inherit s)) ws) ≡ things_of x (Some d) (at + x.l.place e s) ws
+pub behind_base : (x : Setting) (e d : ClassId) (s : Subobject) (at : ℕ) (ws : List Way) → class_of s ≡ Some d → things_of x (Some e) at (map (behind_hop (Inherit s)) ws) ≡ things_of x (Some d) (at + x.l.place e s) ws
 behind_base x e d s at [] class = refl
 behind_base x e d s at (w ∷ ws) class =
     let p : place_behind x.h x.l (class_of s) w.hops ≡ place_behind x.h x.l (Some d) w.hops = ap (λ (o : Option ClassId). place_behind x.h x.l o w.hops) class in
     let q : at + (x.l.place e s + place_behind x.h x.l (class_of s) w.hops) ≡ at + x.l.place e s + place_behind x.h x.l (Some d) w.hops = omega (arith, p) in
-    let first : thing_of x (Some e) at (behind (Inherit s) w) ≡ thing_of x (Some d) (at + x.l.place e s) w = ap (λ k. thing_at x k w.end) q in
-    ap (λ t. t ∷ things_of x (Some e) at (map (behind (Inherit s)) ws)) first ∙ ap (λ ts. thing_of x (Some d) (at + x.l.place e s) w ∷ ts) (behind_base x e d s at ws class)
+    let first : thing_of x (Some e) at (behind_hop (Inherit s) w) ≡ thing_of x (Some d) (at + x.l.place e s) w = ap (λ k. thing_at x k w.end) q in
+    ap (λ t. t ∷ things_of x (Some e) at (map (behind_hop (Inherit s)) ws)) first ∙ ap (λ ts. thing_of x (Some d) (at + x.l.place e s) w ∷ ts) (behind_base x e d s at ws class)
 
 -- ways from an element that is an object are those from the object that declares the member
 pub behind_member : (x : Setting) (d b : ClassId) (m i at start : ℕ) (member : Member ClassId) (ws : List Way) → slice_get (members_of x.h d) m ≡ Some member → member.ty ≡ Object b → start ≡ at + x.l.member d m
-    → things_of x (Some d) at (map (behind (MemberHop m i)) ws) ≡ things_of x (Some b) (start + i * x.l.size b) ws
+    → things_of x (Some d) at (map (behind_hop (MemberHop m i)) ws) ≡ things_of x (Some b) (start + i * x.l.size b) ws
 behind_member x d b m i at start member [] there is from = refl
 behind_member x d b m i at start member (w ∷ ws) there is from =
-    let inner : element_class x.h (Some d) m ≡ Some b = ap class_in there ∙ ap class_of_type is in
+    let inner : element_class x.h (Some d) m ≡ Some b = ap class_of_member there ∙ ap class_of_type is in
     let stride : stride_in x.l (slice_get (members_of x.h d) m) ≡ x.l.size b = ap (stride_in x.l) there ∙ ap (size_of_type x.l) is in
     let more : i * stride_in x.l (slice_get (members_of x.h d) m) ≡ i * x.l.size b = ap (λ k. i * k) stride in
     let p : place_behind x.h x.l (element_class x.h (Some d) m) w.hops ≡ place_behind x.h x.l (Some b) w.hops = ap (λ (o : Option ClassId). place_behind x.h x.l o w.hops) inner in
     let q : at + (element_place x.h x.l (Some d) m i + place_behind x.h x.l (element_class x.h (Some d) m) w.hops) ≡ start + i * x.l.size b + place_behind x.h x.l (Some b) w.hops = omega (arith, p, more, from) in
-    let first : thing_of x (Some d) at (behind (MemberHop m i) w) ≡ thing_of x (Some b) (start + i * x.l.size b) w = ap (λ k. thing_at x k w.end) q in
-    ap (λ t. t ∷ things_of x (Some d) at (map (behind (MemberHop m i)) ws)) first
+    let first : thing_of x (Some d) at (behind_hop (MemberHop m i) w) ≡ thing_of x (Some b) (start + i * x.l.size b) w = ap (λ k. thing_at x k w.end) q in
+    ap (λ t. t ∷ things_of x (Some d) at (map (behind_hop (MemberHop m i)) ws)) first
     ∙ ap (λ ts. thing_of x (Some b) (start + i * x.l.size b) w ∷ ts) (behind_member x d b m i at start member ws there is from)
 
 -- what lies in a complete object, as the list of ways counts classes
@@ -76,7 +76,7 @@ bases_next x e d s at place list j part old mid after new less is class low from
     one : (n : ℕ) → d.0 ≤ n → new ≡ mid ++ base_things x n e at s
     one n le =
         let own : List Way = own_ways x.h (ways_within x.h n) d in
-        let rest : flat_map (member_things x n d place) (range_with_len 0 (length (members_of x.h d))) ≡ things_of x (Some e) at (map (behind (Inherit s)) own) =
+        let rest : flat_map (member_things x n d place) (range_with_len 0 (length (members_of x.h d))) ≡ things_of x (Some e) at (map (behind_hop (Inherit s)) own) =
         sym (map_flat (thing_of x (Some d) place) (λ m. member_ways (ways_within x.h n) d m (slice_get (members_of x.h d) m)) (range_with_len 0 (length (members_of x.h d))))
         ∙ (ap (λ k. things_of x (Some d) k own) from ∙ sym (behind_base x e d s at own class)) in
         let here : place ≡ at + (x.l.place e s + 0) = omega (arith, from) in
@@ -103,9 +103,9 @@ objects_added x d b at m start member old new there is low from added = record {
       let count = elements_of member.count in
       added.adds n (omega arith)
       ∙ ap (λ ts. old ++ ts) (
-      flat_map_same (λ i. object_things x n b (start + i * x.l.size b)) (λ i. things_of x (Some d) at (map (behind (MemberHop m i)) (ways_within x.h n b))) (range_with_len 0 count)
+      flat_map_same (λ i. object_things x n b (start + i * x.l.size b)) (λ i. things_of x (Some d) at (map (behind_hop (MemberHop m i)) (ways_within x.h n b))) (range_with_len 0 count)
       (λ i has. sym (behind_member x d b m i at start member (ways_within x.h n b) there is from))
-      ∙ (sym (map_flat (thing_of x (Some d) at) (λ i. map (behind (MemberHop m i)) (ways_within x.h n b)) (range_with_len 0 count))
+      ∙ (sym (map_flat (thing_of x (Some d) at) (λ i. map (behind_hop (MemberHop m i)) (ways_within x.h n b)) (range_with_len 0 count))
       ∙ typed_things x n d at m member (Object b) there is));
 }
 

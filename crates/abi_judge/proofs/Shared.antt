@@ -15,15 +15,15 @@ use Rattle.cxx_subobject.specs.declared.locations.Hop.TheVariants.{Inherit, Memb
 use Rattle.cxx_subobject.specs.Locations.{LeadsTo}
 use Rattle.abi_primary.specs.Kinds.{IsDynamic, flag_of}
 use Rattle.abi_sound.specs.Places.{size_of_value}
-use Rattle.abi_sound.specs.Locations.{place_at, leaf_span, pointer_span, Span, AreDisjoint}
+use Rattle.abi_sound.specs.Locations.{place_along_hops, leaf_span, pointer_span, Span, AreDisjoint}
 use Rattle.abi_sound.specs.Chains.{IsInChain, ShareChain, downwards, upwards}
 use Rattle.abi_sound.proofs.LeafSpans.{some_bits}
 use Rattle.cxx_subobject.proofs.PathLemmas.{same_id}
 use Rattle.abi_judge.specs.declared.apart.BitSpan.{BitSpan}
 use Rattle.abi_judge.specs.Rules.{KeepsOverlap, KeepsTwice}
-use Rattle.abi_judge.specs.invariants.Apart.{EachTwo, LieApart, AreApart, AreLong, Differ, AreDistinct, span_bits}
+use Rattle.abi_judge.specs.invariants.Apart.{EachTwo, LieApart, ShareNoBit, AreLong, Differ, AreDistinct, span_bits}
 use Rattle.abi_judge.specs.invariants.Ways.{End, to_leaf, to_part, Way, way, ways}
-use Rattle.abi_judge.specs.invariants.Things.{Setting, is_top, thing_of, bits_in, span_in, key_in}
+use Rattle.abi_judge.specs.invariants.Things.{Setting, is_top, thing_of, bits_of_leaf, span_in, key_in}
 use Rattle.abi_judge.proofs.WayLemmas.{last_hop, IsLeafWay, IsPartWay, IsWayTo, LeadsToObject, ways_valid, ways_once}
 use Rattle.abi_judge.proofs.Fits.{all_things, leaf_listed, part_listed, thing_way, bits_same, leaf_bits, last_hop_is, one_last}
 use Rattle.abi_judge.proofs.Pairs.{two_from_pairs, pairs_from_two, pairs_mapped, mapped_pairs, decide_listed}
@@ -54,8 +54,8 @@ keeps_twice x keeps c distinct = record {
       let p = part_listed x keeps c hops d leads in
       let q = part_listed x keeps c others d other in
       let pairs = pairs_from_two Differ (filter_map (key_at x c) (ways x.h c)) (subst (λ (t : List (ℕ × ℕ)). EachTwo Differ t) (filter_mapped key_in (thing_of x (Some c) 0) (ways x.h c)) distinct) in
-      let key : ℕ × ℕ = (d.0, 0 + place_at x.h x.l c hops) in
-      let also : ℕ × ℕ = (d.0, 0 + place_at x.h x.l c others) in
+      let key : ℕ × ℕ = (d.0, 0 + place_along_hops x.h x.l c hops) in
+      let also : ℕ × ℕ = (d.0, 0 + place_along_hops x.h x.l c others) in
       let equal : key ≡ also = ap (λ n. let k : ℕ × ℕ = (d.0, 0 + n) in k) same in
       ⊎_elim
       (λ e. e)
@@ -75,13 +75,13 @@ twice_kept x keeps c rule =
     by_ends hops others (to_leaf d m type) other is also differ same a e = let n : None ≡ Some a = e in cc
     by_ends hops others (to_part e s d) (to_leaf k m type) is also differ same a f = let n : None ≡ Some a = sym same ∙ f in cc
     by_ends hops others (to_part e s d) (to_part g t k) is also differ same a f =
-        let key : ℕ × ℕ = (d.0, 0 + place_at x.h x.l c hops) in
-        let more : ℕ × ℕ = (k.0, 0 + place_at x.h x.l c others) in
+        let key : ℕ × ℕ = (d.0, 0 + place_along_hops x.h x.l c hops) in
+        let more : ℕ × ℕ = (k.0, 0 + place_along_hops x.h x.l c others) in
         let both : Some key ≡ Some more = same in
         let equal : key ≡ more = cc in
         let class : d ≡ k = same_id d k (ap (λ (p : ℕ × ℕ). p.0) equal) in
-        let second : 0 + place_at x.h x.l c hops ≡ 0 + place_at x.h x.l c others = ap (λ (p : ℕ × ℕ). p.1) equal in
-        let place : place_at x.h x.l c hops ≡ place_at x.h x.l c others = omega (arith, second) in
+        let second : 0 + place_along_hops x.h x.l c hops ≡ 0 + place_along_hops x.h x.l c others = ap (λ (p : ℕ × ℕ). p.1) equal in
+        let place : place_along_hops x.h x.l c hops ≡ place_along_hops x.h x.l c others = omega (arith, second) in
         differ (rule.distinct d hops others is.leads (subst (λ (z : ClassId). LeadsTo x.h c others (Object z)) (sym class) also.leads) place)
 
 -- spans
@@ -94,10 +94,10 @@ moved : (a b c d : Span) → a.start ≡ c.start → a.length ≡ c.length → b
 moved a b c d s l t m apart = ⊎_elim (λ u. inl (omega (arith, s, l, t, m, u))) (λ u. inr (omega (arith, s, l, t, m, u))) apart
 
 abbrev leaf_bit_span : Setting → ClassId → List Hop → ClassId → ℕ → ValueType ClassId → BitSpan
-leaf_bit_span x c hops d m type = record { start = 8 * (0 + place_at x.h x.l c hops) + x.l.first d m; length = bits_in (size_of_value type) (width_of_member x.h d m) }
+leaf_bit_span x c hops d m type = record { start = 8 * (0 + place_along_hops x.h x.l c hops) + x.l.first d m; length = bits_of_leaf (size_of_value type) (width_of_member x.h d m) }
 
 abbrev part_bit_span : Setting → ClassId → List Hop → BitSpan
-part_bit_span x c hops = record { start = 8 * (0 + place_at x.h x.l c hops); length = 64 }
+part_bit_span x c hops = record { start = 8 * (0 + place_along_hops x.h x.l c hops); length = 64 }
 
 -- a way to a subobject that begins a chain has the bits of its virtual pointer
 part_span : (x : Setting) (c : ClassId) (hops : List Hop) (e : ClassId) (s : Subobject) (d : ClassId) → flag_of x.dynamic d ≡ true → is_top x.l e s ≡ true → span_at x c (way hops (to_part e s d)) ≡ Some (part_bit_span x c hops)
@@ -133,7 +133,7 @@ record HeadWay (x : Setting) (c : ClassId) (hops : List Hop) : Type 0 where
   first : Subobject
   has : Has (ways x.h c) (way (front ++ Inherit top ∷ []) (to_part object first class))
   none_above : is_top x.l object first ≡ true
-  place : place_at x.h x.l c (front ++ Inherit top ∷ []) ≡ place_at x.h x.l c hops
+  place : place_along_hops x.h x.l c (front ++ Inherit top ∷ []) ≡ place_along_hops x.h x.l c hops
 
 head_way : (x : Setting) (c d : ClassId) (hops : List Hop) → KnownTo x.h x.l c → ((k : ClassId) → IsDynamic x.h k → flag_of x.dynamic k ≡ true) → IsDynamic x.h d → LeadsTo x.h c hops (Object d) → HeadWay x c hops
 head_way x c d hops known tells dynamic leads =
@@ -157,7 +157,7 @@ head_way x c d hops known tells dynamic leads =
       first = q.at;
       has = q.has;
       none_above = sym there ∙ (here ∙ head.none_above);
-      place = front_place x.h x.l c p.complete p.is.front p.at head.top p.is.reaches head.place ∙ ap (place_at x.h x.l c) (sym p.is.is);
+      place = front_place x.h x.l c p.complete p.is.front p.at head.top p.is.reaches head.place ∙ ap (place_along_hops x.h x.l c) (sym p.is.is);
     }
 
 -- what have one first in their chains share it
@@ -180,7 +180,7 @@ leaf_is_no_part h c d m type hops front s is same =
     let both : Some (Inherit s) ≡ Some (MemberHop m is.index) = sym (last_hop_is front (Inherit s)) ∙ (ap last_hop same ∙ is.ends) in
     let one : Inherit s ≡ MemberHop m is.index = cc in cc
 
-pub keeps_overlap : (x : Setting) (c : ClassId) → KnownTo x.h x.l c → ((k : ClassId) → IsDynamic x.h k → flag_of x.dynamic k ≡ true) → AreApart (filter_map span_in (all_things x c)) → KeepsOverlap x.h x.l c
+pub keeps_overlap : (x : Setting) (c : ClassId) → KnownTo x.h x.l c → ((k : ClassId) → IsDynamic x.h k → flag_of x.dynamic k ≡ true) → ShareNoBit (filter_map span_in (all_things x c)) → KeepsOverlap x.h x.l c
 keeps_overlap x c known tells apart = record {
   leaves_apart = λ type other hops others leads also differ.
       let p = leaf_listed x known.keeps c hops type leads in
@@ -198,7 +198,7 @@ keeps_overlap x c known tells apart = record {
       let a = part_bit_span x c w in
       let b = leaf_bit_span x c others q.class q.member type in
       let t = leaf_bits x c others q.class q.member type q.is in
-      moved (span_bits a) (span_bits b) (pointer_span (place_at x.h x.l c hops)) (leaf_span x.h x.l c others) (starts w hops p.place) refl (sym t.0) (sym t.1)
+      moved (span_bits a) (span_bits b) (pointer_span (place_along_hops x.h x.l c hops)) (leaf_span x.h x.l c others) (starts w hops p.place) refl (sym t.0) (sym t.1)
       (two (way w (to_part p.object p.first p.class)) (way others (to_leaf q.class q.member type)) a b p.has q.has (λ same. leaf_is_no_part x.h c q.class q.member type others p.front p.top q.is same)
       (part_span x c w p.object p.first p.class p.moves p.none_above) refl);
   pointers_apart = λ d e hops others moves also leads other.
@@ -208,7 +208,7 @@ keeps_overlap x c known tells apart = record {
       let v = q.front ++ Inherit q.top ∷ [] in
       ⊎_elim
       (λ same. inl (one_head x c hops others p q same))
-      (λ differ. inr (moved (span_bits (part_bit_span x c w)) (span_bits (part_bit_span x c v)) (pointer_span (place_at x.h x.l c hops)) (pointer_span (place_at x.h x.l c others)) (starts w hops p.place) refl (starts v others q.place) refl
+      (λ differ. inr (moved (span_bits (part_bit_span x c w)) (span_bits (part_bit_span x c v)) (pointer_span (place_along_hops x.h x.l c hops)) (pointer_span (place_along_hops x.h x.l c others)) (starts w hops p.place) refl (starts v others q.place) refl
       (two (way w (to_part p.object p.first p.class)) (way v (to_part q.object q.first q.class)) (part_bit_span x c w) (part_bit_span x c v) p.has q.has differ
       (part_span x c w p.object p.first p.class p.moves p.none_above) (part_span x c v q.object q.first q.class q.moves q.none_above))))
       (decide_listed hops_of_way (ways x.h c) (way w (to_part p.object p.first p.class)) (way v (to_part q.object q.first q.class)) (ways_once x.h (c.0 + 1) c) p.has q.has);
@@ -220,17 +220,17 @@ keeps_overlap x c known tells apart = record {
         (pairs_from_two LieApart (filter_map (span_at x c) (ways x.h c)) (subst (λ (t : List BitSpan). EachTwo LieApart t) (filter_mapped span_in (thing_of x (Some c) 0) (ways x.h c)) apart))
         w v a b h k differ e f
 
-    starts : (w hops : List Hop) → place_at x.h x.l c w ≡ place_at x.h x.l c hops → 8 * (0 + place_at x.h x.l c w) ≡ 8 * place_at x.h x.l c hops
+    starts : (w hops : List Hop) → place_along_hops x.h x.l c w ≡ place_along_hops x.h x.l c hops → 8 * (0 + place_along_hops x.h x.l c w) ≡ 8 * place_along_hops x.h x.l c hops
     starts w hops e = omega (arith, e)
 
-pub overlap_kept : (x : Setting) → IsHierarchy x.h → (c : ClassId) → ((k : ClassId) → flag_of x.dynamic k ≡ true → IsDynamic x.h k) → KeepsOverlap x.h x.l c → AreApart (filter_map span_in (all_things x c))
+pub overlap_kept : (x : Setting) → IsHierarchy x.h → (c : ClassId) → ((k : ClassId) → flag_of x.dynamic k ≡ true → IsDynamic x.h k) → KeepsOverlap x.h x.l c → ShareNoBit (filter_map span_in (all_things x c))
 overlap_kept x keeps c tells rule =
     subst (λ (t : List BitSpan). EachTwo LieApart t) (sym (filter_mapped span_in (thing_of x (Some c) 0) (ways x.h c)))
     (two_from_pairs LieApart apart_turned (filter_map (span_at x c) (ways x.h c))
     (pairs_mapped LieApart hops_of_way (span_at x c) (ways x.h c) (ways_once x.h (c.0 + 1) c)
     (λ w v a b h k differ e f. by_ends w.hops v.hops w.end v.end a b (ways_valid x.h keeps (c.0 + 1) c w h) (ways_valid x.h keeps (c.0 + 1) c v k) differ e f)))
   where
-    pointer_start : (hops : List Hop) → 8 * place_at x.h x.l c hops ≡ 8 * (0 + place_at x.h x.l c hops)
+    pointer_start : (hops : List Hop) → 8 * place_along_hops x.h x.l c hops ≡ 8 * (0 + place_along_hops x.h x.l c hops)
     pointer_start hops = omega arith
 
     leaf_and_part : (hops others : List Hop) (d : ClassId) (m : ℕ) (type : ValueType ClassId) (e : ClassId) (s : Subobject) (k : ClassId) (a b : BitSpan) → IsLeafWay x.h c hops d m type → IsPartWay x.h c others e s k
@@ -241,7 +241,7 @@ overlap_kept x keeps c tells rule =
         let part = span_part x c others e s k b g in
         let t = leaf_bits x c hops d m type is in
         let u : LieApart (part_bit_span x c others) (leaf_bit_span x c hops d m type) =
-        moved (pointer_span (place_at x.h x.l c others)) (leaf_span x.h x.l c hops) (span_bits (part_bit_span x c others)) (span_bits (leaf_bit_span x c hops d m type)) (pointer_start others) refl t.0 t.1
+        moved (pointer_span (place_along_hops x.h x.l c others)) (leaf_span x.h x.l c hops) (span_bits (part_bit_span x c others)) (span_bits (leaf_bit_span x c hops d m type)) (pointer_start others) refl t.0 t.1
         (rule.leaf_and_pointer k type others hops (tells k part.moves) also.leads is.leads) in
         subst (λ (z : BitSpan). LieApart z a) part.is (subst (λ (z : BitSpan). LieApart (part_bit_span x c others) z) leaf u)
 
@@ -267,7 +267,7 @@ overlap_kept x keeps c tells rule =
         let u : LieApart (part_bit_span x c hops) (part_bit_span x c others) =
         ⊎_elim
         (λ share. absurd (differ (heads_same x.h x.l c hops others share top more)))
-        (λ apart. moved (pointer_span (place_at x.h x.l c hops)) (pointer_span (place_at x.h x.l c others)) (span_bits (part_bit_span x c hops)) (span_bits (part_bit_span x c others)) (pointer_start hops) refl (pointer_start others) refl apart)
+        (λ apart. moved (pointer_span (place_along_hops x.h x.l c hops)) (pointer_span (place_along_hops x.h x.l c others)) (span_bits (part_bit_span x c hops)) (span_bits (part_bit_span x c others)) (pointer_start hops) refl (pointer_start others) refl apart)
         (rule.pointers_apart d k hops others (tells d p.moves) (tells k q.moves) is.leads also.leads) in
         subst (λ (z : BitSpan). LieApart z b) p.is (subst (λ (z : BitSpan). LieApart (part_bit_span x c hops) z) q.is u)
 

@@ -24,16 +24,16 @@ use Rattle.abi_primary.specs.declared.Primary.TheVariants.{None as NoPrimary, Di
 use Rattle.abi_primary.specs.Kinds.{IsDynamic, declares, shares, inherits, TellDynamicTo, TellDynamic}
 use Rattle.abi_primary.proofs.FlagLemmas.{flags_none, flags_push}
 use Rattle.abi_sound.specs.declared.class_layout.ClassLayout.{ClassLayout}
-use Rattle.abi_sound.specs.Places.{Places, places_of, size_in}
+use Rattle.abi_sound.specs.Places.{Places, places_of, size_in_row}
 use Rattle.abi_sound.specs.Chains.{primary_part}
 use Rattle.abi_judge.specs.declared.rules.SoundRule.{SoundRule}
 use Rattle.abi_judge.specs.declared.rules.SoundRule.TheVariants.{Primary as PrimaryRule, Place, Align, Inside, Overlap, Twice}
 use Rattle.abi_judge.specs.declared.apart.BitSpan.{BitSpan}
 use Rattle.abi_judge.specs.declared.things.Thing.{Thing}
-use Rattle.abi_judge.specs.Rules.{AreHeld, KeepsPrimary, KeepsPlace, IsFault, IsNext}
+use Rattle.abi_judge.specs.Rules.{HasFirstHolders, KeepsPrimary, KeepsPlace, IsFault, MayBeJudged}
 use Rattle.abi_judge.specs.invariants.Apart.{EachTwo, LieApart, Differ}
-use Rattle.abi_judge.specs.invariants.Things.{Setting, is_fit, is_inside, span_in, key_in}
-use Rattle.abi_judge.specs.invariants.Places.{LiesAtPrimary, AreFit, AreInside, ShareNone, LieOnce, IsFaultOfThings}
+use Rattle.abi_judge.specs.invariants.Things.{Setting, is_fit, fits_in_size, span_in, key_in}
+use Rattle.abi_judge.specs.invariants.Places.{LiesAtPrimary, AreWellPlaced, AreInside, ShareNone, LieOnce, IsFaultOfThings}
 use Rattle.abi_judge.proofs.Fits.{all_things}
 use Rattle.abi_judge.proofs.Judged.{dynamic_known, no_primary, direct_primary, virtual_primary, fails_primary, fails_place, from_things, known_to}
 
@@ -100,7 +100,7 @@ direct_decided h c b = ⊎_elim
     decide_off true = inr (λ e. cc)
     decide_off false = inl refl
 
-primary_decided : (h : Classes) → IsHierarchy h → (l : Places) (c : ClassId) → AreHeld h l c → Decided (KeepsPrimary h l c)
+primary_decided : (h : Classes) → IsHierarchy h → (l : Places) (c : ClassId) → HasFirstHolders h l c → Decided (KeepsPrimary h l c)
 primary_decided h keeps l c held = by_primary (l.primary c) refl
   where
     by_primary : (primary : Primary) → l.primary c ≡ primary → Decided (KeepsPrimary h l c)
@@ -227,12 +227,12 @@ things_fault size things = ⊎_elim
     (λ shared. (Some Overlap, (fit, inside, shared)))
     (each_two_decided LieApart apart_decided (filter_map span_in things)))
     (λ outside. (Some Inside, (fit, outside)))
-    (decide_flag (list_all (is_inside size) things)))
+    (decide_flag (list_all (fits_in_size size) things)))
     (λ unfit. (Some Align, unfit))
     (decide_flag (list_all is_fit things))
 
 -- a class that is next has a first rule that it does not keep, or none
-pub some_fault : (h : Classes) → IsHierarchy h → (rows : List ClassLayout) (c : ClassId) → IsNext h rows c → (fault : Option SoundRule) × IsFault h (places_of h rows) c fault
+pub some_fault : (h : Classes) → IsHierarchy h → (rows : List ClassLayout) (c : ClassId) → MayBeJudged h rows c → (fault : Option SoundRule) × IsFault h (places_of h rows) c fault
 some_fault h keeps rows c next = ⊎_elim
     (λ primary. ⊎_elim
     (λ place.
@@ -241,7 +241,7 @@ some_fault h keeps rows c next = ⊎_elim
     let long = next.full.one_each in
     let low = next.known in
     let row = get_within rows c.0 (omega arith) in
-    let few : (places_of h rows).size c ≤ 1048576 = subst (λ (o : Option ClassLayout). size_in o ≤ 1048576) (sym row.1) (next.small c.0 row.0 row.1).size in
+    let few : (places_of h rows).size c ≤ 1048576 = subst (λ (o : Option ClassLayout). size_in_row o ≤ 1048576) (sym row.1) (next.small c.0 row.0 row.1).size in
     let of = things_fault ((places_of h rows).size c) (all_things x c) in
     (of.0, from_things x c (known_to h (places_of h rows) c keeps next.before primary place) flags.1 few of.0 of.1))
     (λ broken. (Some Place, fails_place h (places_of h rows) c primary broken))

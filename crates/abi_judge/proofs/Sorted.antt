@@ -9,7 +9,7 @@ use Rattle.std.proofs.lemmas.Bool.{eqb-true, ltb-false, eqb-false}
 use Rattle.std.proofs.lemmas.List.Sorted.{all_adjacent_more, Contains-permutation, IsPermutation-sym}
 use Rattle.foundation.proofs.Places.{any_default, contains_at, get_read, place_of}
 use Rattle.abi_judge.specs.declared.apart.BitSpan.{BitSpan}
-use Rattle.abi_judge.specs.invariants.Apart.{EachTwo, LieApart, AreApart, AreLong, Differ, AreDistinct, key_cmp}
+use Rattle.abi_judge.specs.invariants.Apart.{EachTwo, LieApart, ShareNoBit, AreLong, Differ, AreDistinct, key_cmp}
 use Rattle.abi_judge.proofs.Pairs.{read_at, two_permuted}
 
 -- each two items, where it is known of those that stand in order
@@ -31,7 +31,7 @@ EndsBefore a b = a.start + a.length ≤ b.start
 apart_turned : (a b : BitSpan) → LieApart a b → LieApart b a
 apart_turned a b apart = ⊎_elim (λ u. inr u) (λ u. inl u) apart
 
-pub spans_apart : (spans : List BitSpan) → IsNonDecreasingBy (λ (span : BitSpan). span.start) spans → AllAdjacentBelow EndsBefore spans (length spans) → AreApart spans
+pub spans_apart : (spans : List BitSpan) → IsNonDecreasingBy (λ (span : BitSpan). span.start) spans → AllAdjacentBelow EndsBefore spans (length spans) → ShareNoBit spans
 spans_apart spans sorted ends = two_in_order LieApart apart_turned spans (λ i j x y less e f.
     let p = read_at spans i x x e in
     let q = read_at spans j y x f in
@@ -43,7 +43,7 @@ spans_apart spans sorted ends = two_in_order LieApart apart_turned spans (λ i j
     inl (omega (arith, first, next, here, there)))
 
 -- where one goes on into the next, they are not
-pub spans_meet : (spans : List BitSpan) → IsNonDecreasingBy (λ (span : BitSpan). span.start) spans → AreLong spans → (i : ℕ) (a b : BitSpan) → 1 ≤ i → i < length spans → a ≡ get_or spans (i - 1) a → b ≡ get_or spans i b → b.start - a.start < a.length → AreApart spans → ⊥
+pub spans_meet : (spans : List BitSpan) → IsNonDecreasingBy (λ (span : BitSpan). span.start) spans → AreLong spans → (i : ℕ) (a b : BitSpan) → 1 ≤ i → i < length spans → a ≡ get_or spans (i - 1) a → b ≡ get_or spans i b → b.start - a.start < a.length → ShareNoBit spans → ⊥
 spans_meet spans sorted long i a b some lt is_a is_b meet apart =
     let at_a = get_read spans (i - 1) a (omega (arith, lt)) is_a in
     let at_b = get_read spans i b lt is_b in
@@ -143,11 +143,11 @@ span_next spans i d long some lt before ends = all_adjacent_more spans EndsBefor
     subst (λ (s : BitSpan). EndsBefore s (get_or spans i e)) one (subst (λ (s : BitSpan). EndsBefore (get_or spans (i - 1) d) s) two (omega (arith, ends, bit))))
 
 -- where one goes on into the next
-pub spans_found : (spans : List BitSpan) (i : ℕ) (d : BitSpan) → IsNonDecreasingBy (λ (span : BitSpan). span.start) spans → AreLong spans → 1 ≤ i → i < length spans → (get_or spans i d).start - (get_or spans (i - 1) d).start < (get_or spans (i - 1) d).length → AreApart spans → ⊥
+pub spans_found : (spans : List BitSpan) (i : ℕ) (d : BitSpan) → IsNonDecreasingBy (λ (span : BitSpan). span.start) spans → AreLong spans → 1 ≤ i → i < length spans → (get_or spans i d).start - (get_or spans (i - 1) d).start < (get_or spans (i - 1) d).length → ShareNoBit spans → ⊥
 spans_found spans i d sorted long some lt meet apart =
     spans_meet spans sorted long i (get_or spans (i - 1) d) (get_or spans i d) some lt (any_default spans (i - 1) d (get_or spans (i - 1) d) (omega (arith, lt))) (any_default spans i d (get_or spans i d) lt) meet apart
 
-pub spans_done : (spans : List BitSpan) (i : ℕ) → IsNonDecreasingBy (λ (span : BitSpan). span.start) spans → length spans ≤ i → AllAdjacentBelow EndsBefore spans i → AreApart spans
+pub spans_done : (spans : List BitSpan) (i : ℕ) → IsNonDecreasingBy (λ (span : BitSpan). span.start) spans → length spans ≤ i → AllAdjacentBelow EndsBefore spans i → ShareNoBit spans
 spans_done spans i sorted past ends = spans_apart spans sorted (λ k d lt. ends k d (omega (arith, lt, past)))
 
 pub key_next : (keys : List (ℕ × ℕ)) (i : ℕ) (d : ℕ × ℕ) → 1 ≤ i → i < length keys → AllAdjacentBelow Differ keys i → (SameKey (get_or keys (i - 1) d) (get_or keys i d) → ⊥) → AllAdjacentBelow Differ keys (i + 1)

@@ -13,9 +13,9 @@ use Rattle.cxx_subobject.specs.declared.Subobject.{Subobject}
 use Rattle.cxx_subobject.specs.Subobjects.{same_subobject}
 use Rattle.cxx_subobject.proofs.TreeLemmas.{subobject_same, same_itself}
 use Rattle.abi_sound.specs.declared.class_layout.ClassLayout.{ClassLayout}
-use Rattle.abi_sound.specs.Places.{places_of, place_of, virtual_place}
+use Rattle.abi_sound.specs.Places.{places_of, place_in_class, virtual_place}
 use Rattle.abi_judge.specs.declared.apart.BitSpan.{BitSpan}
-use Rattle.abi_judge.specs.invariants.Apart.{EachTwo, LieApart, AreApart, Differ, AreDistinct}
+use Rattle.abi_judge.specs.invariants.Apart.{EachTwo, LieApart, ShareNoBit, Differ, AreDistinct}
 use Rattle.abi_judge.specs.invariants.Places.{LiesAtHeld}
 
 le_or_less : (m n : ℕ) → (m ≤ n) ⊎ (n < m)
@@ -38,7 +38,7 @@ two_stable R stable xs b told off = record {
 }
 
 -- no bit is shared
-pub none_shared : (spans : List BitSpan) (b : Bool) → IsTrue b ↔ (AreApart spans → ⊥) → b ≡ false → AreApart spans
+pub none_shared : (spans : List BitSpan) (b : Bool) → IsTrue b ↔ (ShareNoBit spans → ⊥) → b ≡ false → ShareNoBit spans
 none_shared spans b told off = two_stable LieApart apart_stable spans b told off
 
 -- and no key stands twice
@@ -50,7 +50,7 @@ pub all_read : {X : Type 0} (p : X → Bool) (xs : List X) (i : ℕ) (d : X) →
 all_read p xs i d all lt = all_each p xs all (get_or xs i d) (has_at xs i (get_or xs i d) (get_read xs i (get_or xs i d) lt (any_default xs i d (get_or xs i d) lt)))
 
 -- the places of a virtual base and of the subobject that holds it
-pub at_held : (h : Classes) (rows : List ClassLayout) (c v : ClassId) (s t : Subobject) (b : Bool) (m n : ℕ) → Some t ≡ (places_of h rows).holder c v → b ≡ same_subobject t s → b ≡ true → m ≡ virtual_place rows c v → n ≡ place_of h rows c s
+pub at_held : (h : Classes) (rows : List ClassLayout) (c v : ClassId) (s t : Subobject) (b : Bool) (m n : ℕ) → Some t ≡ (places_of h rows).holder c v → b ≡ same_subobject t s → b ≡ true → m ≡ virtual_place rows c v → n ≡ place_in_class h rows c s
     → IsTrue (nat_eq m n) ↔ LiesAtHeld h rows c v s
 at_held h rows c v s t b m n holds is on at place =
     let same : t ≡ s = subobject_same t s (sym is ∙ on) in

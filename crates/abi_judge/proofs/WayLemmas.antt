@@ -21,7 +21,7 @@ use Rattle.cxx_subobject.proofs.PathLemmas.{class_low}
 use Rattle.cxx_subobject.proofs.LocationLemmas.{element_low}
 use Rattle.abi_sound.specs.Locations.{last_member}
 use Rattle.abi_sound.proofs.LeafSpans.{last_element, last_inner}
-use Rattle.abi_judge.specs.invariants.Ways.{End, to_leaf, to_part, Way, way, behind, typed_ways, member_ways, own_ways, base_ways, ways_within}
+use Rattle.abi_judge.specs.invariants.Ways.{End, to_leaf, to_part, Way, way, behind_hop, typed_ways, member_ways, own_ways, base_ways, ways_within}
 use Rattle.abi_judge.proofs.Ranges.{range_below, range_has, range_once, map_flat, AllBegin, apart_begun, each_apart, once_map}
 
 abbrev pub last_hop : List Hop → Option Hop
@@ -99,10 +99,10 @@ typed_valid h keeps inside c d s m member (Value type) v valid class there is ha
     subst (λ (w : Way). IsWayTo h c (Inherit s ∷ w.hops) w.end) r.2
     (record { leads = to_value c d s m r.0 type valid class element; last = last_element h (Some c) d s m r.0 class; index = r.0; element = element; ends = refl })
 typed_valid h keeps inside c d s m member (Object b) v valid class there is has next =
-    let r = from_flat_map (λ i. map (behind (MemberHop m i)) (inside b)) (range_with_len 0 (elements_of member.count)) v has in
+    let r = from_flat_map (λ i. map (behind_hop (MemberHop m i)) (inside b)) (range_with_len 0 (elements_of member.count)) v has in
     let lt = (range_below 0 (elements_of member.count) r.0 r.1).1 in
     let element : IsElement h d m r.0 (Object b) = record { member = member; there = there; type_is = is; within = omega (arith, lt) } in
-    let q = from_map (behind (MemberHop m r.0)) (inside b) v r.2 in
+    let q = from_map (behind_hop (MemberHop m r.0)) (inside b) v r.2 in
     subst (λ (w : Way). IsWayTo h c (Inherit s ∷ w.hops) w.end) q.2 (way_inner h keeps c d b s m r.0 q.0.hops q.0.end valid class element (next b q.0 q.1))
 
 member_valid : (h : Classes) → IsHierarchy h → (inside : ClassId → List Way) (c d : ClassId) (s : Subobject) (m : ℕ) (o : Option (Member ClassId)) (v : Way) → IsSubobject h c s → class_of s ≡ Some d → slice_get (members_of h d) m ≡ o
@@ -116,7 +116,7 @@ base_valid h keeps inside c s None w valid class has next = absurd has
 base_valid h keeps inside c s (Some d) w valid class has next = ⊎_elim
     (λ same. subst (λ (v : Way). IsWayTo h c v.hops v.end) same (record { leads = to_subobject c d s valid class; front = []; is = refl; valid = valid; class = class; low = omega arith; reaches = at_start c }))
     (λ more.
-    let r = from_map (behind (Inherit s)) (own_ways h inside d) w more in
+    let r = from_map (behind_hop (Inherit s)) (own_ways h inside d) w more in
     let q = from_flat_map (λ m. member_ways inside d m (slice_get (members_of h d) m)) (range_with_len 0 (length (members_of h d))) r.0 r.1 in
     subst (λ (v : Way). IsWayTo h c v.hops v.end) r.2 (member_valid h keeps inside c d s q.0 (slice_get (members_of h d) q.0) r.0 valid class refl q.2 next))
     has
@@ -146,14 +146,14 @@ base_listed h keeps n c d s w valid class has =
     (subst (λ (o : Option ClassId). Has (base_ways h (ways_within h n) c s o) w) (sym class) has)
 
 member_listed : (h : Classes) → IsHierarchy h → (n : ℕ) (c d : ClassId) (s : Subobject) (m i : ℕ) (type : FieldType ClassId) (v : Way) → IsSubobject h c s → class_of s ≡ Some d → (element : IsElement h d m i type)
-    → Has (typed_ways (ways_within h n) d m (elements_of element.member.count) type) v → Has (ways_within h (suc n) c) (behind (Inherit s) v)
+    → Has (typed_ways (ways_within h n) d m (elements_of element.member.count) type) v → Has (ways_within h (suc n) c) (behind_hop (Inherit s) v)
 member_listed h keeps n c d s m i type v valid class element has =
     let inside = ways_within h n in
     let by_type : Has (member_ways inside d m (Some element.member)) v = subst (λ (t : FieldType ClassId). Has (typed_ways inside d m (elements_of element.member.count) t) v) (sym element.type_is) has in
     let at : Has (member_ways inside d m (slice_get (members_of h d) m)) v = subst (λ (o : Option (Member ClassId)). Has (member_ways inside d m o) v) (sym element.there) by_type in
     let within = below (members_of h d) m element.member element.there in
     let own : Has (own_ways h inside d) v = has_flat_map (λ k. member_ways inside d k (slice_get (members_of h d) k)) (range_with_len 0 (length (members_of h d))) m v (range_has 0 (length (members_of h d)) m (omega arith) (omega (arith, within))) at in
-    base_listed h keeps n c d s (behind (Inherit s) v) valid class (inr (has_map (behind (Inherit s)) (own_ways h inside d) v own))
+    base_listed h keeps n c d s (behind_hop (Inherit s) v) valid class (inr (has_map (behind_hop (Inherit s)) (own_ways h inside d) v own))
   where
     below : (xs : List (Member ClassId)) (k : ℕ) (x : Member ClassId) → slice_get xs k ≡ Some x → k < length xs
     below [] k x e = let f : None ≡ Some x = e in cc
@@ -175,23 +175,23 @@ ways_listed h keeps (suc n) _ _ _ low (to_inner c d b s m i hops type valid clas
     let next = class_low h keeps c d s valid class in
     let r = ways_listed h keeps n b hops type (omega (arith, low, first, next)) leads in
     let v = way hops r.end in
-    let at : Has (typed_ways (ways_within h n) d m (elements_of element.member.count) (Object b)) (behind (MemberHop m i) v) =
-    has_flat_map (λ k. map (behind (MemberHop m k)) (ways_within h n b)) (range_with_len 0 (elements_of element.member.count)) i (behind (MemberHop m i) v) (range_has 0 (elements_of element.member.count) i (omega arith) (omega (arith, within)))
-    (has_map (behind (MemberHop m i)) (ways_within h n b) v r.has) in
-    record { end = r.end; has = member_listed h keeps n c d s m i (Object b) (behind (MemberHop m i) v) valid class element at; is = r.is }
+    let at : Has (typed_ways (ways_within h n) d m (elements_of element.member.count) (Object b)) (behind_hop (MemberHop m i) v) =
+    has_flat_map (λ k. map (behind_hop (MemberHop m k)) (ways_within h n b)) (range_with_len 0 (elements_of element.member.count)) i (behind_hop (MemberHop m i) v) (range_has 0 (elements_of element.member.count) i (omega arith) (omega (arith, within)))
+    (has_map (behind_hop (MemberHop m i)) (ways_within h n b) v r.has) in
+    record { end = r.end; has = member_listed h keeps n c d s m i (Object b) (behind_hop (MemberHop m i) v) valid class element at; is = r.is }
 
 abbrev pub hops_in : List Way → List (List Hop)
 hops_in ws = map (λ (w : Way). w.hops) ws
 
 -- one hop further outside
-behind_hops : (hop : Hop) (ws : List Way) → hops_in (map (behind hop) ws) ≡ map (λ (t : List Hop). hop ∷ t) (hops_in ws)
+behind_hops : (hop : Hop) (ws : List Way) → hops_in (map (behind_hop hop) ws) ≡ map (λ (t : List Hop). hop ∷ t) (hops_in ws)
 behind_hops hop [] = refl
 behind_hops hop (w ∷ ws) = ap (λ (t : List (List Hop)). (hop ∷ w.hops) ∷ t) (behind_hops hop ws)
 
-behind_once : (hop : Hop) (ws : List Way) → EachOnce (hops_in ws) → EachOnce (hops_in (map (behind hop) ws))
+behind_once : (hop : Hop) (ws : List Way) → EachOnce (hops_in ws) → EachOnce (hops_in (map (behind_hop hop) ws))
 behind_once hop ws once = subst (λ (t : List (List Hop)). EachOnce t) (sym (behind_hops hop ws)) (once_map (λ (t : List Hop). hop ∷ t) (λ x y e. let f : (hop ∷ x) ≡ (hop ∷ y) = e in cc) (hops_in ws) once)
 
-behind_begins : (hop : Hop) (ws : List Way) → AllBegin hop (hops_in (map (behind hop) ws))
+behind_begins : (hop : Hop) (ws : List Way) → AllBegin hop (hops_in (map (behind_hop hop) ws))
 behind_begins hop ws = record {
   begins = λ x has.
       let r = from_map (λ (t : List Hop). hop ∷ t) (hops_in ws) x (subst (λ (t : List (List Hop)). Has t x) (behind_hops hop ws) has) in
@@ -210,7 +210,7 @@ typed_once inside d m count (Value type) next =
     mapped [] = refl
     mapped (i ∷ is) = ap (λ (t : List (List Hop)). (MemberHop m i ∷ []) ∷ t) (mapped is)
 typed_once inside d m count (Object b) next =
-    let f = λ (i : ℕ). map (behind (MemberHop m i)) (inside b) in
+    let f = λ (i : ℕ). map (behind_hop (MemberHop m i)) (inside b) in
     subst (λ (t : List (List Hop)). EachOnce t) (sym (map_flat (λ (w : Way). w.hops) f (range_with_len 0 count)))
     (once_flat_map (λ i. hops_in (f i)) (range_with_len 0 count) (λ i has. behind_once (MemberHop m i) (inside b) (next b))
     (each_apart (λ i. hops_in (f i)) (range_with_len 0 count) (range_once 0 count)
@@ -230,8 +230,8 @@ typed_begins inside d m count (Value type) = record {
 typed_begins inside d m count (Object b) = record {
   begins = λ x has.
       let r = from_map (λ (w : Way). w.hops) (typed_ways inside d m count (Object b)) x has in
-      let q = from_flat_map (λ i. map (behind (MemberHop m i)) (inside b)) (range_with_len 0 count) r.0 r.1 in
-      let p = from_map (behind (MemberHop m q.0)) (inside b) r.0 q.2 in
+      let q = from_flat_map (λ i. map (behind_hop (MemberHop m i)) (inside b)) (range_with_len 0 count) r.0 r.1 in
+      let p = from_map (behind_hop (MemberHop m q.0)) (inside b) r.0 q.2 in
       (q.0, p.0.hops, sym r.2 ∙ sym (ap (λ (w : Way). w.hops) p.2));
 }
 
@@ -270,7 +270,7 @@ base_once : (h : Classes) (inside : ClassId → List Way) (e : ClassId) (s : Sub
 base_once h inside e s None next = tt
 base_once h inside e s (Some d) next = (λ has. alone has, behind_once (Inherit s) (own_ways h inside d) (own_once h inside d next))
   where
-    alone : Has (hops_in (map (behind (Inherit s)) (own_ways h inside d))) (Inherit s ∷ []) → ⊥
+    alone : Has (hops_in (map (behind_hop (Inherit s)) (own_ways h inside d))) (Inherit s ∷ []) → ⊥
     alone has =
         let r = from_map (λ (t : List Hop). Inherit s ∷ t) (hops_in (own_ways h inside d)) (Inherit s ∷ []) (subst (λ (t : List (List Hop)). Has t (Inherit s ∷ [])) (behind_hops (Inherit s) (own_ways h inside d)) has) in
         let f = λ (m : ℕ). member_ways inside d m (slice_get (members_of h d) m) in

@@ -4,8 +4,8 @@ ghost use Rattle.std.specs.Prelude.{◌≡◌, ◌≤◌, ◌<◌, ◌-◌, ℕ,
 ghost use Rattle.std.specs.List.{filter_map, list_all};
 ghost use Rattle.std.specs.List.Sorted.{IsNonDecreasingBy, IsSorted};
 ghost use Rattle.abi_judge.specs.declared.apart.BitSpan.{BitSpan};
-ghost use Rattle.abi_judge.specs.invariants.Things.{is_inside, span_in, key_in};
-ghost use Rattle.abi_judge.specs.invariants.Apart.{AreApart, AreDistinct, AreLong, key_cmp};
+ghost use Rattle.abi_judge.specs.invariants.Things.{fits_in_size, span_in, key_in};
+ghost use Rattle.abi_judge.specs.invariants.Apart.{ShareNoBit, AreDistinct, AreLong, key_cmp};
 
 use crate::things::Thing;
 use foundation::NoMemory;
@@ -20,7 +20,7 @@ pub(crate) struct BitSpan {
 
 /// The bits that a thing inside a size shares with no other: those of a leaf, and of each chain one virtual pointer.
 fn span_of(thing: &Thing) -> Option<BitSpan>
-    requires { (size : ℕ) × (size ≤ 1048576) × (is_inside size thing.now ≡ true) }
+    requires { (size : ℕ) × (size ≤ 1048576) × (fits_in_size size thing.now ≡ true) }
     ensures { result ≡ span_in thing.now }
 {
     match thing {
@@ -49,7 +49,7 @@ fn span_of(thing: &Thing) -> Option<BitSpan>
 /// The bits of all things inside a size.
 fn spans_of(alloc: Global, things: &[Thing], size: u32) -> Result<Vec<BitSpan>, NoMemory>
     requires size { size ≤ 1048576 }
-    requires inside { list_all (is_inside size) things.now ≡ true }
+    requires inside { list_all (fits_in_size size) things.now ≡ true }
     ensures { IfOk result (λ spans. spans.items ≡ filter_map span_in things.now) }
 {
     let mut spans = Vec::new(alloc);
@@ -73,7 +73,7 @@ fn goes_into(span: BitSpan, next: BitSpan) -> bool
 fn goes_on(spans: &[BitSpan]) -> bool
     requires sorted { IsNonDecreasingBy (λ (span : BitSpan). span.start) spans.now }
     requires long { AreLong spans.now }
-    ensures { IsTrue result ↔ (AreApart spans.now → ⊥) }
+    ensures { IsTrue result ↔ (ShareNoBit spans.now → ⊥) }
 {
     for i in 1..spans.len() {
         if goes_into(spans[i - 1], spans[i]) {
@@ -88,9 +88,9 @@ fn goes_on(spans: &[BitSpan]) -> bool
 /// Errors: want of memory.
 pub(crate) fn shares_bits(alloc: Global, things: &[Thing], size: u32) -> Result<bool, NoMemory>
     requires size { size ≤ 1048576 }
-    requires inside { list_all (is_inside size) things.now ≡ true }
+    requires inside { list_all (fits_in_size size) things.now ≡ true }
     requires long { AreLong (filter_map span_in things.now) }
-    ensures { IfOk result (λ shares. IsTrue shares ↔ (AreApart (filter_map span_in things.now) → ⊥)) }
+    ensures { IfOk result (λ shares. IsTrue shares ↔ (ShareNoBit (filter_map span_in things.now) → ⊥)) }
 {
     let mut spans = spans_of(alloc, things, size)?;
     spans.sort_unstable_by_key(|span| span.start);

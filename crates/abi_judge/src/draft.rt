@@ -4,10 +4,10 @@ ghost use Rattle.std.specs.Prelude.{◌≡◌, ◌≤◌, ◌<◌, ◌*◌, ◌^
 ghost use Rattle.cxx_hierarchy.specs.declared.records.ClassId.{ClassId};
 ghost use Rattle.std.specs.Option.{option_copied};
 ghost use Rattle.cxx_subobject.specs.Subobjects.{IsSubobject, class_of};
-ghost use Rattle.abi_sound.specs.Places.{base_place, nth_holder, place_along, place_from, place_of, places_of, primary_in, root_place, virtual_place, member_place, first_bit};
-ghost use Rattle.abi_judge.specs.Rules.{AreHeld};
+ghost use Rattle.abi_sound.specs.Places.{direct_base_place, nth_holder, place_along, place_from, place_in_class, places_of, primary_in, root_place, virtual_place, member_place, first_bit};
+ghost use Rattle.abi_judge.specs.Rules.{HasFirstHolders};
 ghost use Rattle.abi_judge.specs.invariants.Things.{setting_of, align_of, is_direct_primary, is_top, part_thing};
-ghost use Rattle.abi_judge.specs.invariants.Drafts.{IsDraft};
+ghost use Rattle.abi_judge.specs.invariants.Drafts.{AreDraftRows};
 
 use crate::things::PlacedPart;
 use abi_primary::{Primary, flag_of};
@@ -55,8 +55,8 @@ impl<'a> Draft<'a> {
 
     /// The place of a direct non-virtual base in its class, in bytes; 0 where it is none.
     pub(crate) fn base_place(&self, c: ClassId, b: ClassId) -> u64
-        requires { IsDraft self.now }
-        ensures is { result ≡ base_place self.now.h.now self.now.rows.now c b }
+        requires { AreDraftRows self.now }
+        ensures is { result ≡ direct_base_place self.now.h.now self.now.rows.now c b }
         ensures small { result ≤ 1048576 }
     {
         if c.0 >= self.h.len() {
@@ -68,7 +68,7 @@ impl<'a> Draft<'a> {
 
     /// The place of a virtual base in a class, in bytes; 0 where it is none.
     pub(crate) fn virtual_place(&self, c: ClassId, v: ClassId) -> u64
-        requires draft { IsDraft self.now }
+        requires draft { AreDraftRows self.now }
         requires known { c.0 < length self.now.h.now }
         ensures is { result ≡ virtual_place self.now.rows.now c v }
         ensures small { result ≤ 1048576 }
@@ -81,7 +81,7 @@ impl<'a> Draft<'a> {
     /// The place of a member in the class that declares it, in bytes; 0 where there is none.
     #[inline(never)]
     pub(crate) fn member_place(&self, d: ClassId, m: u32) -> u64
-        requires draft { IsDraft self.now }
+        requires draft { AreDraftRows self.now }
         requires known { d.0 < length self.now.h.now }
         ensures is { result ≡ member_place self.now.rows.now d m }
         ensures small { result ≤ 1048576 }
@@ -91,7 +91,7 @@ impl<'a> Draft<'a> {
 
     /// The first bit of the value of a member, in the byte at its place: 0 where there is no such member.
     pub(crate) fn first_bit(&self, d: ClassId, m: u32) -> u8
-        requires draft { IsDraft self.now }
+        requires draft { AreDraftRows self.now }
         requires known { d.0 < length self.now.h.now }
         ensures { result ≡ first_bit self.now.rows.now d m }
     {
@@ -103,7 +103,7 @@ impl<'a> Draft<'a> {
 
     /// The sum of the places of the direct bases along a path, in bytes.
     fn place_along(&self, c: ClassId, path: &[ClassId]) -> u64
-        requires draft { IsDraft self.now }
+        requires draft { AreDraftRows self.now }
         requires short { length path.now ≤ 2 ^ 32 }
         ensures is { result ≡ place_along self.now.h.now self.now.rows.now c path.now }
         ensures small { result ≤ length path.now * 1048576 }
@@ -116,7 +116,7 @@ impl<'a> Draft<'a> {
 
     /// The sum of the places along a path and below its first class, in bytes.
     fn place_from(&self, path: &[ClassId]) -> u64
-        requires draft { IsDraft self.now }
+        requires draft { AreDraftRows self.now }
         requires short { length path.now ≤ 1024 }
         ensures is { result ≡ place_from self.now.h.now self.now.rows.now path.now }
         ensures small { result ≤ 1024 * 1048576 }
@@ -129,7 +129,7 @@ impl<'a> Draft<'a> {
 
     /// The place of the root of a subobject in an object of class `c`, in bytes.
     fn root_place(&self, c: ClassId, root: Root) -> u64
-        requires draft { IsDraft self.now }
+        requires draft { AreDraftRows self.now }
         requires known { c.0 < length self.now.h.now }
         ensures is { result ≡ root_place self.now.rows.now c root }
         ensures small { result ≤ 1048576 }
@@ -143,10 +143,10 @@ impl<'a> Draft<'a> {
     /// The place of a subobject in an object of class `c`, in bytes.
     #[inline(never)]
     pub(crate) fn place(&self, c: ClassId, s: &Subobject) -> u64
-        requires draft { IsDraft self.now }
+        requires draft { AreDraftRows self.now }
         requires known { c.0 < length self.now.h.now }
         requires subobject { IsSubobject self.now.h.now c s.now }
-        ensures is { result ≡ place_of self.now.h.now self.now.rows.now c s.now }
+        ensures is { result ≡ place_in_class self.now.h.now self.now.rows.now c s.now }
         ensures small { result ≤ 2 ^ 31 }
     {
         self.root_place(c, s.root) + self.place_from(s.path.as_slice())
@@ -154,7 +154,7 @@ impl<'a> Draft<'a> {
 
     /// Whether a class has another as its direct primary base.
     fn is_direct_primary(&self, a: ClassId, b: ClassId) -> bool
-        requires draft { IsDraft self.now }
+        requires draft { AreDraftRows self.now }
         ensures { result ≡ is_direct_primary (primary_in (slice_get self.now.rows.now a.0)) b }
     {
         match self.rows.get(a.0 as usize) {
@@ -169,7 +169,7 @@ impl<'a> Draft<'a> {
 
     /// The subobject of class `c` that holds its virtual base `v`.
     pub(crate) fn holder(&self, c: ClassId, v: ClassId) -> Option<&Subobject>
-        requires draft { IsDraft self.now }
+        requires draft { AreDraftRows self.now }
         requires known { c.0 < length self.now.h.now }
         ensures { option_copied result ≡ (places_of self.now.h.now self.now.rows.now).holder c v }
     {
@@ -180,9 +180,9 @@ impl<'a> Draft<'a> {
 
     /// Whether a subobject of class `e` is the primary base of none in an object of that class.
     fn is_top(&self, e: ClassId, s: &Subobject) -> bool
-        requires draft { IsDraft self.now }
+        requires draft { AreDraftRows self.now }
         requires known { e.0 < length self.now.h.now }
-        requires held { AreHeld self.now.h.now (places_of self.now.h.now self.now.rows.now) e }
+        requires held { HasFirstHolders self.now.h.now (places_of self.now.h.now self.now.rows.now) e }
         requires subobject { IsSubobject self.now.h.now e s.now }
         ensures { result ≡ is_top (places_of self.now.h.now self.now.rows.now) e s.now }
     {
@@ -201,7 +201,7 @@ impl<'a> Draft<'a> {
     /// The number of which the place of a subobject of class `d` has to be a multiple: the alignment of a complete object where it
     /// is one, and else that of a base.
     fn align_of(&self, s: &Subobject, d: ClassId) -> u32
-        requires draft { IsDraft self.now }
+        requires draft { AreDraftRows self.now }
         requires known { d.0 < length self.now.h.now }
         requires class { class_of s.now ≡ Some d }
         ensures { result ≡ align_of (places_of self.now.h.now self.now.rows.now) s.now d }
@@ -221,9 +221,9 @@ impl<'a> Draft<'a> {
 
     /// The subobject of class `e` as a thing at a place; it is of class `d`.
     pub(crate) fn part(&self, e: ClassId, s: &Subobject, d: ClassId, place: u64) -> PlacedPart
-        requires draft { IsDraft self.now }
+        requires draft { AreDraftRows self.now }
         requires known { e.0 < length self.now.h.now }
-        requires held { AreHeld self.now.h.now (places_of self.now.h.now self.now.rows.now) e }
+        requires held { HasFirstHolders self.now.h.now (places_of self.now.h.now self.now.rows.now) e }
         requires subobject { IsSubobject self.now.h.now e s.now }
         requires class { class_of s.now ≡ Some d }
         ensures { result ≡ part_thing (setting_of self.now) place e s.now d }

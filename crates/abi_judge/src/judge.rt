@@ -9,9 +9,9 @@ ghost use Rattle.cxx_subobject.specs.Preorder.{preorder};
 ghost use Rattle.cxx_subobject.specs.Subobjects.{IsSubobject};
 ghost use Rattle.abi_sound.specs.Places.{places_of};
 ghost use Rattle.abi_sound.specs.Chains.{primary_part};
-ghost use Rattle.abi_judge.specs.Rules.{IsNext, IsFault, KeepsPrimary, KeepsPlace, AreHeld};
-ghost use Rattle.abi_judge.specs.invariants.Drafts.{IsDraft, IsDraftTo};
-ghost use Rattle.abi_judge.specs.invariants.Things.{is_multiple, is_fit, is_inside, span_in};
+ghost use Rattle.abi_judge.specs.Rules.{MayBeJudged, IsFault, KeepsPrimary, KeepsPlace, HasFirstHolders};
+ghost use Rattle.abi_judge.specs.invariants.Drafts.{AreDraftRows, IsDraftTo};
+ghost use Rattle.abi_judge.specs.invariants.Things.{is_multiple, is_fit, fits_in_size, span_in};
 ghost use Rattle.abi_judge.specs.invariants.Apart.{AreLong};
 ghost use Rattle.abi_judge.specs.invariants.Places.{LiesAtHeld, LiesAtPrimary, AllLie, IsFaultOfThings};
 
@@ -30,7 +30,7 @@ use std::alloc::Global;
 impl<'a> Draft<'a> {
     /// Whether a class names another as a base that is not virtual, and that is dynamic.
     fn has_dynamic_base(&self, c: ClassId, b: ClassId) -> bool
-        requires draft { IsDraft self.now }
+        requires draft { AreDraftRows self.now }
         requires known { c.0 < length self.now.h.now }
         ensures { IsTrue result ↔ (IsDirectBase self.now.h.now c false b × IsDynamic self.now.h.now b) }
     {
@@ -43,7 +43,7 @@ impl<'a> Draft<'a> {
 
     /// Whether a class has another as a virtual base, and that is dynamic.
     fn has_dynamic_virtual_base(&self, c: ClassId, v: ClassId) -> bool
-        requires draft { IsDraft self.now }
+        requires draft { AreDraftRows self.now }
         requires known { c.0 < length self.now.h.now }
         ensures { IsTrue result ↔ (HasVirtualBase self.now.h.now c v × IsDynamic self.now.h.now v) }
     {
@@ -56,9 +56,9 @@ impl<'a> Draft<'a> {
 
     /// Whether the primary base of a class is a dynamic base of it, or there is none.
     fn keeps_primary(&self, c: ClassId) -> bool
-        requires draft { IsDraft self.now }
+        requires draft { AreDraftRows self.now }
         requires known { c.0 < length self.now.h.now }
-        requires held { AreHeld self.now.h.now (places_of self.now.h.now self.now.rows.now) c }
+        requires held { HasFirstHolders self.now.h.now (places_of self.now.h.now self.now.rows.now) c }
         ensures { IsTrue result ↔ KeepsPrimary self.now.h.now (places_of self.now.h.now self.now.rows.now) c }
     {
         match self.row(c).primary {
@@ -70,7 +70,7 @@ impl<'a> Draft<'a> {
 
     /// Whether a subobject of class `c` lies at a virtual base of it, where it holds that.
     fn lies_at_held(&self, c: ClassId, v: ClassId, s: &Subobject) -> bool
-        requires draft { IsDraft self.now }
+        requires draft { AreDraftRows self.now }
         requires known { c.0 < length self.now.h.now }
         requires subobject { IsSubobject self.now.h.now c s.now }
         ensures { IsTrue result ↔ LiesAtHeld self.now.h.now self.now.rows.now c v s.now }
@@ -89,7 +89,7 @@ impl<'a> Draft<'a> {
 
     /// Whether a subobject of class `c` and its primary base have one place.
     fn lies_at_primary(&self, c: ClassId, s: &Subobject) -> bool
-        requires draft { IsDraft self.now }
+        requires draft { AreDraftRows self.now }
         requires known { c.0 < length self.now.h.now }
         requires subobject { IsSubobject self.now.h.now c s.now }
         ensures { IsTrue result ↔ LiesAtPrimary (places_of self.now.h.now self.now.rows.now) c s.now }
@@ -104,7 +104,7 @@ impl<'a> Draft<'a> {
 
     /// Whether each subobject of class `c` lies where its primary base does.
     fn all_lie(&self, c: ClassId, list: &[Subobject]) -> bool
-        requires draft { IsDraft self.now }
+        requires draft { AreDraftRows self.now }
         requires known { c.0 < length self.now.h.now }
         requires list { list.now ≡ preorder self.now.h.now c }
         ensures { IsTrue result ↔ AllLie (places_of self.now.h.now self.now.rows.now) c list.now }
@@ -119,7 +119,7 @@ impl<'a> Draft<'a> {
 
     /// Whether the size of a class is not 0, and each subobject lies where its primary base does.
     fn keeps_place(&self, c: ClassId, list: &[Subobject]) -> bool
-        requires draft { IsDraft self.now }
+        requires draft { AreDraftRows self.now }
         requires known { c.0 < length self.now.h.now }
         requires list { list.now ≡ preorder self.now.h.now c }
         ensures { IsTrue result ↔ KeepsPlace self.now.h.now (places_of self.now.h.now self.now.rows.now) c }
@@ -171,7 +171,7 @@ fn is_fit(thing: &Thing) -> bool
 
 /// Whether a thing lies inside so many bytes.
 fn is_inside(size: u32, thing: &Thing) -> bool
-    ensures { result ≡ is_inside size thing.now }
+    ensures { result ≡ fits_in_size size thing.now }
 {
     let size = size as u64;
     match thing {
@@ -193,15 +193,15 @@ fn are_fit(things: &[Thing]) -> bool
 }
 
 fn are_inside(size: u32, things: &[Thing]) -> bool
-    ensures { result ≡ list_all (is_inside size) things.now }
+    ensures { result ≡ list_all (fits_in_size size) things.now }
 {
     things.iter().all(|thing| is_inside(size, thing))
 }
 
 /// The first rule that a class of a draft does not keep, where the classes before it are sound.
 fn fault_in(alloc: Global, draft: &Draft, c: ClassId) -> Result<Option<SoundRule>, NoMemory>
-    requires draft { IsDraft draft.now }
-    requires next { IsNext draft.now.h.now draft.now.rows.now c }
+    requires draft { AreDraftRows draft.now }
+    requires next { MayBeJudged draft.now.h.now draft.now.rows.now c }
     ensures { IfOk result (IsFault draft.now.h.now (places_of draft.now.h.now draft.now.rows.now) c) }
 {
     if !draft.keeps_primary(c) {
@@ -226,7 +226,7 @@ pub fn fault_of_class(
     rows: &[ClassLayout],
     c: ClassId,
 ) -> Result<Option<SoundRule>, NoMemory>
-    requires { IsNext h.now rows.now c }
+    requires { MayBeJudged h.now rows.now c }
     ensures { IfOk result (IsFault h.now (places_of h.now rows.now) c) }
 {
     h.keeps();

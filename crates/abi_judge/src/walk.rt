@@ -8,11 +8,11 @@ ghost use Rattle.cxx_hierarchy.specs.Scalars.{size_of};
 ghost use Rattle.cxx_subobject.specs.Preorder.{preorder};
 ghost use Rattle.cxx_subobject.specs.Subobjects.{IsSubobject, class_of};
 ghost use Rattle.abi_sound.specs.Places.{places_of, size_of_value};
-ghost use Rattle.abi_judge.specs.Rules.{AreHeld};
+ghost use Rattle.abi_judge.specs.Rules.{HasFirstHolders};
 ghost use Rattle.abi_judge.specs.declared.things.Thing.TheVariants.{Part};
 ghost use Rattle.abi_judge.specs.invariants.Ways.{ways};
 ghost use Rattle.abi_judge.specs.invariants.Things.{part_thing, setting_of, things_of};
-ghost use Rattle.abi_judge.specs.invariants.Drafts.{IsDraft, IsDraftTo};
+ghost use Rattle.abi_judge.specs.invariants.Drafts.{AreDraftRows, IsDraftTo};
 ghost use Rattle.abi_judge.specs.invariants.Pushes.{AddsObjects, AddsObject, AddsOwn, AddsMember};
 ghost use Rattle.abi_judge.specs.invariants.Leaves.{leaf_from};
 
@@ -86,9 +86,9 @@ impl<'a> Draft<'a> {
         d: ClassId,
         place: u64,
     ) -> Result<(), NoMemory>
-        requires draft { IsDraft self.now }
+        requires draft { AreDraftRows self.now }
         requires known { e.0 < length self.now.h.now }
-        requires held { AreHeld self.now.h.now (places_of self.now.h.now self.now.rows.now) e }
+        requires held { HasFirstHolders self.now.h.now (places_of self.now.h.now self.now.rows.now) e }
         requires subobject { IsSubobject self.now.h.now e s.now }
         requires class { class_of s.now ≡ Some d }
         ensures { OnOk result (things.new.items ≡ things.old.items ++ Part (part_thing (setting_of self.now) place e s.now d) ∷ []) }

@@ -17,8 +17,8 @@ virtual_in (Some (Direct b)) = None
 virtual_in (Some (Virtual v)) = Some v
 
 -- the virtual base that is the primary base of class d
-abbrev pub virtual_primary : List Primary → ClassId → Option ClassId
-virtual_primary primaries d = virtual_in (slice_get primaries d.0)
+abbrev pub virtual_primary_base : List Primary → ClassId → Option ClassId
+virtual_primary_base primaries d = virtual_in (slice_get primaries d.0)
 
 abbrev pub is_holder : Option Subobject → Subobject → Bool
 is_holder None s = false
@@ -35,11 +35,11 @@ kept_if test (Some v) = if test v then Some v else None
 -- the virtual base that the subobject s, of class d, of an object of class c holds: its primary base, where it lies
 -- there and not at another subobject
 abbrev pub held_base : Classes → List Primary → ClassId → Subobject → ClassId → Option ClassId
-held_base h primaries c s d = kept_if (holds_base h primaries c s) (virtual_primary primaries d)
+held_base h primaries c s d = kept_if (holds_base h primaries c s) (virtual_primary_base primaries d)
 
 abbrev pub primary_in_class : List Primary → Option ClassId → Option ClassId
 primary_in_class primaries None = None
-primary_in_class primaries (Some d) = virtual_primary primaries d
+primary_in_class primaries (Some d) = virtual_primary_base primaries d
 
 -- the virtual base that is the primary base of the class of a subobject
 abbrev pub virtual_primary_of : List Primary → Subobject → Option ClassId

@@ -21,16 +21,16 @@ use Rattle.abi_sound.specs.declared.class_layout.ClassLayout.{ClassLayout}
 use Rattle.abi_layout.specs.declared.placed_bases.PlacedBase.{PlacedBase}
 use Rattle.abi_layout.specs.Kinds.{is_empty, is_pod}
 use Rattle.cxx_hierarchy.specs.Declarations.{is_plain_base}
-use Rattle.abi_sound.specs.Places.{members_in}
-pub use Rattle.abi_sound.specs.Places.{virtual_places_in, virtual_bases_in, virtual_place, place_from, root_place, place_of}
-use Rattle.abi_layout.specs.Placements.{IsNext, ArePlaced, after_all, bits_at, part_at, parts_at, member_component}
+use Rattle.abi_sound.specs.Places.{member_places_in}
+pub use Rattle.abi_sound.specs.Places.{virtual_places_in, virtual_bases_in, virtual_place, place_from, root_place, place_in_class}
+use Rattle.abi_layout.specs.Placements.{IsNextMultiple, ArePlaced, stage_after_all, bits_at, placed_part, parts_at, member_component}
 use Rattle.cxx_subobject.specs.VirtualBases.{virtual_bases}
 use Rattle.abi_layout.specs.Brought.{brought_by}
 use Rattle.abi_layout.specs.Repeats.{HasRepeat}
 use Rattle.abi_layout.specs.PlacedBases.{class_of_placed, subobject_of, front_bases, free_bases, placed_component}
 
 abbrev pub placed_place : Classes → List ClassLayout → ClassId → PlacedBase → ℕ
-placed_place h rows c base = place_of h rows c (subobject_of c base)
+placed_place h rows c base = place_in_class h rows c (subobject_of c base)
 
 abbrev pub primary_of : List Primary → ClassId → Primary
 primary_of primaries c = get_or primaries c.0 NoPrimary
@@ -48,9 +48,9 @@ free_components h rows primaries parts c = map (placed_component (is_empty h) h 
 abbrev pub object_parts_in : Classes → List ClassLayout → List Primary → (ClassId → List Part) → ClassId → Option Class → List Part
 object_parts_in h rows primaries parts c None = []
 object_parts_in h rows primaries parts c (Some class) =
-    part_at c 0
+    placed_part c 0
     ∷ (parts_at (front_components h rows primaries parts c class) (map (placed_place h rows c) (fronts primaries c class))
-    ++ (parts_at (map (member_component rows parts) class.members) (members_in (slice_get rows c.0))
+    ++ (parts_at (map (member_component rows parts) class.members) (member_places_in (slice_get rows c.0))
     ++ parts_at (free_components h rows primaries parts c) (map (placed_place h rows c) (free_bases h primaries c))))
 
 -- the class subobjects of a complete object of class c, with their places: itself, and what its components bring. Each
@@ -64,21 +64,21 @@ object_parts h rows primaries c = object_parts_within h rows primaries (c.0 + 1)
 
 -- before the first component: the class itself is at 0, and so is its own virtual pointer, if it has one
 abbrev pub start_stage : ClassId → Bool → Stage
-start_stage c has_pointer = record { dsize = if has_pointer then 8 else 0; free_bit = if has_pointer then 64 else 0; size = if has_pointer then 8 else 0; align = if has_pointer then 8 else 1; parts = part_at c 0 ∷ [] }
+start_stage c has_pointer = record { dsize = if has_pointer then 8 else 0; free_bit = if has_pointer then 64 else 0; size = if has_pointer then 8 else 0; align = if has_pointer then 8 else 1; parts = placed_part c 0 ∷ [] }
 
 -- the layout of class c by its components: they lie one after the other, and the size is the least multiple of the
 -- alignment that they fit in and that is not 0. Without the virtual bases that no subobject holds, the class ends where
 -- its last member ends; a POD class keeps its tail padding
 pub record IsLayoutBy (first : Stage) (fronts members frees : List Component) (front_places free_places : List ℕ) (is_pod : Bool) (row : ClassLayout) : Type 0 where
   pub fronts_placed : ArePlaced first fronts front_places
-  pub members_placed : ArePlaced (after_all first fronts front_places) members row.member_places
-  pub bits : row.member_bits ≡ bits_at (after_all first fronts front_places) members row.member_places
-  pub frees_placed : ArePlaced (after_all (after_all first fronts front_places) members row.member_places) frees free_places
-  pub nvalign : row.nvalign ≡ (after_all (after_all first fronts front_places) members row.member_places).align
-  pub nvsize : row.nvsize ≡ (if is_pod then row.size else (after_all (after_all first fronts front_places) members row.member_places).size)
-  pub align : row.align ≡ (after_all (after_all (after_all first fronts front_places) members row.member_places) frees free_places).align
-  pub size : IsNext (max 1 (after_all (after_all (after_all first fronts front_places) members row.member_places) frees free_places).size) row.align row.size
-  pub dsize : row.dsize ≡ (if is_pod then row.size else (after_all (after_all (after_all first fronts front_places) members row.member_places) frees free_places).dsize)
+  pub members_placed : ArePlaced (stage_after_all first fronts front_places) members row.member_places
+  pub bits : row.member_bits ≡ bits_at (stage_after_all first fronts front_places) members row.member_places
+  pub frees_placed : ArePlaced (stage_after_all (stage_after_all first fronts front_places) members row.member_places) frees free_places
+  pub nvalign : row.nvalign ≡ (stage_after_all (stage_after_all first fronts front_places) members row.member_places).align
+  pub nvsize : row.nvsize ≡ (if is_pod then row.size else (stage_after_all (stage_after_all first fronts front_places) members row.member_places).size)
+  pub align : row.align ≡ (stage_after_all (stage_after_all (stage_after_all first fronts front_places) members row.member_places) frees free_places).align
+  pub size : IsNextMultiple (max 1 (stage_after_all (stage_after_all (stage_after_all first fronts front_places) members row.member_places) frees free_places).size) row.align row.size
+  pub dsize : row.dsize ≡ (if is_pod then row.size else (stage_after_all (stage_after_all (stage_after_all first fronts front_places) members row.member_places) frees free_places).dsize)
 
 -- the components of class c lie at these places, and the sizes of its row come of it; it has a virtual pointer of its own,
 -- or none
@@ -103,7 +103,7 @@ pub record IsLaidRow (h : Classes) (rows : List ClassLayout) (nearly : List Bool
   pub virtuals : row.virtual_bases ≡ virtual_bases h c
   pub each_virtual : length row.virtual_places ≡ length (virtual_bases h c)
   pub holders : row.holders ≡ map (holder_of h primaries c) (virtual_bases h c)
-  pub held : (v : ClassId) (holder : Subobject) → Contains (virtual_bases h c) v → holder_of h primaries c v ≡ Some holder → virtual_place rows c v ≡ place_of h rows c holder
+  pub held : (v : ClassId) (holder : Subobject) → Contains (virtual_bases h c) v → holder_of h primaries c v ≡ Some holder → virtual_place rows c v ≡ place_in_class h rows c holder
 
 abbrev pub is_whole : Root → Bool
 is_whole Whole = true
@@ -115,7 +115,7 @@ is_empty_in h (Some d) = is_empty h d
 
 -- an empty base of c that lies in no virtual base lies elsewhere than at its start
 abbrev pub is_shifted : Classes → List ClassLayout → ClassId → Bool
-is_shifted h rows c = list_any (λ (s : Subobject). is_whole s.root && (is_empty_in h (class_of s) && not (place_of h rows c s == 0))) (preorder h c)
+is_shifted h rows c = list_any (λ (s : Subobject). is_whole s.root && (is_empty_in h (class_of s) && not (place_in_class h rows c s == 0))) (preorder h c)
 
 -- the list tells which of the first `count` classes are nearly empty
 pub record TellsNearly (h : Classes) (rows : List ClassLayout) (count : ℕ) (nearly : List Bool) : Type 0 where

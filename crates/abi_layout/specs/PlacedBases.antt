@@ -15,7 +15,7 @@ use Rattle.abi_layout.specs.declared.component.Component.{Component}
 use Rattle.abi_sound.specs.declared.class_layout.ClassLayout.{ClassLayout}
 use Rattle.abi_layout.specs.declared.placed_bases.PlacedBase.{PlacedBase}
 use Rattle.abi_layout.specs.declared.placed_bases.PlacedBase.TheVariants.{Own, VirtualBase}
-use Rattle.abi_sound.specs.Places.{size_in, nvalign_in}
+use Rattle.abi_sound.specs.Places.{size_in_row, nvalign_in}
 use Rattle.abi_layout.specs.Placements.{nvsize_in}
 use Rattle.cxx_subobject.specs.VirtualBases.{virtual_bases}
 use Rattle.abi_layout.specs.Brought.{brought_by}
@@ -66,7 +66,7 @@ abbrev pub placed_component : (ClassId → Bool) → Classes → List ClassLayou
 placed_component empties h rows primaries parts c base = record {
   is_empty = empties (class_of_placed base);
   align = nvalign_in (slice_get rows (class_of_placed base).0);
-  takes = if empties (class_of_placed base) then size_in (slice_get rows (class_of_placed base).0) else nvsize_in (slice_get rows (class_of_placed base).0);
+  takes = if empties (class_of_placed base) then size_in_row (slice_get rows (class_of_placed base).0) else nvsize_in (slice_get rows (class_of_placed base).0);
   width = None;
   parts = brought_by h rows primaries parts c (subobject_of c base) (class_of_placed base);
 }

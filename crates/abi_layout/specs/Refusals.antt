@@ -14,7 +14,7 @@ use Rattle.abi_layout.specs.Placements.{AreSmall}
 use Rattle.abi_layout.specs.Layouts.{primary_of, IsArrangedBy, HasPointer, IsLaidBy, BringsTwice}
 
 -- class c is the next one: the classes before it are laid out, and the primary bases are those of the classes up to it
-pub record IsNextClass (h : Classes) (c : ClassId) : Type 0 where
+pub record IsNextToLayOut (h : Classes) (c : ClassId) : Type 0 where
   pub class : Class
   pub there : class_at h c ≡ Some class
   pub rows : List ClassLayout
@@ -28,7 +28,7 @@ pub record IsNextClass (h : Classes) (c : ClassId) : Type 0 where
 
 -- by the rules of layout class c takes so many bytes
 pub record HasSize (h : Classes) (c : ClassId) (size : ℕ) : Type 0 where
-  pub next : IsNextClass h c
+  pub next : IsNextToLayOut h c
   pub front_places : List ℕ
   pub free_places : List ℕ
   pub row : ClassLayout
@@ -43,11 +43,11 @@ pub record IsLargeClass (h : Classes) (c : ClassId) : Type 0 where
 
 -- a base of class c brings one pair of class and place twice, wherever it is placed
 pub record HasSharedPlace (h : Classes) (c : ClassId) : Type 0 where
-  pub next : IsNextClass h c
+  pub next : IsNextToLayOut h c
   pub twice : BringsTwice h next.rows next.primaries c next.class
 
 -- no base of the first `count` classes brings one pair of class and place twice
-pub record AreApart (h : Classes) (count : ℕ) (rows : List ClassLayout) (primaries : List Primary) : Type 0 where
+pub record AreBroughtOnce (h : Classes) (count : ℕ) (rows : List ClassLayout) (primaries : List Primary) : Type 0 where
   pub each : (c : ClassId) (class : Class) → c.0 < count → class_at h c ≡ Some class → BringsTwice h rows primaries c class → ⊥
 
 -- the layout of the first `count` classes, none of which is refused
@@ -56,12 +56,12 @@ pub record IsWellLaid (h : Classes) (count : ℕ) (rows : List ClassLayout) : Ty
   pub primaries : List Primary
   pub by : IsLaidBy h count rows nearly primaries
   pub small : AreSmall rows
-  pub apart : AreApart h count rows primaries
+  pub apart : AreBroughtOnce h count rows primaries
 
 -- class c is refused so: for its size, or, within the limit, for a shared place
-pub data StopsAt (h : Classes) (c : ClassId) : Stop → Type 0 where
-  by_size : IsLargeClass h c → StopsAt h c (Limit L6)
-  by_place : (class : Class) (size : ℕ) → class_at h c ≡ Some class → HasSize h c size → size ≤ size_limit → HasSharedPlace h c → StopsAt h c (Refused SharedPlace class.at)
+pub data StopsLayout (h : Classes) (c : ClassId) : Stop → Type 0 where
+  by_size : IsLargeClass h c → StopsLayout h c (Limit L6)
+  by_place : (class : Class) (size : ℕ) → class_at h c ≡ Some class → HasSize h c size → size ≤ size_limit → HasSharedPlace h c → StopsLayout h c (Refused SharedPlace class.at)
 
 -- the first of the first `count` classes that is refused, and how
 pub record IsFirstStop (h : Classes) (count : ℕ) (stop : Stop) : Type 0 where
@@ -69,4 +69,4 @@ pub record IsFirstStop (h : Classes) (count : ℕ) (stop : Stop) : Type 0 where
   pub known : class.0 < count
   pub rows : List ClassLayout
   pub before : IsWellLaid h class.0 rows
-  pub stops : StopsAt h class stop
+  pub stops : StopsLayout h class stop

@@ -3,7 +3,7 @@
 ghost use Rattle.std.specs.Prelude.{◌≡◌, ◌≤◌, ◌⊎◌, IfOk, IfErr, max, if◌then◌else◌};
 ghost use Rattle.cxx_hierarchy.specs.declared.stop.LimitNo.{LimitNo};
 ghost use Rattle.abi_layout.specs.Limits.{size_limit};
-ghost use Rattle.abi_layout.specs.Placements.{IsNext, parts_at};
+ghost use Rattle.abi_layout.specs.Placements.{IsNextMultiple, parts_at};
 ghost use Rattle.abi_layout.specs.invariants.Alignments.{IsAlignment, IsPlacing, AreFit};
 ghost use Rattle.abi_layout.specs.Layouts.{start_stage};
 ghost use Rattle.abi_layout.specs.invariants.Arrangements.{stage_with, IsArranged, IsWithinLimit, IsTooLargeBy};
@@ -86,7 +86,7 @@ fn start(alloc: Global, c: ClassId, has_pointer: bool) -> Result<Placing, NoMemo
 fn whole_size(stage: &Stage) -> u32
     requires align { IsAlignment stage.now.align }
     requires size { stage.now.size ≤ size_limit }
-    ensures { IsNext (max 1 stage.now.size) stage.now.align result }
+    ensures { IsNextMultiple (max 1 stage.now.size) stage.now.align result }
 {
     round_up(stage.size.max(1), stage.align)
 }

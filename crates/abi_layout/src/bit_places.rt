@@ -2,7 +2,7 @@
 
 ghost use Rattle.std.specs.Prelude.{◌≡◌, ◌*◌, ◌+◌, ◌≤◌, if◌then◌else◌};
 ghost use Rattle.abi_layout.specs.Limits.{size_limit};
-ghost use Rattle.abi_layout.specs.Placements.{IsBitPlace, IsPlaced, bit_in, bits_by, bytes_of, end_of, free_bit_by};
+ghost use Rattle.abi_layout.specs.Placements.{IsBitPlace, IsComponentAt, bit_in, bits_by, bytes_for_bits, component_end, free_bit_by};
 ghost use Rattle.abi_layout.specs.invariants.Alignments.{IsAlignment, IsFit};
 
 use crate::component::{Component, Stage};
@@ -11,7 +11,7 @@ use abi_sound::Bits;
 /// How many bytes hold so many bits.
 fn bytes_of(bits: u32) -> u32
     requires { bits ≤ 10 * size_limit }
-    ensures { result ≡ bytes_of bits }
+    ensures { result ≡ bytes_for_bits bits }
 {
     (bits + 7) / 8
 }
@@ -46,7 +46,7 @@ pub(crate) fn end_of(stage: &Stage, component: &Component, at: u32) -> u32
     requires component { IsFit component.now }
     requires free { stage.now.free_bit ≤ 8 * size_limit }
     requires bounded { at ≤ size_limit + 8 }
-    ensures { result ≡ end_of stage.now component.now at }
+    ensures { result ≡ component_end stage.now component.now at }
 {
     match component.width {
         None => at + component.takes,
@@ -59,7 +59,7 @@ pub(crate) fn free_after(stage: &Stage, component: &Component, at: u32, data_end
     requires component { IsFit component.now }
     requires free { stage.now.free_bit ≤ 8 * size_limit }
     requires bounded { at ≤ size_limit + 8 }
-    requires ends { data_end ≡ (if component.now.is_empty then stage.now.dsize else end_of stage.now component.now at) }
+    requires ends { data_end ≡ (if component.now.is_empty then stage.now.dsize else component_end stage.now component.now at) }
     requires data { data_end ≤ size_limit }
     ensures { result ≡ free_bit_by component.now.width stage.now component.now at }
 {
@@ -72,7 +72,7 @@ pub(crate) fn free_after(stage: &Stage, component: &Component, at: u32, data_end
 /// The bits that hold a component at its place.
 pub(crate) fn bits_of(stage: &Stage, component: &Component, at: u32) -> Bits
     requires component { IsFit component.now }
-    requires placed { IsPlaced stage.now component.now at }
+    requires placed { IsComponentAt stage.now component.now at }
     requires bounded { at ≤ size_limit + 8 }
     ensures { result ≡ bits_by component.now.width stage.now component.now at }
 {

@@ -3,13 +3,13 @@
 ghost use Rattle.std.specs.Prelude.{◌≡◌, ◌+◌, ◌<◌, ◌≤◌, ◌++◌, ◌∷◌, [], false, Contains, IfOk, OnOk, map, length, slice_get};
 ghost use Rattle.cxx_hierarchy.specs.Classes.{bases_of};
 ghost use Rattle.cxx_subobject.specs.Subobjects.{shared_base, subobject};
-ghost use Rattle.abi_emptybase.specs.Table.{moved};
-ghost use Rattle.abi_sound.specs.Places.{base_place};
+ghost use Rattle.abi_emptybase.specs.Table.{moved_part};
+ghost use Rattle.abi_sound.specs.Places.{direct_base_place};
 ghost use Rattle.abi_layout.specs.Placements.{nvsize_in};
-ghost use Rattle.abi_layout.specs.invariants.Known.{parts_in};
+ghost use Rattle.abi_layout.specs.invariants.Known.{known_parts_of};
 ghost use Rattle.abi_layout.specs.Holding.{held_base};
 ghost use Rattle.abi_layout.specs.Brought.{base_brings, virtual_brings, brought_by};
-ghost use Rattle.abi_layout.specs.invariants.Scenes.{IsScene};
+ghost use Rattle.abi_layout.specs.invariants.Scenes.{IsLayoutScene};
 
 use crate::component::{PartList, push_moved};
 use crate::scene::{Scene, held_base};
@@ -60,7 +60,7 @@ fn put_below(
 pub(crate) fn base_place(h: &Hierarchy, rows: &[ClassLayout], d: ClassId, b: ClassId) -> u32
     requires class { d.0 < length h.now }
     requires row { d.0 < length rows.now }
-    ensures { result ≡ base_place h.now rows.now d b }
+    ensures { result ≡ direct_base_place h.now rows.now d b }
 {
     let number = number_of_base(h.class(d).bases.as_slice(), b);
     place_of_number(rows[d.0 as usize].base_places.as_slice(), number)
@@ -77,11 +77,11 @@ fn bring_base(
     at: u32,
     parts: &mut PartList,
 ) -> Result<(), NoMemory>
-    requires scene { IsScene scene.now.h.now scene.now.c scene.now.rows.now scene.now.known.now scene.now.members.now scene.now.primaries.now scene.now.list.now scene.now.holders.now }
+    requires scene { IsLayoutScene scene.now.h.now scene.now.c scene.now.rows.now scene.now.known.now scene.now.members.now scene.now.primaries.now scene.now.list.now scene.now.holders.now }
     requires before { d.0 < scene.now.c.0 }
     requires base { Contains (bases_of scene.now.h.now d) base.now }
     requires fits { at + nvsize_in (slice_get scene.now.rows.now d.0) ≤ 1000000 }
-    ensures { OnOk result (parts.new ≡ parts.old ++ map (moved at) (base_brings scene.now.h.now scene.now.rows.now (brought_by scene.now.h.now scene.now.rows.now scene.now.primaries.now (parts_in scene.now.known.now) scene.now.c) s.now d base.now)) }
+    ensures { OnOk result (parts.new ≡ parts.old ++ map (moved_part at) (base_brings scene.now.h.now scene.now.rows.now (brought_by scene.now.h.now scene.now.rows.now scene.now.primaries.now (known_parts_of scene.now.known.now) scene.now.c) s.now d base.now)) }
 {
     scene.h.keeps();
     if base.is_virtual {
@@ -108,10 +108,10 @@ fn bring_virtual(
     at: u32,
     parts: &mut PartList,
 ) -> Result<(), NoMemory>
-    requires scene { IsScene scene.now.h.now scene.now.c scene.now.rows.now scene.now.known.now scene.now.members.now scene.now.primaries.now scene.now.list.now scene.now.holders.now }
+    requires scene { IsLayoutScene scene.now.h.now scene.now.c scene.now.rows.now scene.now.known.now scene.now.members.now scene.now.primaries.now scene.now.list.now scene.now.holders.now }
     requires before { d.0 < scene.now.c.0 }
     requires fits { at + nvsize_in (slice_get scene.now.rows.now d.0) ≤ 1000000 }
-    ensures { OnOk result (parts.new ≡ parts.old ++ map (moved at) (virtual_brings (brought_by scene.now.h.now scene.now.rows.now scene.now.primaries.now (parts_in scene.now.known.now) scene.now.c) (held_base scene.now.h.now scene.now.primaries.now scene.now.c s.now d))) }
+    ensures { OnOk result (parts.new ≡ parts.old ++ map (moved_part at) (virtual_brings (brought_by scene.now.h.now scene.now.rows.now scene.now.primaries.now (known_parts_of scene.now.known.now) scene.now.c) (held_base scene.now.h.now scene.now.primaries.now scene.now.c s.now d))) }
 {
     match held_base(scene, s, d) {
         Some(v) => {
@@ -138,10 +138,10 @@ pub(crate) fn bring(
     at: u32,
     parts: &mut PartList,
 ) -> Result<(), NoMemory>
-    requires scene { IsScene scene.now.h.now scene.now.c scene.now.rows.now scene.now.known.now scene.now.members.now scene.now.primaries.now scene.now.list.now scene.now.holders.now }
+    requires scene { IsLayoutScene scene.now.h.now scene.now.c scene.now.rows.now scene.now.known.now scene.now.members.now scene.now.primaries.now scene.now.list.now scene.now.holders.now }
     requires before { d.0 < scene.now.c.0 }
     requires fits { at + nvsize_in (slice_get scene.now.rows.now d.0) ≤ 1000000 }
-    ensures { OnOk result (parts.new ≡ parts.old ++ map (moved at) (brought_by scene.now.h.now scene.now.rows.now scene.now.primaries.now (parts_in scene.now.known.now) scene.now.c s.now d)) }
+    ensures { OnOk result (parts.new ≡ parts.old ++ map (moved_part at) (brought_by scene.now.h.now scene.now.rows.now scene.now.primaries.now (known_parts_of scene.now.known.now) scene.now.c s.now d)) }
 {
     scene.h.keeps();
     parts.push(Part {

@@ -4,11 +4,11 @@
 ghost use Rattle.std.specs.Prelude.{◌≡◌, ◌+◌, ◌<◌, ◌≤◌, ◌++◌, [], Contains, OnOk, map, slice_get};
 ghost use Rattle.cxx_hierarchy.specs.Classes.{bases_of};
 ghost use Rattle.cxx_subobject.specs.declared.Subobject.{Subobject};
-ghost use Rattle.abi_emptybase.specs.Table.{moved};
+ghost use Rattle.abi_emptybase.specs.Table.{moved_part};
 ghost use Rattle.abi_layout.specs.Placements.{nvsize_in};
 ghost use Rattle.abi_layout.specs.Brought.{base_brings, brought_by};
-ghost use Rattle.abi_layout.specs.invariants.Known.{parts_in};
-ghost use Rattle.abi_layout.specs.invariants.Scenes.{IsScene};
+ghost use Rattle.abi_layout.specs.invariants.Known.{known_parts_of};
+ghost use Rattle.abi_layout.specs.invariants.Scenes.{IsLayoutScene};
 
 use crate::brought::base_place;
 use crate::component::{PartList, push_moved};
@@ -27,12 +27,12 @@ fn bring_plain_base(
     at: u32,
     parts: &mut PartList,
 ) -> Result<(), NoMemory>
-    requires scene { IsScene scene.now.h.now scene.now.c scene.now.rows.now scene.now.known.now scene.now.members.now scene.now.primaries.now scene.now.list.now scene.now.holders.now }
+    requires scene { IsLayoutScene scene.now.h.now scene.now.c scene.now.rows.now scene.now.known.now scene.now.members.now scene.now.primaries.now scene.now.list.now scene.now.holders.now }
     requires plain { scene.now.list.now ≡ [] }
     requires before { d.0 < scene.now.c.0 }
     requires base { Contains (bases_of scene.now.h.now d) base.now }
     requires fits { at + nvsize_in (slice_get scene.now.rows.now d.0) ≤ 1000000 }
-    ensures { OnOk result ((s : Subobject) → parts.new ≡ parts.old ++ map (moved at) (base_brings scene.now.h.now scene.now.rows.now (brought_by scene.now.h.now scene.now.rows.now scene.now.primaries.now (parts_in scene.now.known.now) scene.now.c) s d base.now)) }
+    ensures { OnOk result ((s : Subobject) → parts.new ≡ parts.old ++ map (moved_part at) (base_brings scene.now.h.now scene.now.rows.now (brought_by scene.now.h.now scene.now.rows.now scene.now.primaries.now (known_parts_of scene.now.known.now) scene.now.c) s d base.now)) }
 {
     scene.h.keeps();
     if base.is_virtual {
@@ -52,11 +52,11 @@ pub(crate) fn bring_plain(
     at: u32,
     parts: &mut PartList,
 ) -> Result<(), NoMemory>
-    requires scene { IsScene scene.now.h.now scene.now.c scene.now.rows.now scene.now.known.now scene.now.members.now scene.now.primaries.now scene.now.list.now scene.now.holders.now }
+    requires scene { IsLayoutScene scene.now.h.now scene.now.c scene.now.rows.now scene.now.known.now scene.now.members.now scene.now.primaries.now scene.now.list.now scene.now.holders.now }
     requires plain { scene.now.list.now ≡ [] }
     requires before { d.0 < scene.now.c.0 }
     requires fits { at + nvsize_in (slice_get scene.now.rows.now d.0) ≤ 1000000 }
-    ensures { OnOk result ((s : Subobject) → parts.new ≡ parts.old ++ map (moved at) (brought_by scene.now.h.now scene.now.rows.now scene.now.primaries.now (parts_in scene.now.known.now) scene.now.c s d)) }
+    ensures { OnOk result ((s : Subobject) → parts.new ≡ parts.old ++ map (moved_part at) (brought_by scene.now.h.now scene.now.rows.now scene.now.primaries.now (known_parts_of scene.now.known.now) scene.now.c s d)) }
 {
     scene.h.keeps();
     parts.push(Part {

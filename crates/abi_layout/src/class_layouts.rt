@@ -6,7 +6,7 @@ ghost use Rattle.cxx_hierarchy.specs.Classes.{Classes};
 ghost use Rattle.cxx_subobject.specs.Preorder.{preorder};
 ghost use Rattle.abi_primary.specs.Kinds.{IsDynamic, TellDynamic};
 ghost use Rattle.abi_primary.specs.NearlyEmpty.{IsNearlyEmpty};
-ghost use Rattle.abi_layout.specs.Refusals.{IsWellLaid, StopsAt, IsFirstStop};
+ghost use Rattle.abi_layout.specs.Refusals.{IsWellLaid, StopsLayout, IsFirstStop};
 ghost use Rattle.abi_layout.specs.invariants.LaidSoFar.{IsLaidSoFar, is_shifted_base};
 
 use crate::class_layout::AbiLayout;
@@ -92,7 +92,7 @@ fn lay_out_next(
     requires dynamic { TellDynamic h.now dynamic.now }
     requires laid { IsLaidSoFar h.now c.0 so_far.old.rows.items so_far.old.known.items so_far.old.members.items so_far.old.nearly.items so_far.old.primaries.items }
     ensures laid { OnOk result (IsLaidSoFar h.now (c.0 + 1) so_far.new.rows.items so_far.new.known.items so_far.new.members.items so_far.new.nearly.items so_far.new.primaries.items) }
-    ensures stop { IfErr result (λ e. (e ≡ Stop.NoMemory) ⊎ StopsAt h.now c e) }
+    ensures stop { IfErr result (λ e. (e ≡ Stop.NoMemory) ⊎ StopsLayout h.now c e) }
 {
     h.keeps();
     let list = list_if_virtual(alloc, h, c)?;

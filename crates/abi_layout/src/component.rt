@@ -1,7 +1,7 @@
 //! What a class is made of: its components, and how far its layout has come.
 
 ghost use Rattle.std.specs.Prelude.{◌≡◌, ◌+◌, ◌^◌, ◌<◌, ◌≤◌, ◌++◌, All, OnOk, map};
-ghost use Rattle.abi_emptybase.specs.Table.{moved};
+ghost use Rattle.abi_emptybase.specs.Table.{moved_part};
 ghost use Rattle.abi_layout.specs.Limits.{size_limit};
 ghost use Rattle.abi_layout.specs.Placements.{parts_at};
 ghost use Rattle.abi_layout.specs.invariants.Alignments.{AreFit};
@@ -37,7 +37,7 @@ pub struct Stage {
 /// Puts parts, this many bytes further, behind the others.
 pub(crate) fn push_moved(list: &mut PartList, parts: &[Part], at: u32) -> Result<(), NoMemory>
     requires { All (λ part. part.place + at < 2 ^ 32) parts.now }
-    ensures { OnOk result (list.new ≡ list.old ++ map (moved at) parts.now) }
+    ensures { OnOk result (list.new ≡ list.old ++ map (moved_part at) parts.now) }
 {
     for part in parts {
         list.push(Part {

@@ -4,7 +4,7 @@ ghost use Rattle.std.specs.Prelude.{◌≡◌, ◌++◌, IfOk, OnOk};
 ghost use Rattle.std.specs.List.{filter_map};
 ghost use Rattle.std.specs.Option.{option_to_list};
 ghost use Rattle.cxx_subobject.specs.VirtualBases.{shared_class};
-ghost use Rattle.abi_layout.specs.Holding.{virtual_in, virtual_primary, virtual_primary_of, with_holder, AreHolders};
+ghost use Rattle.abi_layout.specs.Holding.{virtual_in, virtual_primary_base, virtual_primary_of, with_holder, AreHolders};
 
 use abi_primary::Primary;
 use cxx_hierarchy::ClassId;
@@ -44,7 +44,7 @@ fn virtual_of(primary: Primary) -> Option<ClassId>
 
 /// The virtual base that is the primary base of a class.
 pub(crate) fn virtual_primary(primaries: &[Primary], d: ClassId) -> Option<ClassId>
-    ensures { result ≡ virtual_primary primaries.now d }
+    ensures { result ≡ virtual_primary_base primaries.now d }
 {
     match primaries.get(d.0 as usize) {
         Some(primary) => virtual_of(*primary),

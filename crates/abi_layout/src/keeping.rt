@@ -4,7 +4,7 @@ ghost use Rattle.std.specs.Prelude.{◌≡◌, ◌<◌, true, length};
 ghost use Rattle.std.specs.List.{list_any};
 ghost use Rattle.cxx_hierarchy.specs.declared.records.ClassId.{ClassId};
 ghost use Rattle.cxx_hierarchy.specs.declared.records.Member.{Member};
-ghost use Rattle.abi_layout.specs.invariants.Known.{is_object, IsMemberType, IsKept};
+ghost use Rattle.abi_layout.specs.invariants.Known.{is_object, IsMemberType, KeepsEnough};
 
 use crate::known::Known;
 use cxx_hierarchy::{ClassId, FieldType, Hierarchy, Member};
@@ -44,7 +44,7 @@ fn is_member_type(h: &Hierarchy, c: ClassId) -> bool
 /// What is kept of a class: the class subobjects that an object of it brings are left out where no member is one.
 #[tactic(auto, using(crate::proofs::algorithm::KeepingLemmas::all_kept))]
 pub(crate) fn kept(alloc: Global, h: &Hierarchy, c: ClassId, known: Known) -> Known
-    ensures { IsKept h.now c known result }
+    ensures { KeepsEnough h.now c known result }
 {
     if known.parts.len() <= FEW_PARTS {
         return known;

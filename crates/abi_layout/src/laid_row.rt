@@ -5,11 +5,11 @@ ghost use Rattle.cxx_hierarchy.specs.Classes.{class_at};
 ghost use Rattle.cxx_hierarchy.specs.declared.records.ClassId.{ClassId};
 ghost use Rattle.abi_layout.specs.invariants.Known.{AreAllSized};
 ghost use Rattle.abi_layout.specs.Holding.{AreHolders};
-ghost use Rattle.abi_layout.specs.invariants.Scenes.{IsScene};
+ghost use Rattle.abi_layout.specs.invariants.Scenes.{IsLayoutScene};
 ghost use Rattle.abi_layout.specs.PlacedBases.{IsPossible};
 ghost use Rattle.abi_layout.specs.Layouts.{primary_of};
 ghost use Rattle.abi_layout.specs.invariants.Arrangements.{row_from};
-ghost use Rattle.abi_layout.specs.invariants.Settled.{held_at, HasRoom, CanSettle, free_table};
+ghost use Rattle.abi_layout.specs.invariants.Settled.{held_at, EndsWithinLimit, CanSettle, free_table};
 ghost use Rattle.abi_layout.specs.invariants.ClassRows.{AreSmaller, AreVirtualPlacesIn, FillsRow, IsOneOrOther, IsRefusedBy, filled_row, IsRowAdded};
 ghost use Rattle.abi_sound.specs.declared.class_layout.ClassLayout.{ClassLayout};
 
@@ -152,7 +152,7 @@ fn place_virtuals(
     requires class { scene.now.c.0 < length scene.now.h.now }
     requires row { length rows.old.items ≡ scene.now.c.0 + 1 }
     requires can { CanSettle scene.now.h.now rows.old.items scene.now.list.now scene.now.holders.now }
-    requires room { HasRoom rows.old.items (free_table scene.now.c.0 scene.now.free.now scene.now.free_places.now) }
+    requires room { EndsWithinLimit rows.old.items (free_table scene.now.c.0 scene.now.free.now scene.now.free_places.now) }
     ensures { OnOk result ((places : List ℕ) × AreVirtualPlacesIn scene.now rows.old.items virtuals.items places × FillsRow scene.now virtuals.items places rows.old.items rows.new.items) }
 {
     let places = virtual_places(alloc, scene, rows, &virtuals)?;
@@ -186,7 +186,7 @@ pub(crate) fn lay_out_class(
     next: &NextClass,
     rows: &mut Vec<ClassLayout>,
 ) -> Result<ClassFacts, Stop>
-    requires scene { (holders : List (Option ℕ)) → AreHolders next.now.primaries.now next.now.list.now next.now.c.0 holders → IsScene h.now next.now.c rows.old.items next.now.known.now next.now.members.now next.now.primaries.now next.now.list.now holders }
+    requires scene { (holders : List (Option ℕ)) → AreHolders next.now.primaries.now next.now.list.now next.now.c.0 holders → IsLayoutScene h.now next.now.c rows.old.items next.now.known.now next.now.members.now next.now.primaries.now next.now.list.now holders }
     requires sized { AreAllSized rows.old.items next.now.known.now }
     requires class { class_at h.now next.now.c ≡ Some next.now.class.now }
     requires primary { IsPossible h.now next.now.c next.now.primary }

@@ -3,12 +3,12 @@
 ghost use Rattle.std.specs.Prelude.{◌≡◌, ◌<◌, ◌≤◌, ◌++◌, ◌∷◌, [], ◌&&◌, not, All, IfOk, OnOk, filter, map, slice_get};
 ghost use Rattle.cxx_hierarchy.specs.declared.records.ClassId.{ClassId};
 ghost use Rattle.cxx_hierarchy.specs.declared.records.Base.{Base};
-ghost use Rattle.abi_emptybase.specs.Table.{moved};
+ghost use Rattle.abi_emptybase.specs.Table.{moved_part};
 ghost use Rattle.abi_primary.specs.Holder.{holder_of};
 ghost use Rattle.abi_layout.specs.Brought.{brought_by};
 ghost use Rattle.abi_layout.specs.Placements.{nvsize_in};
-ghost use Rattle.abi_layout.specs.invariants.Known.{empties_in, parts_in};
-ghost use Rattle.abi_layout.specs.invariants.Scenes.{IsScene};
+ghost use Rattle.abi_layout.specs.invariants.Known.{empties_in, known_parts_of};
+ghost use Rattle.abi_layout.specs.invariants.Scenes.{IsLayoutScene};
 ghost use Rattle.abi_layout.specs.PlacedBases.{class_of_placed, subobject_of, is_first_base, first_base, is_other_base, front_bases, is_free, component_of_row, placed_component};
 
 use crate::brought::{bring, shared_base};
@@ -117,7 +117,7 @@ pub(crate) fn front_bases(
 
 /// Whether no subobject holds a virtual base.
 fn is_free(scene: &Scene, v: ClassId) -> bool
-    requires scene { IsScene scene.now.h.now scene.now.c scene.now.rows.now scene.now.known.now scene.now.members.now scene.now.primaries.now scene.now.list.now scene.now.holders.now }
+    requires scene { IsLayoutScene scene.now.h.now scene.now.c scene.now.rows.now scene.now.known.now scene.now.members.now scene.now.primaries.now scene.now.list.now scene.now.holders.now }
     requires before { v.0 < scene.now.c.0 }
     ensures { result ≡ is_free (holder_of scene.now.h.now scene.now.primaries.now scene.now.c v) }
 {
@@ -126,7 +126,7 @@ fn is_free(scene: &Scene, v: ClassId) -> bool
 
 /// Puts a virtual base behind the others, if no subobject holds it.
 fn push_free(free: &mut Vec<PlacedBase>, scene: &Scene, v: ClassId) -> Result<(), NoMemory>
-    requires scene { IsScene scene.now.h.now scene.now.c scene.now.rows.now scene.now.known.now scene.now.members.now scene.now.primaries.now scene.now.list.now scene.now.holders.now }
+    requires scene { IsLayoutScene scene.now.h.now scene.now.c scene.now.rows.now scene.now.known.now scene.now.members.now scene.now.primaries.now scene.now.list.now scene.now.holders.now }
     requires before { v.0 < scene.now.c.0 }
     ensures { OnOk result (free.new.items ≡ free.old.items ++ map (λ (w : ClassId). PlacedBase.VirtualBase w) (filter (λ w. is_free (holder_of scene.now.h.now scene.now.primaries.now scene.now.c w)) (v ∷ []))) }
 {
@@ -142,7 +142,7 @@ pub(crate) fn free_bases(
     scene: &Scene,
     virtuals: &[ClassId],
 ) -> Result<Vec<PlacedBase>, NoMemory>
-    requires scene { IsScene scene.now.h.now scene.now.c scene.now.rows.now scene.now.known.now scene.now.members.now scene.now.primaries.now scene.now.list.now scene.now.holders.now }
+    requires scene { IsLayoutScene scene.now.h.now scene.now.c scene.now.rows.now scene.now.known.now scene.now.members.now scene.now.primaries.now scene.now.list.now scene.now.holders.now }
     requires before { All (λ v. v.0 < scene.now.c.0) virtuals.now }
     ensures { IfOk result (λ free. free.items ≡ map (λ (w : ClassId). PlacedBase.VirtualBase w) (filter (λ w. is_free (holder_of scene.now.h.now scene.now.primaries.now scene.now.c w)) virtuals.now)) }
 {
@@ -174,10 +174,10 @@ fn bring_placed(
     b: ClassId,
     parts: &mut PartList,
 ) -> Result<(), NoMemory>
-    requires scene { IsScene scene.now.h.now scene.now.c scene.now.rows.now scene.now.known.now scene.now.members.now scene.now.primaries.now scene.now.list.now scene.now.holders.now }
+    requires scene { IsLayoutScene scene.now.h.now scene.now.c scene.now.rows.now scene.now.known.now scene.now.members.now scene.now.primaries.now scene.now.list.now scene.now.holders.now }
     requires before { b.0 < scene.now.c.0 }
     requires fits { nvsize_in (slice_get scene.now.rows.now b.0) ≤ 1000000 }
-    ensures { OnOk result (parts.new ≡ parts.old ++ map (moved 0) (brought_by scene.now.h.now scene.now.rows.now scene.now.primaries.now (parts_in scene.now.known.now) scene.now.c (subobject_of scene.now.c base) b)) }
+    ensures { OnOk result (parts.new ≡ parts.old ++ map (moved_part 0) (brought_by scene.now.h.now scene.now.rows.now scene.now.primaries.now (known_parts_of scene.now.known.now) scene.now.c (subobject_of scene.now.c base) b)) }
 {
     if scene.list.is_empty() {
         bring_plain(scene, b, 0, parts)?;
@@ -190,10 +190,10 @@ fn bring_placed(
 
 /// What a placed base is to its class.
 fn placed_component(alloc: Global, scene: &Scene, base: PlacedBase) -> Result<Component, NoMemory>
-    requires scene { IsScene scene.now.h.now scene.now.c scene.now.rows.now scene.now.known.now scene.now.members.now scene.now.primaries.now scene.now.list.now scene.now.holders.now }
+    requires scene { IsLayoutScene scene.now.h.now scene.now.c scene.now.rows.now scene.now.known.now scene.now.members.now scene.now.primaries.now scene.now.list.now scene.now.holders.now }
     requires before { (class_of_placed base).0 < scene.now.c.0 }
     requires fits { nvsize_in (slice_get scene.now.rows.now (class_of_placed base).0) ≤ 1000000 }
-    ensures { IfOk result (λ component. component ≡ placed_component (empties_in scene.now.known.now) scene.now.h.now scene.now.rows.now scene.now.primaries.now (parts_in scene.now.known.now) scene.now.c base) }
+    ensures { IfOk result (λ component. component ≡ placed_component (empties_in scene.now.known.now) scene.now.h.now scene.now.rows.now scene.now.primaries.now (known_parts_of scene.now.known.now) scene.now.c base) }
 {
     let b = class_of_placed(base);
     let mut parts = Sequence::new(alloc);
@@ -209,10 +209,10 @@ pub(crate) fn placed_components(
     scene: &Scene,
     bases: &[PlacedBase],
 ) -> Result<Vec<Component>, NoMemory>
-    requires scene { IsScene scene.now.h.now scene.now.c scene.now.rows.now scene.now.known.now scene.now.members.now scene.now.primaries.now scene.now.list.now scene.now.holders.now }
+    requires scene { IsLayoutScene scene.now.h.now scene.now.c scene.now.rows.now scene.now.known.now scene.now.members.now scene.now.primaries.now scene.now.list.now scene.now.holders.now }
     requires before { All (λ base. (class_of_placed base).0 < scene.now.c.0) bases.now }
     requires fits { (d : ClassId) → d.0 < scene.now.c.0 → nvsize_in (slice_get scene.now.rows.now d.0) ≤ 1000000 }
-    ensures { IfOk result (λ components. components.items ≡ map (placed_component (empties_in scene.now.known.now) scene.now.h.now scene.now.rows.now scene.now.primaries.now (parts_in scene.now.known.now) scene.now.c) bases.now) }
+    ensures { IfOk result (λ components. components.items ≡ map (placed_component (empties_in scene.now.known.now) scene.now.h.now scene.now.rows.now scene.now.primaries.now (known_parts_of scene.now.known.now) scene.now.c) bases.now) }
 {
     let mut components = Vec::new(alloc);
     for base in bases {

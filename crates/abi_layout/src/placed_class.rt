@@ -5,7 +5,7 @@ ghost use Rattle.cxx_hierarchy.specs.Classes.{class_at};
 ghost use Rattle.cxx_hierarchy.specs.declared.stop.Rule.{Rule};
 ghost use Rattle.abi_layout.specs.invariants.Alignments.{AreFit};
 ghost use Rattle.abi_layout.specs.invariants.Known.{AreAllSized, members_by, empties_in, pods_in};
-ghost use Rattle.abi_layout.specs.invariants.Scenes.{IsScene};
+ghost use Rattle.abi_layout.specs.invariants.Scenes.{IsLayoutScene};
 ghost use Rattle.abi_layout.specs.PlacedBases.{class_of_placed, front_bases, free_bases, IsPossible};
 ghost use Rattle.abi_layout.specs.Kinds.{empty_kind, pod_kind};
 ghost use Rattle.abi_layout.specs.Placements.{parts_at};
@@ -70,7 +70,7 @@ pub(crate) fn arrange_class(
     has_pointer: bool,
     is_pod: bool,
 ) -> Result<Arrangement, Stop>
-    requires scene { IsScene scene.now.h.now scene.now.c scene.now.rows.now scene.now.known.now scene.now.members.now scene.now.primaries.now scene.now.list.now scene.now.holders.now }
+    requires scene { IsLayoutScene scene.now.h.now scene.now.c scene.now.rows.now scene.now.known.now scene.now.members.now scene.now.primaries.now scene.now.list.now scene.now.holders.now }
     requires sized { AreAllSized scene.now.rows.now scene.now.known.now }
     requires class { class_at scene.now.h.now scene.now.c ≡ Some class.now }
     requires fronts { All (λ base. (class_of_placed base).0 < scene.now.c.0) front.now }
@@ -123,7 +123,7 @@ pub(crate) fn place_class(
     has_pointer: bool,
     virtuals: &[ClassId],
 ) -> Result<PlacedClass, Stop>
-    requires scene { IsScene scene.now.h.now scene.now.c scene.now.rows.now scene.now.known.now scene.now.members.now scene.now.primaries.now scene.now.list.now scene.now.holders.now }
+    requires scene { IsLayoutScene scene.now.h.now scene.now.c scene.now.rows.now scene.now.known.now scene.now.members.now scene.now.primaries.now scene.now.list.now scene.now.holders.now }
     requires sized { AreAllSized scene.now.rows.now scene.now.known.now }
     requires class { class_at scene.now.h.now scene.now.c ≡ Some class.now }
     requires primary { IsPossible scene.now.h.now scene.now.c primary }

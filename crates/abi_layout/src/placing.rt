@@ -1,11 +1,11 @@
 //! Components of a class, placed one after the other (Itanium C++ ABI 2.4).
 
 ghost use Rattle.std.specs.Prelude.{◌≡◌, ◌+◌, ◌^◌, ◌<◌, ◌≤◌, ◌⊎◌, All, map, if◌then◌else◌, IfOk, IfErr, IfSome, IfNone, OnOk, None};
-ghost use Rattle.abi_emptybase.specs.Table.{has_conflict, moved};
+ghost use Rattle.abi_emptybase.specs.Table.{has_conflict, moved_part};
 ghost use Rattle.cxx_hierarchy.specs.declared.stop.LimitNo.{LimitNo};
 ghost use Rattle.abi_layout.specs.Limits.{size_limit};
-ghost use Rattle.abi_layout.specs.Placements.{IsNext, IsPlace, IsPlaced, ArePlaced, end_of, after, after_all, bits_at};
-ghost use Rattle.abi_layout.specs.invariants.Alignments.{IsAlignment, IsFit, AreFit, HasTable, IsReady, with_parts, IsPlacing, HasNoPlace, IsPastLimit};
+ghost use Rattle.abi_layout.specs.Placements.{IsNextMultiple, IsLeastFreePlace, IsComponentAt, ArePlaced, component_end, stage_after, stage_after_all, bits_at};
+ghost use Rattle.abi_layout.specs.invariants.Alignments.{IsAlignment, IsFit, AreFit, ListsFirstParts, IsTableReady, with_parts, IsPlacing, HasNoPlace, IsPastLimit};
 
 use crate::bit_places::{bit_place, bits_of, end_of, free_after};
 use crate::component::{Component, Stage, push_moved};
@@ -34,7 +34,7 @@ pub struct Placing {
 pub(crate) fn round_up(place: u32, align: u32) -> u32
     requires alignment { IsAlignment align }
     requires bounded { place ≤ size_limit }
-    ensures { IsNext place align result }
+    ensures { IsNextMultiple place align result }
 {
     (place + (align - 1)) / align * align
 }
@@ -42,7 +42,7 @@ pub(crate) fn round_up(place: u32, align: u32) -> u32
 /// Whether the component, at this place, would bring a subobject of a class to where one of that class is already.
 fn is_taken(placing: &Placing, component: &Component, at: u32) -> bool
     requires placing { IsPlacing placing.now }
-    requires ready { IsReady placing.now component.now }
+    requires ready { IsTableReady placing.now component.now }
     requires component { IsFit component.now }
     requires bounded { at ≤ size_limit }
     ensures { result ≡ has_conflict placing.now.stage.parts component.now.parts at }
@@ -57,10 +57,10 @@ fn is_taken(placing: &Placing, component: &Component, at: u32) -> bool
 /// The place of the next component, which is no bit-field, and None where it lies behind the largest size.
 fn find_place(placing: &Placing, component: &Component) -> Option<u32>
     requires placing { IsPlacing placing.now }
-    requires ready { IsReady placing.now component.now }
+    requires ready { IsTableReady placing.now component.now }
     requires component { IsFit component.now }
     requires whole { component.now.width ≡ None }
-    ensures place { IfSome result (λ at. IsPlace placing.now.stage component.now at) }
+    ensures place { IfSome result (λ at. IsLeastFreePlace placing.now.stage component.now at) }
     ensures within { IfSome result (λ at. at ≤ size_limit) }
     ensures past { IfNone result (HasNoPlace placing.now.stage component.now) }
 {
@@ -80,10 +80,10 @@ fn find_place(placing: &Placing, component: &Component) -> Option<u32>
 /// Puts the class subobjects of a component, which lies at a place, behind the others.
 /// The table takes them only once it is asked.
 pub(crate) fn add_parts(placing: &mut Placing, parts: &[Part], at: u32) -> Result<(), NoMemory>
-    requires table { HasTable placing.old }
+    requires table { ListsFirstParts placing.old }
     requires bounded { All (λ part. part.place + at < 2 ^ 32) parts.now }
-    ensures table { OnOk result (HasTable placing.new) }
-    ensures stage { OnOk result (placing.new.stage ≡ with_parts placing.old.stage (map (moved at) parts.now)) }
+    ensures table { OnOk result (ListsFirstParts placing.new) }
+    ensures stage { OnOk result (placing.new.stage ≡ with_parts placing.old.stage (map (moved_part at) parts.now)) }
 {
     push_moved(&mut placing.stage.parts, parts, at)?;
     Ok(())
@@ -94,7 +94,7 @@ pub(crate) fn add_parts(placing: &mut Placing, parts: &[Part], at: u32) -> Resul
 fn make_ready(placing: &mut Placing, component: &Component) -> Result<(), NoMemory>
     requires { IsPlacing placing.old }
     ensures placing { OnOk result (IsPlacing placing.new) }
-    ensures ready { OnOk result (IsReady placing.new component.now) }
+    ensures ready { OnOk result (IsTableReady placing.new component.now) }
     ensures stage { OnOk result (placing.new.stage ≡ placing.old.stage) }
 {
     let parts = placing.stage.parts.as_slice();
@@ -116,9 +116,9 @@ fn data_end(stage: &Stage, component: &Component, end: u32) -> u32
 /// The place of the next component, and None where it lies behind the largest size.
 fn place_of(placing: &Placing, component: &Component) -> Option<u32>
     requires placing { IsPlacing placing.now }
-    requires ready { IsReady placing.now component.now }
+    requires ready { IsTableReady placing.now component.now }
     requires component { IsFit component.now }
-    ensures place { IfSome result (λ at. IsPlaced placing.now.stage component.now at) }
+    ensures place { IfSome result (λ at. IsComponentAt placing.now.stage component.now at) }
     ensures within { IfSome result (λ at. at ≤ size_limit + 8) }
     ensures past { IfNone result (HasNoPlace placing.now.stage component.now) }
 {
@@ -132,9 +132,9 @@ fn place_of(placing: &Placing, component: &Component) -> Option<u32>
 fn put(placing: &mut Placing, component: &Component, at: u32) -> Result<(), NoMemory>
     requires placing { IsPlacing placing.old }
     requires component { IsFit component.now }
-    requires place { IsPlaced placing.old.stage component.now at }
-    requires bounded { end_of placing.old.stage component.now at ≤ size_limit }
-    ensures after { IfOk result (λ _. placing.new.stage ≡ after placing.old.stage component.now at) }
+    requires place { IsComponentAt placing.old.stage component.now at }
+    requires bounded { component_end placing.old.stage component.now at ≤ size_limit }
+    ensures after { IfOk result (λ _. placing.new.stage ≡ stage_after placing.old.stage component.now at) }
     ensures placing { IfOk result (λ _. IsPlacing placing.new) }
 {
     let end = end_of(&placing.stage, component, at);
@@ -165,7 +165,7 @@ pub(crate) fn place_all(
     requires components { AreFit components.now }
     ensures placed { IfOk result (λ all. ArePlaced placing.old.stage components.now all.places) }
     ensures bits { IfOk result (λ all. all.bits ≡ bits_at placing.old.stage components.now all.places) }
-    ensures after { IfOk result (λ all. placing.new.stage ≡ after_all placing.old.stage components.now all.places) }
+    ensures after { IfOk result (λ all. placing.new.stage ≡ stage_after_all placing.old.stage components.now all.places) }
     ensures placing { IfOk result (λ _. IsPlacing placing.new) }
     ensures limit { IfErr result (λ e. (e ≡ Stop.NoMemory) ⊎ ((e ≡ Stop.Limit LimitNo.L6) × IsPastLimit placing.old.stage components.now)) }
 {
@@ -197,7 +197,7 @@ pub(crate) fn place_bases(
     requires placing { IsPlacing placing.old }
     requires components { AreFit components.now }
     ensures placed { IfOk result (λ places. ArePlaced placing.old.stage components.now places) }
-    ensures after { IfOk result (λ places. placing.new.stage ≡ after_all placing.old.stage components.now places) }
+    ensures after { IfOk result (λ places. placing.new.stage ≡ stage_after_all placing.old.stage components.now places) }
     ensures placing { IfOk result (λ _. IsPlacing placing.new) }
     ensures limit { IfErr result (λ e. (e ≡ Stop.NoMemory) ⊎ ((e ≡ Stop.Limit LimitNo.L6) × IsPastLimit placing.old.stage components.now)) }
 {

@@ -5,9 +5,9 @@ ghost use Rattle.cxx_hierarchy.specs.declared.records.ClassId.{ClassId};
 ghost use Rattle.cxx_hierarchy.specs.declared.records.Member.{Member};
 ghost use Rattle.cxx_hierarchy.specs.declared.stop.LimitNo.{LimitNo};
 ghost use Rattle.abi_layout.specs.Limits.{size_limit};
-ghost use Rattle.abi_layout.specs.Placements.{member_component, copies, elements_of, size_of_type, align_of_type, parts_of_type, first_stage};
-ghost use Rattle.abi_layout.specs.invariants.Alignments.{AreWithin, AreLittle, IsPlacing};
-ghost use Rattle.abi_layout.specs.invariants.Known.{parts_in, AreAllSized, empty_stage, IsEarlierType, HasLarge};
+ghost use Rattle.abi_layout.specs.Placements.{member_component, copies, elements_of, size_of_member_type, align_of_type, parts_of_type, stage_before_all};
+ghost use Rattle.abi_layout.specs.invariants.Alignments.{LieUpTo, AreLittle, IsPlacing};
+ghost use Rattle.abi_layout.specs.invariants.Known.{known_parts_of, AreAllSized, empty_stage, IsEarlierType, HasLarge};
 
 use crate::component::{Component, PartList, Stage, push_moved};
 use crate::known::Known;
@@ -22,7 +22,7 @@ use std::alloc::Global;
 /// The size of a member or of an array's element, in bytes.
 fn size_of_type(rows: &[ClassLayout], ty: &FieldType<ClassId>) -> u32
     requires { IsEarlierType (length rows.now) ty.now }
-    ensures { result ≡ size_of_type rows.now ty.now }
+    ensures { result ≡ size_of_member_type rows.now ty.now }
 {
     match ty {
         FieldType::Value(ty) => size_of_value(ty),
@@ -44,7 +44,7 @@ fn align_of_type(rows: &[ClassLayout], ty: &FieldType<ClassId>) -> u32
 /// The parts of so many copies, each a stride further.
 fn copies(alloc: Global, count: u32, stride: u32, parts: &[Part]) -> Result<PartList, NoMemory>
     requires bounded { count * stride ≤ size_limit }
-    requires within { AreWithin stride parts.now }
+    requires within { LieUpTo stride parts.now }
     ensures { IfOk result (λ list. list ≡ copies count stride parts.now) }
 {
     let mut list = Sequence::new(alloc);
@@ -63,8 +63,8 @@ fn member_parts(
 ) -> Result<PartList, NoMemory>
     requires earlier { IsEarlierType (length known.now) member.now.ty }
     requires bounded { elements_of member.now.count * size ≤ size_limit }
-    requires within { AreWithin size (parts_of_type (parts_in known.now) member.now.ty) }
-    ensures { IfOk result (λ parts. parts ≡ copies (elements_of member.now.count) size (parts_of_type (parts_in known.now) member.now.ty)) }
+    requires within { LieUpTo size (parts_of_type (known_parts_of known.now) member.now.ty) }
+    ensures { IfOk result (λ parts. parts ≡ copies (elements_of member.now.count) size (parts_of_type (known_parts_of known.now) member.now.ty)) }
 {
     match &member.ty {
         FieldType::Value(_) => copies(alloc, elements_of(member.count), size, &[]),
@@ -99,9 +99,9 @@ fn member_component(
     requires earlier { IsEarlierType (length rows.now) member.now.ty }
     requires known { length known.now ≡ length rows.now }
     requires within { AreAllSized rows.now known.now }
-    ensures component { IfOk result (λ component. component ≡ member_component rows.now (parts_in known.now) member.now) }
+    ensures component { IfOk result (λ component. component ≡ member_component rows.now (known_parts_of known.now) member.now) }
     ensures little { IfOk result (λ component. component.takes ≤ size_limit) }
-    ensures limit { IfErr result (λ e. (e ≡ Stop.NoMemory) ⊎ ((e ≡ Stop.Limit LimitNo.L6) × (size_limit < (member_component rows.now (parts_in known.now) member.now).takes))) }
+    ensures limit { IfErr result (λ e. (e ≡ Stop.NoMemory) ⊎ ((e ≡ Stop.Limit LimitNo.L6) × (size_limit < (member_component rows.now (known_parts_of known.now) member.now).takes))) }
 {
     let size = size_of_type(rows, &member.ty);
     let takes = elements_of(member.count) as u64 * size as u64;
@@ -131,8 +131,8 @@ pub(crate) fn member_components(
     requires known { length known.now ≡ length rows.now }
     requires within { AreAllSized rows.now known.now }
     ensures little { IfOk result (λ components. AreLittle components.items) }
-    ensures components { IfOk result (λ components. components.items ≡ map (member_component rows.now (parts_in known.now)) members.now) }
-    ensures limit { IfErr result (λ e. (e ≡ Stop.NoMemory) ⊎ ((e ≡ Stop.Limit LimitNo.L6) × HasLarge (map (member_component rows.now (parts_in known.now)) members.now))) }
+    ensures components { IfOk result (λ components. components.items ≡ map (member_component rows.now (known_parts_of known.now)) members.now) }
+    ensures limit { IfErr result (λ e. (e ≡ Stop.NoMemory) ⊎ ((e ≡ Stop.Limit LimitNo.L6) × HasLarge (map (member_component rows.now (known_parts_of known.now)) members.now))) }
 {
     let mut components = Vec::new(alloc);
     for member in members {
@@ -160,7 +160,7 @@ fn empty_placing(alloc: Global) -> Placing
 
 /// Before the first component is placed: the class itself is at 0.
 pub(crate) fn first_placing(alloc: Global, c: ClassId) -> Result<Placing, NoMemory>
-    ensures stage { IfOk result (λ placing. placing.stage ≡ first_stage c) }
+    ensures stage { IfOk result (λ placing. placing.stage ≡ stage_before_all c) }
     ensures placing { IfOk result IsPlacing }
 {
     let mut placing = empty_placing(alloc);

@@ -2,7 +2,7 @@
 
 ghost use Rattle.std.specs.Prelude.{◌≡◌, ◌<◌, None, get_or};
 ghost use Rattle.abi_layout.specs.Holding.{holds_base, held_base};
-ghost use Rattle.abi_layout.specs.invariants.Scenes.{IsScene};
+ghost use Rattle.abi_layout.specs.invariants.Scenes.{IsLayoutScene};
 
 use crate::component::PartList;
 use crate::holding::virtual_primary;
@@ -39,7 +39,7 @@ pub(crate) fn holder(holders: &[Option<usize>], v: ClassId) -> Option<usize>
 
 /// Whether a subobject holds a virtual base.
 fn holds(scene: &Scene, s: &Subobject, v: ClassId) -> bool
-    requires scene { IsScene scene.now.h.now scene.now.c scene.now.rows.now scene.now.known.now scene.now.members.now scene.now.primaries.now scene.now.list.now scene.now.holders.now }
+    requires scene { IsLayoutScene scene.now.h.now scene.now.c scene.now.rows.now scene.now.known.now scene.now.members.now scene.now.primaries.now scene.now.list.now scene.now.holders.now }
     requires before { v.0 < scene.now.c.0 }
     ensures { result ≡ holds_base scene.now.h.now scene.now.primaries.now scene.now.c s.now v }
 {
@@ -51,7 +51,7 @@ fn holds(scene: &Scene, s: &Subobject, v: ClassId) -> bool
 
 /// The virtual base that a subobject of class `d` holds, which is its primary base.
 pub(crate) fn held_base(scene: &Scene, s: &Subobject, d: ClassId) -> Option<ClassId>
-    requires scene { IsScene scene.now.h.now scene.now.c scene.now.rows.now scene.now.known.now scene.now.members.now scene.now.primaries.now scene.now.list.now scene.now.holders.now }
+    requires scene { IsLayoutScene scene.now.h.now scene.now.c scene.now.rows.now scene.now.known.now scene.now.members.now scene.now.primaries.now scene.now.list.now scene.now.holders.now }
     requires before { d.0 < scene.now.c.0 }
     ensures { result ≡ held_base scene.now.h.now scene.now.primaries.now scene.now.c s.now d }
 {

@@ -5,7 +5,7 @@ ghost use Rattle.cxx_hierarchy.specs.declared.records.ClassId.{ClassId};
 ghost use Rattle.cxx_subobject.specs.Subobjects.{Leads};
 ghost use Rattle.abi_sound.specs.Places.{place_along};
 ghost use Rattle.abi_layout.specs.Layouts.{place_from};
-ghost use Rattle.abi_layout.specs.invariants.Settled.{root_by, place_by, IsPath, held_at, with_place, HasRoom, CanSettle, AreSettled, with_free, with_frees, free_table, AreVirtualPlaces};
+ghost use Rattle.abi_layout.specs.invariants.Settled.{root_by, place_by, IsPathWithin, held_at, with_place, EndsWithinLimit, CanSettle, AreSettled, with_free, with_frees, free_table, AreVirtualPlaces};
 
 use crate::brought::base_place;
 use crate::placed_bases::PlacedBase;
@@ -34,7 +34,7 @@ fn path_place(h: &Hierarchy, rows: &[ClassLayout], d: ClassId, path: &[ClassId])
 /// The sum of the places along a path and below its first class, in bytes.
 pub(crate) fn whole_path_place(h: &Hierarchy, rows: &[ClassLayout], path: &[ClassId]) -> u32
     requires rows { length rows.now ≤ length h.now }
-    requires path { IsPath h.now (length rows.now) path.now }
+    requires path { IsPathWithin h.now (length rows.now) path.now }
     requires bounded { place_from h.now rows.now path.now < 2 ^ 32 }
     ensures { result ≡ place_from h.now rows.now path.now }
 {
@@ -71,7 +71,7 @@ pub(crate) fn subobject_place(
     s: &Subobject,
 ) -> u32
     requires rows { length rows.now ≤ length h.now }
-    requires path { IsPath h.now (length rows.now) s.now.path }
+    requires path { IsPathWithin h.now (length rows.now) s.now.path }
     requires bounded { place_by h.now rows.now table.now s.now < 2 ^ 32 }
     ensures { result ≡ place_by h.now rows.now table.now s.now }
 {
@@ -89,7 +89,7 @@ fn settle_one(
 )
     requires rows { length rows.now ≤ length h.now }
     requires can { CanSettle h.now rows.now list.now holders.now }
-    requires room { HasRoom rows.now table.old }
+    requires room { EndsWithinLimit rows.now table.old }
     requires within { v.0 < length table.old }
     ensures { table.new ≡ with_place h.now rows.now table.old v.0 (held_at list.now (get_or holders.now v.0 None)) }
 {
@@ -111,7 +111,7 @@ pub(crate) fn settle(
 )
     requires rows { length rows.now ≤ length h.now }
     requires can { CanSettle h.now rows.now list.now holders.now }
-    requires room { HasRoom rows.now table.old }
+    requires room { EndsWithinLimit rows.now table.old }
     requires one_each { length table.old ≡ count }
     ensures { AreSettled h.now rows.now list.now holders.now table.old table.new }
 {
@@ -179,7 +179,7 @@ pub(crate) fn virtual_places(
 ) -> Result<PlaceList, NoMemory>
     requires rows { length rows.now ≤ length scene.now.h.now }
     requires can { CanSettle scene.now.h.now rows.now scene.now.list.now scene.now.holders.now }
-    requires room { HasRoom rows.now (free_table scene.now.c.0 scene.now.free.now scene.now.free_places.now) }
+    requires room { EndsWithinLimit rows.now (free_table scene.now.c.0 scene.now.free.now scene.now.free_places.now) }
     ensures { IfOk result (λ places. AreVirtualPlaces scene.now.h.now rows.now scene.now.list.now scene.now.holders.now (free_table scene.now.c.0 scene.now.free.now scene.now.free_places.now) virtuals.now places) }
 {
     let count = scene.c.0;

@@ -11,14 +11,14 @@ use Rattle.cxx_program.specs.declared.program.TypedBody.{TypedBody}
 use Rattle.path_plan.specs.Plans.{Form}
 use Rattle.byte_code.specs.declared.code.Block.{Block}
 use Rattle.code_ops.specs.declared.routines.Course.{Course}
-use Rattle.code_ops.specs.Setups.{Setup, Routine, MainCode, FunctionCode, PlanCode, body_in}
+use Rattle.code_ops.specs.Setups.{Setup, Routine, MainCode, FunctionCode, PlanCode, body_of_routine}
 use Rattle.code_ops.specs.Routines.{has_body}
 use Rattle.code_blocks.specs.Items.{Item, Does, Shares, Inherits, Holds}
 use Rattle.code_blocks.specs.Blocks.{Place, items, statement_ops}
-use Rattle.code_blocks.specs.Lowered.{is_own, own_block, statement_block, body_block}
+use Rattle.code_blocks.specs.Lowered.{has_own_block, own_block, statement_block, body_block}
 use Rattle.abi_lower.specs.Bounds.{body_blocks}
-use Rattle.abi_lower.specs.invariants.Numbers.{is_own_item, own_count, own_events, blocks_in, number_of}
-use Rattle.abi_lower.specs.invariants.Runs.{event_blocks, plan_blocks, end_block, statement_blocks, blocks_of_body, run}
+use Rattle.abi_lower.specs.invariants.Numbers.{is_own_item, own_count, own_events, blocks_in, block_number}
+use Rattle.abi_lower.specs.invariants.Runs.{event_blocks, plan_blocks, end_block, statement_blocks, blocks_of_body, routine_blocks}
 
 -- own events
 
@@ -35,14 +35,14 @@ unfolding own_count
 own_both has before left = sum_by-append (λ (o : Item). cond (is_own_item has o) 1 0) before left
 
 abbrev has_body_of : Setup → Course → Form → ClassId → Bool
-has_body_of x course form c = has_body (body_in x (PlanCode course form c))
+has_body_of x course form c = has_body (body_of_routine x (PlanCode course form c))
 
 one_or_none : (b : Bool) (block : Block) → length (option_to_list (if b then Some block else None)) ≡ cond b 1 0
 one_or_none true block = refl
 one_or_none false block = refl
 
 block_long : (x : Setup) (at : Place → ℕ) (course : Course) (form : Form) (c : ClassId) (i : Item) (left : List Item) → length (option_to_list (own_block x at course form c (i ∷ left))) ≡ cond (is_own_item (has_body_of x course form c) i) 1 0
-block_long x at course form c (Does k) left = one_or_none (is_own (has_body_of x course form c) k) _
+block_long x at course form c (Does k) left = one_or_none (has_own_block (has_body_of x course form c) k) _
 block_long x at course form c (Shares v) left = refl
 block_long x at course form c (Inherits b) left = refl
 block_long x at course form c (Holds way m d n) left = refl
@@ -117,30 +117,30 @@ plan_long x at MainCode = refl
 plan_long x at (FunctionCode f) = refl
 plan_long x at (PlanCode course form c) = events_long x at course form c (items x course form c)
 
-pub run_long : (x : Setup) (r : Routine) → length (run x r) ≡ blocks_in x r
-unfolding run blocks_in
+pub run_long : (x : Setup) (r : Routine) → length (routine_blocks x r) ≡ blocks_in x r
+unfolding routine_blocks blocks_in
 run_long x r =
-    length-append (plan_blocks x (number_of x) r) (blocks_of_body x (number_of x) r (body_in x r))
-    ∙ ap (λ n. n + length (blocks_of_body x (number_of x) r (body_in x r))) (plan_long x (number_of x) r)
-    ∙ ap (λ n. own_events x r + n) (body_long x (number_of x) r (body_in x r))
+    length-append (plan_blocks x (block_number x) r) (blocks_of_body x (block_number x) r (body_of_routine x r))
+    ∙ ap (λ n. n + length (blocks_of_body x (block_number x) r (body_of_routine x r))) (plan_long x (block_number x) r)
+    ∙ ap (λ n. own_events x r + n) (body_long x (block_number x) r (body_of_routine x r))
 
 -- the block of a statement, or of the end of the body
-pub statement_in : (x : Setup) (r : Routine) (n : ℕ) (b : Block) → body_block x (number_of x) r n (body_in x r) ≡ Some b → slice_get (run x r) (own_events x r + n) ≡ Some b
-unfolding run
+pub statement_in : (x : Setup) (r : Routine) (n : ℕ) (b : Block) → body_block x (block_number x) r n (body_of_routine x r) ≡ Some b → slice_get (routine_blocks x r) (own_events x r + n) ≡ Some b
+unfolding routine_blocks
 statement_in x r n b e =
-    ap (λ k. slice_get (plan_blocks x (number_of x) r ++ blocks_of_body x (number_of x) r (body_in x r)) (k + n)) (sym (plan_long x (number_of x) r))
-    ∙ get_past (plan_blocks x (number_of x) r) (blocks_of_body x (number_of x) r (body_in x r)) n b (body_there x (number_of x) r n (body_in x r) b e)
+    ap (λ k. slice_get (plan_blocks x (block_number x) r ++ blocks_of_body x (block_number x) r (body_of_routine x r)) (k + n)) (sym (plan_long x (block_number x) r))
+    ∙ get_past (plan_blocks x (block_number x) r) (blocks_of_body x (block_number x) r (body_of_routine x r)) n b (body_there x (block_number x) r n (body_of_routine x r) b e)
 
 -- the block of an own event of a plan
-pub event_in : (x : Setup) (course : Course) (form : Form) (c : ClassId) (before left : List Item) (b : Block) → before ++ left ≡ items x course form c → own_block x (number_of x) course form c left ≡ Some b →
-    slice_get (run x (PlanCode course form c)) (own_events x (PlanCode course form c) - own_count (has_body_of x course form c) left) ≡ Some b
-unfolding run plan_blocks own_events
+pub event_in : (x : Setup) (course : Course) (form : Form) (c : ClassId) (before left : List Item) (b : Block) → before ++ left ≡ items x course form c → own_block x (block_number x) course form c left ≡ Some b →
+    slice_get (routine_blocks x (PlanCode course form c)) (own_events x (PlanCode course form c) - own_count (has_body_of x course form c) left) ≡ Some b
+unfolding routine_blocks plan_blocks own_events
 event_in x course form c before left b is e =
     let has = has_body_of x course form c in
-    let at = number_of x in
+    let at = block_number x in
     let r = PlanCode course form c in
     let all : own_count has (items x course form c) ≡ own_count has before + own_count has left = ap (own_count has) (sym is) ∙ own_both has before left in
     let place : own_count has (items x course form c) - own_count has left ≡ own_count has before = omega arith in
-    ap (λ k. slice_get (event_blocks x at course form c (items x course form c) ++ blocks_of_body x at r (body_in x r)) k) place
-    ∙ get_front (event_blocks x at course form c (items x course form c)) (blocks_of_body x at r (body_in x r)) (own_count has before) b
+    ap (λ k. slice_get (event_blocks x at course form c (items x course form c) ++ blocks_of_body x at r (body_of_routine x r)) k) place
+    ∙ get_front (event_blocks x at course form c (items x course form c)) (blocks_of_body x at r (body_of_routine x r)) (own_count has before) b
     (ap (λ (list : List Item). slice_get (event_blocks x at course form c list) (own_count has before)) (sym is) ∙ event_there x at course form c before left b e)

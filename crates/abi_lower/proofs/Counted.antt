@@ -6,15 +6,15 @@ use Rattle.cxx_hierarchy.specs.declared.records.ClassId.{ClassId}
 use Rattle.cxx_overrider.specs.declared.FunctionId.{FunctionId}
 use Rattle.cxx_program.specs.declared.program.Owner.{Owner}
 use Rattle.cxx_program.specs.declared.program.TypedBody.{TypedBody}
-use Rattle.path_model.specs.States.{body_of, is_body}
+use Rattle.path_model.specs.States.{owned_body, is_body}
 use Rattle.code_ops.specs.declared.routines.Course.{Course}
-use Rattle.code_ops.specs.Setups.{Setup, Routine, PlanCode, body_in, owner_of}
+use Rattle.code_ops.specs.Setups.{Setup, Routine, PlanCode, body_of_routine, routine_owner}
 use Rattle.code_ops.specs.Routines.{has_body}
 use Rattle.code_blocks.specs.declared.items.Form.{Form as FormCode}
 use Rattle.code_blocks.specs.declared.items.Item.{Item as ItemCode}
 use Rattle.code_blocks.specs.Items.{Item, Does, Shares, Inherits, Holds}
 use Rattle.code_blocks.specs.Blocks.{items}
-use Rattle.code_blocks.specs.invariants.ItemCodes.{form_of, item_code, item_codes}
+use Rattle.code_blocks.specs.invariants.ItemCodes.{coded_form, item_code, item_codes}
 use Rattle.abi_lower.specs.declared.routines.Routine.{Routine as RoutineCode}
 use Rattle.abi_lower.specs.declared.routines.Routine.TheVariants.{Main, Function, Plan}
 use Rattle.abi_lower.specs.Bounds.{body_blocks}
@@ -41,24 +41,24 @@ same_test None = refl
 same_test (Some body) = refl
 
 -- the own events of a plan
-pub plan_counted : (x : Setup) (r : RoutineCode) (course : Course) (form : FormCode) (c : ClassId) (owner : Owner) (n : ℕ) (has : Bool) (codes : List ItemCode) → r ≡ Plan course form c → owner ≡ owner_of (PlanCode course (form_of form) c) →
-    has ≡ is_body (body_of x.program owner) → codes ≡ item_codes (items x course (form_of form) c) → n ≡ count_by (is_own_code has) codes → n ≡ own_events x (routine_from r)
+pub plan_counted : (x : Setup) (r : RoutineCode) (course : Course) (form : FormCode) (c : ClassId) (owner : Owner) (n : ℕ) (has : Bool) (codes : List ItemCode) → r ≡ Plan course form c → owner ≡ routine_owner (PlanCode course (coded_form form) c) →
+    has ≡ is_body (owned_body x.program owner) → codes ≡ item_codes (items x course (coded_form form) c) → n ≡ count_by (is_own_code has) codes → n ≡ own_events x (routine_from r)
 unfolding own_events
 plan_counted x r course form c owner n has codes is of body list counted =
-    let plan = PlanCode course (form_of form) c in
-    let same : has ≡ has_body (body_in x plan) = body ∙ ap (λ (o : Owner). is_body (body_of x.program o)) of ∙ same_test (body_in x plan) in
-    counted ∙ ap (λ (b : Bool). count_by (is_own_code b) codes) same ∙ ap (λ (l : List ItemCode). count_by (is_own_code (has_body (body_in x plan))) l) list
-    ∙ codes_own (has_body (body_in x plan)) (items x course (form_of form) c) ∙ ap (λ (q : RoutineCode). own_events x (routine_from q)) (sym is)
+    let plan = PlanCode course (coded_form form) c in
+    let same : has ≡ has_body (body_of_routine x plan) = body ∙ ap (λ (o : Owner). is_body (owned_body x.program o)) of ∙ same_test (body_of_routine x plan) in
+    counted ∙ ap (λ (b : Bool). count_by (is_own_code b) codes) same ∙ ap (λ (l : List ItemCode). count_by (is_own_code (has_body (body_of_routine x plan))) l) list
+    ∙ codes_own (has_body (body_of_routine x plan)) (items x course (coded_form form) c) ∙ ap (λ (q : RoutineCode). own_events x (routine_from q)) (sym is)
 
 -- `main` and a function have none
 pub none_counted : (x : Setup) (r : RoutineCode) → (r ≡ Main) ⊎ ((f : FunctionId) × (r ≡ Function f)) → 0 ≡ own_events x (routine_from r)
 unfolding own_events
 none_counted x r is = ⊎_elim (λ e. sym (ap (λ (q : RoutineCode). own_events x (routine_from q)) e)) (λ e. sym (ap (λ (q : RoutineCode). own_events x (routine_from q)) e.1)) is
 
-pub blocks_some : (x : Setup) (r : Routine) (body : TypedBody) → Some body ≡ body_in x r → blocks_in x r ≡ own_events x r + (length body.statements + 1)
+pub blocks_some : (x : Setup) (r : Routine) (body : TypedBody) → Some body ≡ body_of_routine x r → blocks_in x r ≡ own_events x r + (length body.statements + 1)
 unfolding blocks_in
 blocks_some x r body is = ap (λ (o : Option TypedBody). own_events x r + body_blocks o) (sym is)
 
-pub blocks_none : (x : Setup) (r : Routine) → None ≡ body_in x r → blocks_in x r ≡ own_events x r
+pub blocks_none : (x : Setup) (r : Routine) → None ≡ body_of_routine x r → blocks_in x r ≡ own_events x r
 unfolding blocks_in
 blocks_none x r is = ap (λ (o : Option TypedBody). own_events x r + body_blocks o) (sym is) ∙ (let none : own_events x r + 0 ≡ own_events x r = omega arith in none)

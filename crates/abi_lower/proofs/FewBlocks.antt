@@ -21,16 +21,16 @@ use Rattle.cxx_program.specs.declared.program.TypedBody.{TypedBody}
 use Rattle.cxx_program.specs.Typed.{IsTypedProgram}
 use Rattle.cxx_search.proofs.Finding.{finds_some}
 use Rattle.path_plan.specs.Plans.{Form, InFull, AsBase, count_from, upto, backwards, virtual_order}
-use Rattle.path_model.specs.States.{same_owner, body_of, bodies_of}
+use Rattle.path_model.specs.States.{same_owner, owned_body, plan_bodies}
 use Rattle.path_model.proofs.TypedBodies.{body_typed, same_function_itself}
 use Rattle.code_ops.specs.declared.routines.Course.{Course}
 use Rattle.code_ops.specs.declared.routines.Course.TheVariants.{Constructs, Destroys, Deletes}
-use Rattle.code_ops.specs.Setups.{Setup, FunctionCode, PlanCode, body_in}
+use Rattle.code_ops.specs.Setups.{Setup, FunctionCode, PlanCode, body_of_routine}
 use Rattle.code_ops.specs.Routines.{has_body}
 use Rattle.code_blocks.specs.declared.items.Kind.TheVariants.{AtBegin, AtReady, AtInit, AtBody, AtDone, AtEnding, AtBases, AtEnd}
 use Rattle.code_blocks.specs.declared.items.Way.{Way}
 use Rattle.code_blocks.specs.declared.items.Way.TheVariants.{Forwards, Backwards}
-use Rattle.code_blocks.specs.Items.{Item, Does, Shares, Inherits, Holds, shared_items, base_items, init_items, body_items, typed_items, member_items}
+use Rattle.code_blocks.specs.Items.{Item, Does, Shares, Inherits, Holds, shared_base_items, base_items, init_items, body_items, typed_items, member_items}
 use Rattle.code_blocks.specs.Blocks.{items}
 use Rattle.abi_lower.specs.Bounds.{body_blocks, statements_in, most_statements}
 use Rattle.abi_lower.specs.invariants.Numbers.{main_routines, owned_routines, plan_routines, class_ids, routines, is_own_item, own_count, own_events, blocks_in, block_count}
@@ -49,7 +49,7 @@ none_own : (b : Bool) → own_count b [] ≡ 0
 unfolding own_count
 none_own b = refl
 
-no_shared : (b : Bool) (form : Form) (order : List ClassId) → own_count b (shared_items form order) ≡ 0
+no_shared : (b : Bool) (form : Form) (order : List ClassId) → own_count b (shared_base_items form order) ≡ 0
 no_shared b AsBase order = none_own b
 no_shared b InFull [] = none_own b
 no_shared b InFull (v ∷ order) = let e = own_first b (Shares v) (map Shares order) in let rest = no_shared b InFull order in omega arith
@@ -91,8 +91,8 @@ back_long (x ∷ xs) = let e = length-append (backwards xs) (x ∷ []) in let re
 
 few_built : (x : Setup) → IsHierarchy x.h → (b : Bool) (form : Form) (c : ClassId) → own_count b (items x Constructs form c) ≤ 1028
 few_built x keeps b form c =
-    let bodies = bodies_of x.program in
-    let shared = shared_items form (virtual_order x.h c) in
+    let bodies = plan_bodies x.program in
+    let shared = shared_base_items form (virtual_order x.h c) in
     let bases = flat_map base_items (bases_of x.h c) in
     let give : ℕ → List Item = λ m. member_items (bodies.initializer c m) Forwards m (slice_get (members_of x.h c) m) in
     let members = flat_map give (upto (length (members_of x.h c))) in
@@ -115,8 +115,8 @@ few_built x keeps b form c =
 
 few_ended : (x : Setup) → IsHierarchy x.h → (b : Bool) (form : Form) (c : ClassId) → own_count b (items x Destroys form c) ≤ 1028
 few_ended x keeps b form c =
-    let bodies = bodies_of x.program in
-    let shared = shared_items form (backwards (virtual_order x.h c)) in
+    let bodies = plan_bodies x.program in
+    let shared = shared_base_items form (backwards (virtual_order x.h c)) in
     let bases = flat_map base_items (backwards (bases_of x.h c)) in
     let give : ℕ → List Item = λ m. member_items false Backwards m (slice_get (members_of x.h c) m) in
     let members = flat_map give (backwards (upto (length (members_of x.h c)))) in
@@ -140,9 +140,9 @@ few_ended x keeps b form c =
 
 few_own : (x : Setup) → IsHierarchy x.h → (course : Course) (form : Form) (c : ClassId) → own_events x (PlanCode course form c) ≤ 1028
 unfolding own_events
-few_own x keeps Constructs form c = few_built x keeps (has_body (body_in x (PlanCode Constructs form c))) form c
-few_own x keeps Destroys form c = few_ended x keeps (has_body (body_in x (PlanCode Destroys form c))) form c
-few_own x keeps Deletes form c = few_ended x keeps (has_body (body_in x (PlanCode Deletes form c))) form c
+few_own x keeps Constructs form c = few_built x keeps (has_body (body_of_routine x (PlanCode Constructs form c))) form c
+few_own x keeps Destroys form c = few_ended x keeps (has_body (body_of_routine x (PlanCode Destroys form c))) form c
+few_own x keeps Deletes form c = few_ended x keeps (has_body (body_of_routine x (PlanCode Deletes form c))) form c
 
 -- bodies
 
@@ -159,13 +159,13 @@ found_low : (bodies : List TypedBody) (o : Option TypedBody) → ((body : TypedB
 found_low bodies None has = omega arith
 found_low bodies (Some body) has = one_low bodies body (has body refl)
 
-plan_low : (x : Setup) (course : Course) (form : Form) (c : ClassId) → body_blocks (body_in x (PlanCode course form c)) ≤ sum_by blocks_of_one x.program.bodies
-plan_low x Constructs form c = found_low x.program.bodies (body_of x.program (Constructor c)) (λ body is. (find_passes (λ (b : TypedBody). same_owner b.owner (Constructor c)) x.program.bodies body is).0)
-plan_low x Destroys form c = found_low x.program.bodies (body_of x.program (Destructor c)) (λ body is. (find_passes (λ (b : TypedBody). same_owner b.owner (Destructor c)) x.program.bodies body is).0)
-plan_low x Deletes form c = found_low x.program.bodies (body_of x.program (Destructor c)) (λ body is. (find_passes (λ (b : TypedBody). same_owner b.owner (Destructor c)) x.program.bodies body is).0)
+plan_low : (x : Setup) (course : Course) (form : Form) (c : ClassId) → body_blocks (body_of_routine x (PlanCode course form c)) ≤ sum_by blocks_of_one x.program.bodies
+plan_low x Constructs form c = found_low x.program.bodies (owned_body x.program (Constructor c)) (λ body is. (find_passes (λ (b : TypedBody). same_owner b.owner (Constructor c)) x.program.bodies body is).0)
+plan_low x Destroys form c = found_low x.program.bodies (owned_body x.program (Destructor c)) (λ body is. (find_passes (λ (b : TypedBody). same_owner b.owner (Destructor c)) x.program.bodies body is).0)
+plan_low x Deletes form c = found_low x.program.bodies (owned_body x.program (Destructor c)) (λ body is. (find_passes (λ (b : TypedBody). same_owner b.owner (Destructor c)) x.program.bodies body is).0)
 
 -- the body of a function is found among all
-found_is : (x : Setup) → IsTypedProgram x.h x.program → (f : FunctionId) (body : TypedBody) → Has x.program.bodies body → body.owner ≡ Function f → body_in x (FunctionCode f) ≡ Some body
+found_is : (x : Setup) → IsTypedProgram x.h x.program → (f : FunctionId) (body : TypedBody) → Has x.program.bodies body → body.owner ≡ Function f → body_of_routine x (FunctionCode f) ≡ Some body
 found_is x typed f body has owner =
     let passes : same_owner body.owner (Function f) ≡ true = subst (λ (o : Owner). same_owner o (Function f) ≡ true) (sym owner) (same_function_itself f) in
     let found = finds_some (λ (b : TypedBody). same_owner b.owner (Function f)) x.program.bodies body has passes in

@@ -28,14 +28,14 @@ use Rattle.cxx_program.specs.declared.statement.TypedPlace.{TypedPlace}
 use Rattle.cxx_program.specs.Typed.{Scope, IsKnown, variable_type, HasType, of_variable, of_this, of_number, Converts, to_number, to_same, to_base, IsArgument, a_value, a_null, IsKept, whole, in_bits, width_within, place_width, IsPassed, IsPath, IsPlace}
 use Rattle.path_model.specs.Outs.{class_or_first}
 use Rattle.code_ops.specs.Operands.{pointed, pointed_in, operand_class}
-use Rattle.code_ops.specs.PlaceOps.{type_or_int, value_in, element_type, element_type_at}
+use Rattle.code_ops.specs.PlaceOps.{type_or_int, element_value_type, element_type, element_type_at}
 use Rattle.code_ops.proofs.BitFields.{width_fits}
-use Rattle.code_ops.specs.invariants.Fits.{most_locals, FitsVariable, FitsOperand, FitsConversion, FitsArgument, FitsPassed, FitsPath, FitsPlace}
+use Rattle.code_ops.specs.invariants.Fits.{most_local_registers, FitsVariable, FitsOperand, FitsConversion, FitsArgument, FitsPassed, FitsPath, FitsPlace}
 
 -- few variables, whose types name known classes
 pub record IsFineScope (h : Classes) (e : Scope) : Type 0 where
   pub globals : length e.globals < 2 ^ 32
-  pub locals : length e.locals < most_locals
+  pub locals : length e.locals < most_local_registers
   pub variables : (x : Variable) (t : ValueType ClassId) → variable_type e x ≡ Some t → IsKnown h t
   pub this : (c : ClassId) → e.this ≡ Some c → c.0 < length h
 
@@ -137,7 +137,7 @@ module _ (h : Classes) (keeps : IsHierarchy h) (e : Scope) (fine : IsFineScope h
       let class : class_or_first (class_of place.base) ≡ is.class = ap class_or_first is.of_class in
       ap (λ (c : ClassId). type_or_int (element_type_at h c place.member)) class
       ∙ ap (λ (o : Option (Member ClassId)). type_or_int (element_type o)) is.element.there
-      ∙ ap (λ (f : FieldType ClassId). type_or_int (value_in f)) is.element.type_is
+      ∙ ap (λ (f : FieldType ClassId). type_or_int (element_value_type f)) is.element.type_is
 
   pub value_known : (place : TypedPlace) (t : ValueType ClassId) → IsPlace h e place (ValueField t) → IsKnown h t
   value_known place (NumberType s) is = tt

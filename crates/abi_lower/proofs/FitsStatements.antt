@@ -34,7 +34,7 @@ use Rattle.cxx_program.specs.Typed.{Scope, IsKnown, IsWay, parameter_types, IsAr
 use Rattle.path_model.specs.Outs.{class_or_first}
 use Rattle.abi_slots.specs.Listing.{pointee}
 use Rattle.code_ops.specs.Operands.{pointed}
-use Rattle.code_ops.specs.invariants.Fits.{most_locals, FitsBase, FitsArgument}
+use Rattle.code_ops.specs.invariants.Fits.{most_local_registers, FitsBase, FitsArgument}
 use Rattle.code_statements.specs.Rights.{cast_class, through_class}
 use Rattle.code_statements.specs.invariants.Fits.{FitsCast, FitsWay, FitsCall, FitsRight, right_class, FitsConverted, FitsKind}
 use Rattle.abi_lower.proofs.Fits.{IsFineScope, fits_variable, fits_operand, operand_known, operand_points, fits_conversion, fits_argument, fits_kept, base_low, fits_place, place_value, value_known, object_known}
@@ -134,7 +134,7 @@ module _ (h : Classes) (keeps : IsHierarchy h) (e : Scope) (fine : IsFineScope h
       record { right = fits_right v.right s has; conversion = fits_conversion h keeps e fine (right_class h e v.right) s t v.conversion points.0 points.1 converts }
   fits_converted v t (a_null_right d) = record { right = tt; conversion = tt }
 
-  local_low : (n : ℕ) (t : ValueType ClassId) → slice_get e.locals n ≡ Some t → n < most_locals
+  local_low : (n : ℕ) (t : ValueType ClassId) → slice_get e.locals n ≡ Some t → n < most_local_registers
   local_low n t is = fits_variable h keeps e fine (Rattle.cxx_program.specs.declared.operand.Variable.TheVariants.Local n) t is
 
   pub fits_kind : (size most n : ℕ) (kind : TypedKind) → size ≤ most → n < size → IsTyped h e kind → IsWithin size n kind → FitsKind h e most n kind

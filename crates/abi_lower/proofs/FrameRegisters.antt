@@ -12,7 +12,7 @@ use Rattle.cxx_program.specs.declared.statement.TypedRight.TheVariants.{Operand,
 use Rattle.cxx_program.specs.Typed.{Scope, IsTypedProgram, scope_of}
 use Rattle.abi_slots.specs.declared.slots.Slots.{Slots}
 use Rattle.cxx_overrider.specs.declared.pass.Overriders.{Overriders}
-use Rattle.code_ops.specs.Setups.{Setup, Routine, body_in, locals_in}
+use Rattle.code_ops.specs.Setups.{Setup, Routine, body_of_routine, locals_in}
 use Rattle.code_ops.specs.Routines.{IsRoutine}
 use Rattle.code_statements.specs.invariants.Fits.{FitsRight, FitsKind}
 use Rattle.code_blocks.specs.Lowered.{right_arguments, argument_count, HasRegisters}
@@ -56,7 +56,7 @@ few_arguments h e most n (PrintView p c) fits = omega arith
 few_arguments h e most n (Dump p c) fits = omega arith
 
 -- the most locals of all routines are the most of each
-pub each_low : (x : Setup) (list : List RoutineCode) (most : ℕ) → IsTypedProgram x.h x.program → routines_from list ≡ routines x → ((k : ℕ) → k < length list → locals_in (body_in x (routine_from (get_or list k Main))) ≤ most) → (r : Routine) → IsRoutine x r → locals_in (body_in x r) ≤ most
+pub each_low : (x : Setup) (list : List RoutineCode) (most : ℕ) → IsTypedProgram x.h x.program → routines_from list ≡ routines x → ((k : ℕ) → k < length list → locals_in (body_of_routine x (routine_from (get_or list k Main))) ≤ most) → (r : Routine) → IsRoutine x r → locals_in (body_of_routine x r) ≤ most
 each_low x list most typed are low r is =
     let has = subst (λ (l : List Routine). Has l r) (sym are) (routine_there x typed r is) in
     let from = from_map routine_from list r has in
@@ -64,9 +64,9 @@ each_low x list most typed are low r is =
     let inside = slice_get_within list at.0 from.0 at.1 in
     let items : Some (get_or list at.0 Main) ≡ Some from.0 = sym (slice_get-get_or list at.0 Main inside) ∙ at.1 in
     let item : get_or list at.0 Main ≡ from.0 = cc (items) in
-    subst (λ (q : Routine). locals_in (body_in x q) ≤ most) (ap routine_from item ∙ from.2) (low at.0 inside)
+    subst (λ (q : Routine). locals_in (body_of_routine x q) ≤ most) (ap routine_from item ∙ from.2) (low at.0 inside)
 
-pub has_registers : (x : Setup) (slots : Slots) (overriders : Overriders) (most : ℕ) → ((r : Routine) (body : TypedBody) → Some body ≡ body_in x r → IsBodySite x slots overriders body) → ((r : Routine) → IsRoutine x r → locals_in (body_in x r) ≤ most) → HasRegisters x (most + 41)
+pub has_registers : (x : Setup) (slots : Slots) (overriders : Overriders) (most : ℕ) → ((r : Routine) (body : TypedBody) → Some body ≡ body_of_routine x r → IsBodySite x slots overriders body) → ((r : Routine) → IsRoutine x r → locals_in (body_of_routine x r) ≤ most) → HasRegisters x (most + 41)
 has_registers x slots overriders most sites low = record {
   routine = λ r is. let few = low r is in omega arith;
   statement = λ r body n s is has there.
@@ -76,5 +76,5 @@ has_registers x slots overriders most sites low = record {
       let fits = fits_kind x.h site.keeps (scope_of x.h x.program.globals body) (fine_scope x slots overriders body site) (length body.statements) (length body.statements) n s.kind (omega arith) inside typed.typed typed.within in
       let arguments = few_arguments x.h (scope_of x.h x.program.globals body) (length body.statements) n s.kind fits in
       let few = low r is in
-      let locals : locals_in (body_in x r) ≡ length body.locals = ap locals_in has in omega arith;
+      let locals : locals_in (body_of_routine x r) ≡ length body.locals = ap locals_in has in omega arith;
 }

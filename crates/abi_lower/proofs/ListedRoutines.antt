@@ -15,16 +15,16 @@ use Rattle.cxx_program.specs.declared.program.TypedProgram.{TypedProgram}
 use Rattle.cxx_program.specs.Typed.{IsTypedProgram}
 use Rattle.path_plan.specs.Plans.{Form, InFull, AsBase, upto, count_from}
 use Rattle.path_plan.proofs.Members.{has_count, count_has}
-use Rattle.path_model.specs.States.{same_owner, body_of}
+use Rattle.path_model.specs.States.{same_owner, owned_body}
 use Rattle.path_model.proofs.TypedBodies.{body_typed, same_function_itself}
 use Rattle.abi_slots.specs.declared.code_numbers.BlockKind.{BlockKind}
 use Rattle.abi_slots.specs.declared.code_numbers.BlockKind.TheVariants.{Plain, BuildComplete, BuildBase, EndComplete, EndBase, EndDeleting}
 use Rattle.code_ops.specs.declared.routines.Course.{Course}
 use Rattle.code_ops.specs.declared.routines.Course.TheVariants.{Constructs, Destroys, Deletes}
-use Rattle.code_ops.specs.Setups.{Setup, Routine, MainCode, FunctionCode, PlanCode, body_in}
-use Rattle.code_ops.specs.Routines.{has_body, IsCourse, IsRoutine, plan_function, function_of, plan_kind, kind_of}
+use Rattle.code_ops.specs.Setups.{Setup, Routine, MainCode, FunctionCode, PlanCode, body_of_routine}
+use Rattle.code_ops.specs.Routines.{has_body, IsCourse, IsRoutine, plan_function, function_of_routine, plan_kind, routine_kind}
 use Rattle.abi_lower.specs.invariants.Numbers.{main_routines, owned_routines, plain_routines, plan_routines, class_ids, routines}
-use Rattle.abi_lower.specs.invariants.Codes.{is_plain as is_plain_code}
+use Rattle.abi_lower.specs.invariants.Codes.{runs_no_plan as is_plain_code}
 use Rattle.abi_lower.proofs.Starts.{AreApartForms}
 
 abbrev function_routines : List TypedBody → List Routine
@@ -39,7 +39,7 @@ main_there : (main : Option TypedBody) → has_body main ≡ true → Has (main_
 main_there None e = absurd (let f : false ≡ true = e in cc)
 main_there (Some body) e = inl refl
 
-found_there : (program : TypedProgram) (h : Classes) → IsTypedProgram h program → (f : FunctionId) (o : Option TypedBody) → body_of program (Function f) ≡ o → has_body o ≡ true → Has (function_routines program.bodies) (FunctionCode f)
+found_there : (program : TypedProgram) (h : Classes) → IsTypedProgram h program → (f : FunctionId) (o : Option TypedBody) → owned_body program (Function f) ≡ o → has_body o ≡ true → Has (function_routines program.bodies) (FunctionCode f)
 found_there program h typed f None is e = absurd (let g : false ≡ true = e in cc)
 found_there program h typed f (Some body) is e =
     let has = find_passes (λ (b : TypedBody). same_owner b.owner (Function f)) program.bodies body is in
@@ -60,13 +60,13 @@ class_there n c low = has_map (λ (i : ℕ). record { 0 = i }) (upto n) c.0 (cou
 pub routine_there : (x : Setup) → IsTypedProgram x.h x.program → (r : Routine) → IsRoutine x r → Has (routines x) r
 unfolding routines
 routine_there x typed MainCode is = has_left (main_routines x.program.main) _ MainCode (main_there x.program.main is)
-routine_there x typed (FunctionCode f) is = has_right (main_routines x.program.main) _ (FunctionCode f) (has_left (function_routines x.program.bodies) (class_routines (length x.h)) (FunctionCode f) (found_there x.program x.h typed f (body_of x.program (Function f)) refl is))
+routine_there x typed (FunctionCode f) is = has_right (main_routines x.program.main) _ (FunctionCode f) (has_left (function_routines x.program.bodies) (class_routines (length x.h)) (FunctionCode f) (found_there x.program x.h typed f (owned_body x.program (Function f)) refl is))
 routine_there x typed (PlanCode course form c) is = has_right (main_routines x.program.main) _ (PlanCode course form c) (has_right (function_routines x.program.bodies) (class_routines (length x.h)) (PlanCode course form c)
     (has_flat_map plan_routines (class_ids (length x.h)) c (PlanCode course form c) (class_there (length x.h) c is.0) (plan_there course form c is.1)))
 
 -- and no other
 
-main_only : (x : Setup) (main : Option TypedBody) (r : Routine) → main ≡ body_in x MainCode → Has (main_routines main) r → IsRoutine x r
+main_only : (x : Setup) (main : Option TypedBody) (r : Routine) → main ≡ body_of_routine x MainCode → Has (main_routines main) r → IsRoutine x r
 main_only x None r is has = absurd has
 main_only x (Some body) r is has = ⊎_elim (λ e. subst (λ (o : Routine). IsRoutine x o) e (ap has_body (sym is))) (λ none. absurd none) has
 
@@ -268,7 +268,7 @@ class_read h Constructs c = refl
 class_read h Destroys c = refl
 class_read h Deletes c = refl
 
-one_form : (x : Setup) (r q : Routine) (f : FunctionId) → IsRoutine x r → IsRoutine x q → function_of x r ≡ Some f → function_of x q ≡ Some f → kind_of r ≡ kind_of q → r ≡ q
+one_form : (x : Setup) (r q : Routine) (f : FunctionId) → IsRoutine x r → IsRoutine x q → function_of_routine x r ≡ Some f → function_of_routine x q ≡ Some f → routine_kind r ≡ routine_kind q → r ≡ q
 one_form x MainCode q f is_r is_q of_r of_q kinds = absurd (cc)
 one_form x (FunctionCode g) MainCode f is_r is_q of_r of_q kinds = absurd (cc)
 one_form x (FunctionCode g) (FunctionCode k) f is_r is_q of_r of_q kinds = let same : Some g ≡ Some k = of_r ∙ sym of_q in ap (λ (i : FunctionId). FunctionCode i) (let e : g ≡ k = cc (same) in e)

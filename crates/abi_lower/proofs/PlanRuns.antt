@@ -9,16 +9,16 @@ use Rattle.abi_slots.specs.declared.code_numbers.CodeRow.{CodeRow}
 use Rattle.byte_code.specs.declared.code.Block.{Block}
 use Rattle.code_ops.specs.declared.routines.Course.{Course}
 use Rattle.code_ops.specs.declared.routines.Course.TheVariants.{Constructs, Destroys, Deletes}
-use Rattle.code_ops.specs.Setups.{Setup, PlanCode, body_in}
+use Rattle.code_ops.specs.Setups.{Setup, PlanCode, body_of_routine}
 use Rattle.code_ops.specs.Routines.{has_body, start_by}
 use Rattle.code_blocks.specs.declared.items.Item.{Item as ItemCode}
 use Rattle.code_blocks.specs.declared.items.Kind.TheVariants.{AtBegin, AtReady, AtInit, AtBody, AtDone, AtEnding, AtBases, AtEnd}
 use Rattle.code_blocks.specs.Items.{Item, Does, Shares, Inherits, Holds}
 use Rattle.code_blocks.specs.Blocks.{Place, items, next_place, behind_body, plan_tail, event_block, closing_ops}
 use Rattle.code_blocks.specs.Lowered.{own_block}
-use Rattle.code_blocks.specs.invariants.ItemCodes.{form_of, item_code, item_codes}
+use Rattle.code_blocks.specs.invariants.ItemCodes.{coded_form, item_code, item_codes}
 use Rattle.code_plans.specs.Tails.{AreLeft, StartsBy}
-use Rattle.abi_lower.specs.invariants.Numbers.{own_count, own_events, code_rows, number_of}
+use Rattle.abi_lower.specs.invariants.Numbers.{own_count, own_events, code_rows, block_number}
 use Rattle.abi_lower.specs.invariants.Codes.{is_own_code, is_body_code, is_body_next}
 use Rattle.abi_lower.specs.invariants.Runs.{event_blocks}
 use Rattle.abi_lower.specs.declared.plan_blocks.PlanRun.{PlanRun}
@@ -35,7 +35,7 @@ module _ (x : Setup) (course : Course) (form : Form) (c : ClassId) where
   all = own_events x (PlanCode course form c)
 
   abbrev has : Bool
-  has = has_body (body_in x (PlanCode course form c))
+  has = has_body (body_of_routine x (PlanCode course form c))
 
   abbrev next_of : List Item → ℕ
   next_of left = if is_body_next (item_codes left) then start + all else start + (all - own_count has left)
@@ -44,8 +44,8 @@ module _ (x : Setup) (course : Course) (form : Form) (c : ClassId) where
   skips : (b : Bool) (m n : ℕ) → m ≡ n → (if b then start + all else start + (all - m)) ≡ (if b then start + all else start + (all - n))
   skips b m n e = ap (λ k. if b then start + all else start + (all - k)) e
 
-  next_number : (left : List Item) → number_of x (next_place course form c left) ≡ next_of left
-  unfolding number_of
+  next_number : (left : List Item) → block_number x (next_place course form c left) ≡ next_of left
+  unfolding block_number
   next_number [] = refl
   next_number (Does AtBegin ∷ left) = refl
   next_number (Does AtReady ∷ left) = refl
@@ -65,10 +65,10 @@ module _ (x : Setup) (course : Course) (form : Form) (c : ClassId) where
 
 -- the number that code finds is that of the next place
 pub next_is : (x : Setup) (numbers : List CodeRow) (run : PlanRun) (codes : List ItemCode) (done next : ℕ) (left : List Item) → IsPlanRun x numbers run → codes ≡ item_codes left → done + count_by (is_own_code run.has_body) codes ≡ run.own →
-    next ≡ (if is_body_next codes then run.first + run.own else run.first + done) → number_of x (next_place run.plan.course (form_of run.plan.form) run.plan.class left) ≡ next
+    next ≡ (if is_body_next codes then run.first + run.own else run.first + done) → block_number x (next_place run.plan.course (coded_form run.plan.form) run.plan.class left) ≡ next
 next_is x numbers run codes done next left known is count made =
     let course = run.plan.course in
-    let form = form_of run.plan.form in
+    let form = coded_form run.plan.form in
     let c = run.plan.class in
     let begins : run.first ≡ start x course form c = known.begins ∙ ap (λ (l : List CodeRow). start_by x l (PlanCode course form c)) known.rows in
     let counted : count_by (is_own_code run.has_body) codes ≡ own_count (has x course form c) left = ap (λ (b : Bool). count_by (is_own_code b) codes) known.body ∙ ap (λ (l : List ItemCode). count_by (is_own_code (has x course form c)) l) is ∙ codes_own (has x course form c) left in
@@ -76,7 +76,7 @@ next_is x numbers run codes done next left known is count made =
     ∙ ap (λ (l : List ItemCode). if is_body_next l then run.first + run.own else run.first + done) (sym is) ∙ sym made
 
 -- routines begin by the numbers of code
-pub starts_by : (x : Setup) (numbers : List CodeRow) → numbers ≡ code_rows x → StartsBy x (number_of x) numbers
+pub starts_by : (x : Setup) (numbers : List CodeRow) → numbers ≡ code_rows x → StartsBy x (block_number x) numbers
 starts_by x numbers rows = record { each = λ r is. first_number x r ∙ ap (λ (l : List CodeRow). start_by x l r) (sym rows) }
 
 -- what is left of a plan
@@ -188,18 +188,18 @@ left_behind x course form c codes is = let r = behind_end (items x course form c
 pub all_own : (x : Setup) (numbers : List CodeRow) (run : PlanRun) (codes : List ItemCode) → IsPlanRun x numbers run → codes ≡ plan_items x run.plan → count_by (is_own_code run.has_body) codes ≡ run.own
 unfolding own_events
 all_own x numbers run codes known is =
-    let flag = has x run.plan.course (form_of run.plan.form) run.plan.class in
+    let flag = has x run.plan.course (coded_form run.plan.form) run.plan.class in
     ap (λ (b : Bool). count_by (is_own_code b) codes) known.body ∙ ap (λ (l : List ItemCode). count_by (is_own_code flag) l) is
-    ∙ codes_own flag (items x run.plan.course (form_of run.plan.form) run.plan.class) ∙ sym known.counted
+    ∙ codes_own flag (items x run.plan.course (coded_form run.plan.form) run.plan.class) ∙ sym known.counted
 
 -- no more own events are left than there are
-pub behind_low : (x : Setup) (numbers : List CodeRow) (run : PlanRun) (codes : List ItemCode) → IsPlanRun x numbers run → codes ≡ item_codes (behind_body (items x run.plan.course (form_of run.plan.form) run.plan.class)) →
+pub behind_low : (x : Setup) (numbers : List CodeRow) (run : PlanRun) (codes : List ItemCode) → IsPlanRun x numbers run → codes ≡ item_codes (behind_body (items x run.plan.course (coded_form run.plan.form) run.plan.class)) →
     count_by (is_own_code run.has_body) codes ≤ run.own
 unfolding own_events
 behind_low x numbers run codes known is =
-    let plan = items x run.plan.course (form_of run.plan.form) run.plan.class in
+    let plan = items x run.plan.course (coded_form run.plan.form) run.plan.class in
     let r = behind_end plan in
-    let flag = has x run.plan.course (form_of run.plan.form) run.plan.class in
+    let flag = has x run.plan.course (coded_form run.plan.form) run.plan.class in
     let left : count_by (is_own_code run.has_body) codes ≡ own_count flag (behind_body plan) = ap (λ (b : Bool). count_by (is_own_code b) codes) known.body ∙ ap (λ (l : List ItemCode). count_by (is_own_code flag) l) is ∙ codes_own flag (behind_body plan) in
     let whole : own_count flag plan ≡ own_count flag r.0 + own_count flag (behind_body plan) = ap (own_count flag) (sym r.1) ∙ own_both flag r.0 (behind_body plan) in
     let counted : run.own ≡ own_count flag plan = known.counted in omega arith

@@ -10,15 +10,15 @@ use Rattle.code_ops.specs.Setups.{Setup, Routine}
 use Rattle.code_ops.specs.Routines.{IsRoutine}
 use Rattle.abi_lower.specs.declared.routines.Routine.{Routine as RoutineCode}
 use Rattle.abi_lower.specs.declared.routines.Routine.TheVariants.{Main}
-use Rattle.abi_lower.specs.invariants.Numbers.{plain_routines, routines, blocks_in, block_count, rows_from, code_rows}
-use Rattle.abi_lower.specs.invariants.Codes.{routine_from, routines_from, is_plain}
+use Rattle.abi_lower.specs.invariants.Numbers.{plain_routines, routines, blocks_in, block_count, code_rows_from, code_rows}
+use Rattle.abi_lower.specs.invariants.Codes.{routine_from, routines_from, runs_no_plan}
 use Rattle.abi_lower.specs.invariants.Lowerings.{Completes}
 use Rattle.abi_lower.proofs.ListedRoutines.{routine_only, plain_only, plain_is}
 
 completes_none : (x : Setup) (list : List Routine) → list ≡ routines x → Completes x [] 0 list
 unfolding code_rows block_count
 completes_none x list is = record {
-  all = ap (rows_from x 0) is;
+  all = ap (code_rows_from x 0) is;
   count = (let same = ap (sum_by (blocks_in x)) is in omega arith);
 }
 
@@ -47,7 +47,7 @@ pub routine_item : (x : Setup) (list : List RoutineCode) (i : ℕ) → routines_
 routine_item x list i is low = routine_only x (routine_from (get_or list i Main)) (item_there list i (routines x) is low)
 
 -- one of `main` and the functions
-pub plain_item : (x : Setup) (list : List RoutineCode) (i : ℕ) → routines_from list ≡ plain_routines x.program → i < length list → IsRoutine x (routine_from (get_or list i Main)) × (is_plain (routine_from (get_or list i Main)) ≡ true)
+pub plain_item : (x : Setup) (list : List RoutineCode) (i : ℕ) → routines_from list ≡ plain_routines x.program → i < length list → IsRoutine x (routine_from (get_or list i Main)) × (runs_no_plan (routine_from (get_or list i Main)) ≡ true)
 plain_item x list i is low =
     let has = item_there list i (plain_routines x.program) is low in
     (plain_only x (routine_from (get_or list i Main)) has, plain_is x.program (routine_from (get_or list i Main)) has)

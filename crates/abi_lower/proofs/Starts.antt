@@ -16,11 +16,11 @@ use Rattle.byte_code.specs.declared.code.Block.{Block}
 use Rattle.abi_slots.specs.declared.code_numbers.BlockKind.{BlockKind}
 use Rattle.abi_slots.specs.declared.code_numbers.BlockKind.TheVariants.{Plain, BuildComplete, BuildBase, EndComplete, EndBase, EndDeleting}
 use Rattle.abi_slots.specs.declared.code_numbers.CodeRow.{CodeRow}
-use Rattle.abi_slots.specs.CodeRows.{is_row, code_of, kind_number, AreDistinct}
+use Rattle.abi_slots.specs.CodeRows.{is_row, code_of, kind_number, AreDistinctRows}
 use Rattle.code_ops.specs.Setups.{Setup, Routine}
-use Rattle.code_ops.specs.Routines.{function_of, kind_of}
-use Rattle.abi_lower.specs.invariants.Numbers.{blocks_in, routine_row, rows_from}
-use Rattle.abi_lower.specs.invariants.Runs.{run}
+use Rattle.code_ops.specs.Routines.{function_of_routine, routine_kind}
+use Rattle.abi_lower.specs.invariants.Numbers.{blocks_in, routine_row, code_rows_from}
+use Rattle.abi_lower.specs.invariants.Runs.{routine_blocks}
 
 -- among these routines, the first of which begins at block n, r begins at m
 abbrev pub BeginsAt : Setup → ℕ → List Routine → Routine → ℕ → Type 0
@@ -55,14 +55,14 @@ begins_once x n m (p ∷ list) r q some one two =
 
 -- its blocks stand from there on
 
-pub begins_run : (x : Setup) (n m k : ℕ) (list : List Routine) (r : Routine) (b : Block) (before : List Block) → ((q : Routine) → length (run x q) ≡ blocks_in x q) → n ≡ length before → BeginsAt x n list r m → slice_get (run x r) k ≡ Some b → slice_get (before ++ flat_map (run x) list) (m + k) ≡ Some b
+pub begins_run : (x : Setup) (n m k : ℕ) (list : List Routine) (r : Routine) (b : Block) (before : List Block) → ((q : Routine) → length (routine_blocks x q) ≡ blocks_in x q) → n ≡ length before → BeginsAt x n list r m → slice_get (routine_blocks x r) k ≡ Some b → slice_get (before ++ flat_map (routine_blocks x) list) (m + k) ≡ Some b
 begins_run x n m k [] r b before long e at there = absurd at
 begins_run x n m k (q ∷ list) r b before long e at there = ⊎_elim
-    (λ h. let here : slice_get (run x q) k ≡ Some b = ap (λ (o : Routine). slice_get (run x o) k) h.0 ∙ there in
+    (λ h. let here : slice_get (routine_blocks x q) k ≡ Some b = ap (λ (o : Routine). slice_get (routine_blocks x o) k) h.0 ∙ there in
     let place : m + k ≡ length before + k = ap (λ i. i + k) (sym h.1 ∙ e) in
-    ap (λ i. slice_get (before ++ (run x q ++ flat_map (run x) list)) i) place ∙ get_past before (run x q ++ flat_map (run x) list) k b (get_front (run x q) (flat_map (run x) list) k b here))
-    (λ more. let long_here : n + blocks_in x q ≡ length (before ++ run x q) = (let l = long q in omega (arith, length-append before (run x q))) in
-    ap (λ (bs : List Block). slice_get bs (m + k)) (sym (append_assoc before (run x q) (flat_map (run x) list))) ∙ begins_run x (n + blocks_in x q) m k list r b (before ++ run x q) long long_here more there)
+    ap (λ i. slice_get (before ++ (routine_blocks x q ++ flat_map (routine_blocks x) list)) i) place ∙ get_past before (routine_blocks x q ++ flat_map (routine_blocks x) list) k b (get_front (routine_blocks x q) (flat_map (routine_blocks x) list) k b here))
+    (λ more. let long_here : n + blocks_in x q ≡ length (before ++ routine_blocks x q) = (let l = long q in omega (arith, length-append before (routine_blocks x q))) in
+    ap (λ (bs : List Block). slice_get bs (m + k)) (sym (append_assoc before (routine_blocks x q) (flat_map (routine_blocks x) list))) ∙ begins_run x (n + blocks_in x q) m k list r b (before ++ routine_blocks x q) long long_here more there)
     at
 
 -- and its row has the number
@@ -121,7 +121,7 @@ code_cases kind n m (Some g) rows f k e =
 -- no two of these routines are forms of one function
 pub record AreApartForms (x : Setup) (list : List Routine) : Type 0 where
   pub once : EachOnce list
-  pub one : (r q : Routine) (f : FunctionId) → Has list r → Has list q → function_of x r ≡ Some f → function_of x q ≡ Some f → kind_of r ≡ kind_of q → r ≡ q
+  pub one : (r q : Routine) (f : FunctionId) → Has list r → Has list q → function_of_routine x r ≡ Some f → function_of_routine x q ≡ Some f → routine_kind r ≡ routine_kind q → r ≡ q
 
 forms_rest : (x : Setup) (r : Routine) (list : List Routine) → AreApartForms x (r ∷ list) → AreApartForms x list
 forms_rest x r list are = record { once = are.once.1; one = λ p q f has_p has_q. are.one p q f (inr has_p) (inr has_q) }
@@ -131,29 +131,29 @@ begins_has : (x : Setup) (n m : ℕ) (list : List Routine) (r : Routine) → Beg
 begins_has x n m [] r at = absurd at
 begins_has x n m (q ∷ list) r at = ⊎_elim (λ h. inl h.0) (λ more. inr (begins_has x (n + blocks_in x q) m list r more)) at
 
-pub begins_code : (x : Setup) (n m : ℕ) (list : List Routine) (r : Routine) (f : FunctionId) → AreApartForms x list → function_of x r ≡ Some f → BeginsAt x n list r m → code_of (rows_from x n list) f (kind_of r) ≡ Some m
+pub begins_code : (x : Setup) (n m : ℕ) (list : List Routine) (r : Routine) (f : FunctionId) → AreApartForms x list → function_of_routine x r ≡ Some f → BeginsAt x n list r m → code_of (code_rows_from x n list) f (routine_kind r) ≡ Some m
 begins_code x n m [] r f are is at = absurd at
 begins_code x n m (q ∷ list) r f are is at = ⊎_elim
-    (λ h. let function : function_of x q ≡ Some f = ap (λ (o : Routine). function_of x o) h.0 ∙ is in
-    let kind : kind_of q ≡ kind_of r = ap kind_of h.0 in
-    ap (λ (o : Option FunctionId). code_of (routine_row (kind_of q) n o ++ rows_from x (n + blocks_in x q) list) f (kind_of r)) function
-    ∙ ap (λ (k : BlockKind). code_of (routine_row (kind_of q) n (Some f) ++ rows_from x (n + blocks_in x q) list) f k) (sym kind)
-    ∙ code_here (kind_of q) n f (rows_from x (n + blocks_in x q) list) ∙ ap (λ i. Some i) h.1)
+    (λ h. let function : function_of_routine x q ≡ Some f = ap (λ (o : Routine). function_of_routine x o) h.0 ∙ is in
+    let kind : routine_kind q ≡ routine_kind r = ap routine_kind h.0 in
+    ap (λ (o : Option FunctionId). code_of (routine_row (routine_kind q) n o ++ code_rows_from x (n + blocks_in x q) list) f (routine_kind r)) function
+    ∙ ap (λ (k : BlockKind). code_of (routine_row (routine_kind q) n (Some f) ++ code_rows_from x (n + blocks_in x q) list) f k) (sym kind)
+    ∙ code_here (routine_kind q) n f (code_rows_from x (n + blocks_in x q) list) ∙ ap (λ i. Some i) h.1)
     (λ more. let has : Has list r = begins_has x (n + blocks_in x q) m list r more in
-    code_later (kind_of q) n (function_of x q) (rows_from x (n + blocks_in x q) list) f (kind_of r) (λ e k. are.once.0 (subst (λ (o : Routine). Has list o) (sym (are.one q r f (inl refl) (inr has) e is k)) has))
+    code_later (routine_kind q) n (function_of_routine x q) (code_rows_from x (n + blocks_in x q) list) f (routine_kind r) (λ e k. are.once.0 (subst (λ (o : Routine). Has list o) (sym (are.one q r f (inl refl) (inr has) e is k)) has))
     ∙ begins_code x (n + blocks_in x q) m list r f (forms_rest x q list are) is more)
     at
 
 -- each row is that of a routine
-pub code_known : (x : Setup) (n m : ℕ) (list : List Routine) (f : FunctionId) (kind : BlockKind) → code_of (rows_from x n list) f kind ≡ Some m → (r : Routine) × Has list r × (function_of x r ≡ Some f) × (kind_of r ≡ kind)
+pub code_known : (x : Setup) (n m : ℕ) (list : List Routine) (f : FunctionId) (kind : BlockKind) → code_of (code_rows_from x n list) f kind ≡ Some m → (r : Routine) × Has list r × (function_of_routine x r ≡ Some f) × (routine_kind r ≡ kind)
 code_known x n m [] f kind e = cc
 code_known x n m (q ∷ list) f kind e = ⊎_elim
     (λ h. (q, inl refl, h.0, h.1))
     (λ more. let r = code_known x (n + blocks_in x q) m list f kind more in (r.0, inr r.1, r.2, r.3))
-    (code_cases (kind_of q) n m (function_of x q) (rows_from x (n + blocks_in x q) list) f kind e)
+    (code_cases (routine_kind q) n m (function_of_routine x q) (code_rows_from x (n + blocks_in x q) list) f kind e)
 
 abbrev HasRow : Setup → List Routine → CodeRow → Type 0
-HasRow x list a = (r : Routine) × Has list r × (function_of x r ≡ Some a.function) × (kind_of r ≡ a.kind)
+HasRow x list a = (r : Routine) × Has list r × (function_of_routine x r ≡ Some a.function) × (routine_kind r ≡ a.kind)
 
 -- what the first row is of
 first_row : (kind : BlockKind) (n : ℕ) (f : FunctionId) (a : CodeRow) → slice_get (routine_row kind n (Some f)) 0 ≡ Some a → (Some f ≡ Some a.function) × (kind ≡ a.kind)
@@ -167,15 +167,15 @@ row_cases kind n i None rows a e = inr (i, e)
 row_cases kind n zero (Some f) rows a e = inl (first_row kind n f a e)
 row_cases kind n (suc i) (Some f) rows a e = inr (i, e)
 
-row_known : (x : Setup) (n i : ℕ) (list : List Routine) (a : CodeRow) → slice_get (rows_from x n list) i ≡ Some a → HasRow x list a
+row_known : (x : Setup) (n i : ℕ) (list : List Routine) (a : CodeRow) → slice_get (code_rows_from x n list) i ≡ Some a → HasRow x list a
 row_known x n i [] a e = cc
 row_known x n i (q ∷ list) a e = ⊎_elim
     (λ h. (q, inl refl, h.0, h.1))
     (λ more. let r = row_known x (n + blocks_in x q) more.0 list a more.1 in (r.0, inr r.1, r.2, r.3))
-    (row_cases (kind_of q) n i (function_of x q) (rows_from x (n + blocks_in x q) list) a e)
+    (row_cases (routine_kind q) n i (function_of_routine x q) (code_rows_from x (n + blocks_in x q) list) a e)
 
 -- no two rows have one function and one kind
-rows_front : (kind : BlockKind) (n : ℕ) (o : Option FunctionId) (rows : List CodeRow) → AreDistinct rows → ((j : ℕ) (b : CodeRow) → slice_get rows j ≡ Some b → o ≡ Some b.function → kind ≡ b.kind → ⊥) → AreDistinct (routine_row kind n o ++ rows)
+rows_front : (kind : BlockKind) (n : ℕ) (o : Option FunctionId) (rows : List CodeRow) → AreDistinctRows rows → ((j : ℕ) (b : CodeRow) → slice_get rows j ≡ Some b → o ≡ Some b.function → kind ≡ b.kind → ⊥) → AreDistinctRows (routine_row kind n o ++ rows)
 rows_front kind n None rows are apart i j a b e g is = are i j a b e g is
 rows_front kind n (Some f) rows are apart zero zero a b e g is = refl
 rows_front kind n (Some f) rows are apart zero (suc j) a b e g is =
@@ -188,8 +188,8 @@ rows_front kind n (Some f) rows are apart (suc i) zero a b e g is =
     absurd (apart i a e (first.0 ∙ ap (λ (h : FunctionId). Some h) r.0) (first.1 ∙ r.1))
 rows_front kind n (Some f) rows are apart (suc i) (suc j) a b e g is = ap suc (are i j a b e g is)
 
-pub rows_distinct : (x : Setup) (n : ℕ) (list : List Routine) → AreApartForms x list → AreDistinct (rows_from x n list)
+pub rows_distinct : (x : Setup) (n : ℕ) (list : List Routine) → AreApartForms x list → AreDistinctRows (code_rows_from x n list)
 rows_distinct x n [] are = λ i j a b e g is. cc
-rows_distinct x n (q ∷ list) are = rows_front (kind_of q) n (function_of x q) (rows_from x (n + blocks_in x q) list) (rows_distinct x (n + blocks_in x q) list (forms_rest x q list are))
+rows_distinct x n (q ∷ list) are = rows_front (routine_kind q) n (function_of_routine x q) (code_rows_from x (n + blocks_in x q) list) (rows_distinct x (n + blocks_in x q) list (forms_rest x q list are))
     (λ j b e function kind. let r = row_known x (n + blocks_in x q) j list b e in
     are.once.0 (subst (λ (o : Routine). Has list o) (sym (are.one q r.0 b.function (inl refl) (inr r.1) function r.2 (kind ∙ sym r.3))) r.1))

@@ -4,7 +4,7 @@
 //! construction and of its destruction (Itanium C++ ABI 5.1.4.3). A routine has the blocks of its plan's own events first, and behind
 //! them those of its body's statements and of its end.
 //!
-//! This crate owns the number of each place (`number_of`) and of each function (`code_rows`), in `specs/invariants/Numbers.antt`, and
+//! This crate owns the number of each place (`block_number`) and of each function (`code_rows`), in `specs/invariants/Numbers.antt`, and
 //! within which bounds all numbers fit (`IsSmall`, in `specs/Bounds.antt`). The layer above may rely on `lower`: its code and its numbers
 //! are those of the program (`IsLowered` of code_blocks). `hint_of`, the hint that each cast in it carries, is handed on from
 //! code_statements.

@@ -4,11 +4,11 @@ ghost use Rattle.std.specs.Prelude.{◌≡◌, ◌<◌, ◌+◌, ◌++◌, ◌�
 ghost use Rattle.std.specs.List.{count_by};
 ghost use Rattle.code_blocks.specs.Blocks.{behind_body, closing_ops, event_block, items};
 ghost use Rattle.code_blocks.specs.Items.{Item as ItemOf};
-ghost use Rattle.code_blocks.specs.invariants.ItemCodes.{form_of, item_code, item_codes};
+ghost use Rattle.code_blocks.specs.invariants.ItemCodes.{coded_form, item_code, item_codes};
 ghost use Rattle.code_plans.specs.PlanSites.{plan_setup};
 ghost use Rattle.code_plans.specs.Settings.{ArePointers};
 ghost use Rattle.code_plans.specs.Tails.{IsLeftOf};
-ghost use Rattle.abi_lower.specs.invariants.Numbers.{number_of};
+ghost use Rattle.abi_lower.specs.invariants.Numbers.{block_number};
 ghost use Rattle.abi_lower.specs.invariants.Codes.{is_own_code, is_body_code, own_kind, is_body_next as is_body_next_code};
 ghost use Rattle.abi_lower.specs.invariants.Runs.{event_blocks, item_blocks};
 ghost use Rattle.abi_lower.specs.invariants.Lowerings.{IsRunAt, plan_code, plan_items};
@@ -69,7 +69,7 @@ fn push_event_block<L: SoundLayout>(
     requires run { IsRunAt L.lays_out L.rows site.now run }
     requires left { IsLeftOf L.rows site.now run.plan left.now }
     requires done { done + count_by (is_own_code run.has_body) left.now ≡ run.own }
-    ensures { OnOk result ((plan : List ItemOf) → left.now ≡ item_codes plan → blocks.new ≡ blocks.old ++ record { ops = event_block (plan_setup L.rows site.now) (number_of (plan_setup L.rows site.now)) run.plan.course (form_of run.plan.form) run.plan.class kind plan; line = 0 } ∷ []) }
+    ensures { OnOk result ((plan : List ItemOf) → left.now ≡ item_codes plan → blocks.new ≡ blocks.old ++ record { ops = event_block (plan_setup L.rows site.now) (block_number (plan_setup L.rows site.now)) run.plan.course (coded_form run.plan.form) run.plan.class kind plan; line = 0 } ∷ []) }
 {
     let mut ops = Sequence::new(site.alloc);
     let next = next_number(run, left, done);
@@ -118,7 +118,7 @@ pub fn push_events<L: SoundLayout>(
     requires run { IsRunAt L.lays_out L.rows site.now run }
     requires left { IsLeftOf L.rows site.now run.plan items.now }
     requires count { count_by (is_own_code run.has_body) items.now ≡ run.own }
-    ensures { OnOk result ((plan : List ItemOf) → items.now ≡ item_codes plan → blocks.new ≡ blocks.old ++ event_blocks (plan_setup L.rows site.now) (number_of (plan_setup L.rows site.now)) run.plan.course (form_of run.plan.form) run.plan.class plan) }
+    ensures { OnOk result ((plan : List ItemOf) → items.now ≡ item_codes plan → blocks.new ≡ blocks.old ++ event_blocks (plan_setup L.rows site.now) (block_number (plan_setup L.rows site.now)) run.plan.course (coded_form run.plan.form) run.plan.class plan) }
 {
     let mut done = 0;
     for (i, item) in items.iter().enumerate() {
@@ -163,7 +163,7 @@ fn end_of_construction<L: SoundLayout>(
     requires pointers { ArePointers (plan_setup L.rows site.now) run.plan.class pointers.now }
     requires run { IsRunAt L.lays_out L.rows site.now run }
     requires course { run.plan.course ≡ Course.Constructs }
-    ensures { IfOk result (λ ops. ops ≡ closing_ops (plan_setup L.rows site.now) (number_of (plan_setup L.rows site.now)) (plan_code run.plan)) }
+    ensures { IfOk result (λ ops. ops ≡ closing_ops (plan_setup L.rows site.now) (block_number (plan_setup L.rows site.now)) (plan_code run.plan)) }
 {
     let mut ops = Sequence::new(site.alloc);
     let next = run.first + run.own;
@@ -180,7 +180,7 @@ fn end_of_destruction<L: SoundLayout>(
     requires run { IsRunAt L.lays_out L.rows site.now run }
     requires course { (run.plan.course ≡ Course.Destroys) ⊎ (run.plan.course ≡ Course.Deletes) }
     requires items { all.now ≡ plan_items (plan_setup L.rows site.now) run.plan }
-    ensures { IfOk result (λ ops. ops ≡ closing_ops (plan_setup L.rows site.now) (number_of (plan_setup L.rows site.now)) (plan_code run.plan)) }
+    ensures { IfOk result (λ ops. ops ≡ closing_ops (plan_setup L.rows site.now) (block_number (plan_setup L.rows site.now)) (plan_code run.plan)) }
 {
     let mut ops = Sequence::new(site.alloc);
     let left = behind_body(all);
@@ -202,7 +202,7 @@ pub fn end_of_body<L: SoundLayout>(
     requires pointers { ArePointers (plan_setup L.rows site.now) run.plan.class pointers.now }
     requires run { IsRunAt L.lays_out L.rows site.now run }
     requires items { all.now ≡ plan_items (plan_setup L.rows site.now) run.plan }
-    ensures { IfOk result (λ ops. ops ≡ closing_ops (plan_setup L.rows site.now) (number_of (plan_setup L.rows site.now)) (plan_code run.plan)) }
+    ensures { IfOk result (λ ops. ops ≡ closing_ops (plan_setup L.rows site.now) (block_number (plan_setup L.rows site.now)) (plan_code run.plan)) }
 {
     match run.plan.course {
         Course::Constructs => {

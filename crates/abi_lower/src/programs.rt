@@ -5,15 +5,15 @@ ghost use Rattle.cxx_overrider.specs.Overriders.{AreOverriders};
 ghost use Rattle.cxx_program.specs.Typed.{IsTypedProgram};
 ghost use Rattle.abi_sound.specs.Places.{places_of};
 ghost use Rattle.abi_slots.specs.Slots.{AreSlots};
-ghost use Rattle.code_plans.specs.ClassTables.{AreClassTables};
-ghost use Rattle.abi_tables.specs.Counts.{all_words, most_words};
-ghost use Rattle.code_ops.specs.Setups.{setup, body_in, locals_in};
+ghost use Rattle.code_plans.specs.ClassTables.{AreKeptTables};
+ghost use Rattle.abi_tables.specs.Counts.{words_of_all_classes, most_words};
+ghost use Rattle.code_ops.specs.Setups.{setup, body_of_routine, locals_in};
 ghost use Rattle.code_blocks.specs.Lowered.{HasRegisters, IsLowered};
 ghost use Rattle.abi_lower.specs.Bounds.{IsSmall};
 ghost use Rattle.abi_lower.specs.invariants.Numbers.{routines, code_rows};
 ghost use Rattle.abi_lower.specs.invariants.Codes.{routine_from, routines_from};
 ghost use Rattle.abi_lower.specs.invariants.Lowerings.{IsLoweringAt, lowering_setup};
-ghost use Rattle.code_ops.specs.invariants.Fits.{most_locals};
+ghost use Rattle.code_ops.specs.invariants.Fits.{most_local_registers};
 
 use crate::block_sites::BlockSite;
 use crate::lowering::Lowering;
@@ -45,8 +45,8 @@ impl<'a, L: SoundLayout> Lowering<'a, L> {
     /// How many locals the body of a routine has.
     fn locals(&self, r: Routine) -> u32
         requires { IsLoweringAt L.rows self.now }
-        ensures count { result ≡ locals_in (body_in (lowering_setup L.rows self.now) (routine_from r)) }
-        ensures few { result < most_locals }
+        ensures count { result ≡ locals_in (body_of_routine (lowering_setup L.rows self.now) (routine_from r)) }
+        ensures few { result < most_local_registers }
     {
         match self.body(r) {
             None => 0,
@@ -77,7 +77,7 @@ impl<'a, L: SoundLayout> Lowering<'a, L> {
         requires layout { L.lays_out self.now.layout.now self.now.h.now }
         requires lowering { IsLoweringAt L.rows self.now }
         requires rows { numbers.now ≡ code_rows (lowering_setup L.rows self.now) }
-        requires tables { AreClassTables self.now.h.now (places_of self.now.h.now (L.rows self.now.layout.now)) tables.now }
+        requires tables { AreKeptTables self.now.h.now (places_of self.now.h.now (L.rows self.now.layout.now)) tables.now }
         requires routines { routines_from list.now ≡ routines (lowering_setup L.rows self.now) }
         ensures { IfOk result (λ code. IsLowered (lowering_setup L.rows self.now) code numbers.now) }
     {
@@ -99,7 +99,7 @@ impl<'a, L: SoundLayout> Lowering<'a, L> {
     fn lowered(&self, tables: &ClassTables, list: &[Routine]) -> Result<Lowered, NoMemory>
         requires layout { L.lays_out self.now.layout.now self.now.h.now }
         requires lowering { IsLoweringAt L.rows self.now }
-        requires tables { AreClassTables self.now.h.now (places_of self.now.h.now (L.rows self.now.layout.now)) tables.now }
+        requires tables { AreKeptTables self.now.h.now (places_of self.now.h.now (L.rows self.now.layout.now)) tables.now }
         requires routines { routines_from list.now ≡ routines (lowering_setup L.rows self.now) }
         ensures { IfOk result (λ lowered. IsLowered (lowering_setup L.rows self.now) lowered.code lowered.numbers) }
     {
@@ -123,7 +123,7 @@ pub fn lower<L: SoundLayout>(
     requires layout { L.lays_out layout.now h.now }
     requires overriders { AreOverriders h.now overriders.now }
     requires slots { AreSlots h.now (places_of h.now (L.rows layout.now)) slots.now }
-    requires words { all_words h.now (places_of h.now (L.rows layout.now)) ≤ most_words }
+    requires words { words_of_all_classes h.now (places_of h.now (L.rows layout.now)) ≤ most_words }
     requires typed { IsTypedProgram h.now program.now }
     requires small { IsSmall program.now }
     ensures { IfOk result (λ lowered. IsLowered (setup h.now (L.rows layout.now) program.now) lowered.code lowered.numbers) }

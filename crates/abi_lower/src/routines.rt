@@ -4,9 +4,9 @@ ghost use Rattle.std.specs.Prelude.{◌≡◌, ◌<◌, IfOk, OnOk, ◌++◌, Li
 ghost use Rattle.std.specs.List.{flat_map};
 ghost use Rattle.cxx_program.specs.declared.program.TypedBody.{TypedBody};
 ghost use Rattle.abi_sound.specs.declared.class_layout.ClassLayout.{ClassLayout};
-ghost use Rattle.code_ops.specs.Setups.{setup, owner_of};
-ghost use Rattle.code_ops.specs.Routines.{kind_of, plan_kind as plan_kind_of, plan_function as plan_function_of};
-ghost use Rattle.code_blocks.specs.invariants.ItemCodes.{form_of};
+ghost use Rattle.code_ops.specs.Setups.{setup, routine_owner};
+ghost use Rattle.code_ops.specs.Routines.{routine_kind, plan_kind as plan_kind_of, plan_function as plan_function_of};
+ghost use Rattle.code_blocks.specs.invariants.ItemCodes.{coded_form};
 ghost use Rattle.abi_lower.specs.invariants.Numbers.{main_routines, owned_routines, plain_routines, plan_routines, class_ids, routines};
 ghost use Rattle.abi_lower.specs.invariants.Codes.{routine_from, routines_from};
 
@@ -32,7 +32,7 @@ pub type RoutineList = Sequence<Routine>;
 
 /// Whose body a routine runs.
 pub fn owner(r: Routine) -> Owner
-    ensures { result ≡ owner_of (routine_from r) }
+    ensures { result ≡ routine_owner (routine_from r) }
 {
     match r {
         Routine::Main => Owner::Main,
@@ -44,7 +44,7 @@ pub fn owner(r: Routine) -> Owner
 
 /// The form of a function's code that a plan is.
 fn plan_kind(course: Course, form: Form) -> BlockKind
-    ensures { result ≡ plan_kind_of course (form_of form) }
+    ensures { result ≡ plan_kind_of course (coded_form form) }
 {
     match course {
         Course::Deletes => BlockKind::EndDeleting,
@@ -61,7 +61,7 @@ fn plan_kind(course: Course, form: Form) -> BlockKind
 
 /// The form of a function's code that a routine is.
 pub fn kind(r: Routine) -> BlockKind
-    ensures { result ≡ kind_of (routine_from r) }
+    ensures { result ≡ routine_kind (routine_from r) }
 {
     match r {
         Routine::Main | Routine::Function(_) => BlockKind::Plain,

@@ -1,7 +1,7 @@
 //! Where the code of routines begins.
 
 ghost use Rattle.std.specs.Prelude.{◌≡◌, ◌<◌, ◌+◌, ◌^◌, ◌++◌, IfOk, OnOk};
-ghost use Rattle.code_ops.specs.Routines.{IsRoutine, function_of, kind_of, start_by};
+ghost use Rattle.code_ops.specs.Routines.{IsRoutine, function_of_routine, routine_kind, start_by};
 ghost use Rattle.code_blocks.specs.invariants.ItemCodes.{ArePlans};
 ghost use Rattle.abi_lower.specs.invariants.Numbers.{routines, blocks_in, routine_row, code_rows};
 ghost use Rattle.abi_lower.specs.invariants.Codes.{routine_from, routines_from};
@@ -19,7 +19,7 @@ impl<'a, L: SoundLayout> Lowering<'a, L> {
     /// The function whose code a routine is.
     fn function(&self, r: Routine) -> Option<FunctionId>
         requires { IsRoutine (lowering_setup L.rows self.now) (routine_from r) }
-        ensures { result ≡ function_of (lowering_setup L.rows self.now) (routine_from r) }
+        ensures { result ≡ function_of_routine (lowering_setup L.rows self.now) (routine_from r) }
     {
         match r {
             Routine::Main => None,
@@ -49,7 +49,7 @@ impl<'a, L: SoundLayout> Lowering<'a, L> {
         requires plans { ArePlans self.now.h.now self.now.program.now self.now.index.now self.now.orders.now }
         requires routine { IsRoutine (lowering_setup L.rows self.now) (routine_from r) }
         requires room { next + blocks_in (lowering_setup L.rows self.now) (routine_from r) < 2 ^ 32 }
-        ensures rows { OnOk result (rows.new ≡ rows.old ++ routine_row (kind_of (routine_from r)) next (function_of (lowering_setup L.rows self.now) (routine_from r))) }
+        ensures rows { OnOk result (rows.new ≡ rows.old ++ routine_row (routine_kind (routine_from r)) next (function_of_routine (lowering_setup L.rows self.now) (routine_from r))) }
         ensures next { IfOk result (λ n. n ≡ next + blocks_in (lowering_setup L.rows self.now) (routine_from r)) }
     {
         let count = self.blocks_in(r)?;

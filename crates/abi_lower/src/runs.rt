@@ -10,9 +10,9 @@ ghost use Rattle.path_model.specs.Rules.{returns_value};
 ghost use Rattle.code_ops.specs.Setups.{Routine as RoutineOf};
 ghost use Rattle.code_ops.specs.Routines.{IsRoutine};
 ghost use Rattle.code_blocks.specs.Blocks.{closing_ops};
-ghost use Rattle.abi_lower.specs.invariants.Numbers.{plain_routines, number_of};
-ghost use Rattle.abi_lower.specs.invariants.Codes.{routine_from, routines_from, is_plain};
-ghost use Rattle.abi_lower.specs.invariants.Runs.{run_of_body, run as run_of, all_blocks};
+ghost use Rattle.abi_lower.specs.invariants.Numbers.{plain_routines, block_number};
+ghost use Rattle.abi_lower.specs.invariants.Codes.{routine_from, routines_from, runs_no_plan};
+ghost use Rattle.abi_lower.specs.invariants.Runs.{run_of_body, routine_blocks as run_of, all_blocks};
 ghost use Rattle.abi_lower.specs.invariants.Lowerings.{IsBlockSite, IsBodySite, RunsAt, block_setup};
 
 use crate::block_sites::BlockSite;
@@ -79,7 +79,7 @@ impl<'a, L: SoundLayout> BlockSite<'a, L> {
         requires site { IsBlockSite L.lays_out L.rows self.now }
         requires body { IsBodySite (block_setup L.rows self.now) self.now.lowering.now.slots.now self.now.lowering.now.overriders.now body.now }
         requires room { base + length body.now.statements < 2 ^ 32 }
-        ensures { OnOk result ((r : RoutineOf) → RunsAt (block_setup L.rows self.now) self.now.numbers.now body.now base r → end ≡ closing_ops (block_setup L.rows self.now) (number_of (block_setup L.rows self.now)) r → blocks.new ≡ blocks.old ++ run_of_body (block_setup L.rows self.now) r body.now) }
+        ensures { OnOk result ((r : RoutineOf) → RunsAt (block_setup L.rows self.now) self.now.numbers.now body.now base r → end ≡ closing_ops (block_setup L.rows self.now) (block_number (block_setup L.rows self.now)) r → blocks.new ≡ blocks.old ++ run_of_body (block_setup L.rows self.now) r body.now) }
     {
         let site = Site {
             alloc: self.lowering.alloc,
@@ -103,8 +103,8 @@ impl<'a, L: SoundLayout> BlockSite<'a, L> {
     fn push_plain(&self, blocks: &mut BlockList, r: Routine, end: OpList) -> Result<(), NoMemory>
         requires site { IsBlockSite L.lays_out L.rows self.now }
         requires routine { IsRoutine (block_setup L.rows self.now) (routine_from r) }
-        requires plain { is_plain (routine_from r) ≡ true }
-        requires end { end ≡ closing_ops (block_setup L.rows self.now) (number_of (block_setup L.rows self.now)) (routine_from r) }
+        requires plain { runs_no_plan (routine_from r) ≡ true }
+        requires end { end ≡ closing_ops (block_setup L.rows self.now) (block_number (block_setup L.rows self.now)) (routine_from r) }
         ensures { OnOk result (blocks.new ≡ blocks.old ++ run_of (block_setup L.rows self.now) (routine_from r)) }
     {
         let base = self.lowering.first_block(self.numbers, r);
@@ -119,7 +119,7 @@ impl<'a, L: SoundLayout> BlockSite<'a, L> {
     fn push_run(&self, blocks: &mut BlockList, r: Routine) -> Result<(), NoMemory>
         requires site { IsBlockSite L.lays_out L.rows self.now }
         requires routine { IsRoutine (block_setup L.rows self.now) (routine_from r) }
-        requires plain { is_plain (routine_from r) ≡ true }
+        requires plain { runs_no_plan (routine_from r) ≡ true }
         ensures { OnOk result (blocks.new ≡ blocks.old ++ run_of (block_setup L.rows self.now) (routine_from r)) }
     {
         match r {

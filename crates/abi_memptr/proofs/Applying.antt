@@ -33,15 +33,15 @@ use Rattle.byte_code.specs.declared.code.ImageBytes.{ImageBytes}
 use Rattle.byte_code.specs.Numbers.{word_of}
 use Rattle.byte_machine.specs.Running.{moved}
 use Rattle.byte_machine.specs.Calls.{Callee}
-use Rattle.agree_dispatch.specs.Standing.{part_at}
+use Rattle.agree_dispatch.specs.Standing.{address_in_object}
 use Rattle.agree_dispatch.specs.Words.{HasEntryWord}
 use Rattle.agree_dispatch.proofs.OwnKeys.{first_own}
 use Rattle.agree_dispatch.proofs.Running.{entry_runs}
 use Rattle.abi_memptr.specs.declared.calls.Applied.{Applied}
 use Rattle.abi_memptr.specs.declared.pointers.MemberPointer.TheVariants.{Function}
 use Rattle.abi_memptr.specs.Pointers.{IsFunctionIn}
-use Rattle.abi_memptr.specs.PointerBytes.{HasCode, code_word, code_word_of, function_word}
-use Rattle.abi_memptr.specs.PointerCalls.{Applies, IsCompleteAt, runs_overrider, runs_nothing, runs_itself, whole_view}
+use Rattle.abi_memptr.specs.PointerBytes.{HasFunctionCode, even_word, code_word_of, function_word}
+use Rattle.abi_memptr.specs.PointerCalls.{Applies, IsCompleteAt, runs_overrider, runs_nothing, runs_itself, whole_object_view}
 use Rattle.abi_memptr.specs.invariants.Targets.{entry_target}
 use Rattle.abi_memptr.proofs.Targeting.{entry_found, nothing_found}
 use Rattle.abi_memptr.proofs.Words.{plain_word, virtual_word}
@@ -87,8 +87,8 @@ module _ (h : Classes) (rows : List ClassLayout) (image : ImageBytes) (codes : L
       let some = some_found h keeps d (whole_of d) (whole [] tt) s f t.stands.faultless (whole_inside h d s value.valid) value.class real in
       let o = some.0 in
       let found : final_in h (whole_of d) (join (whole_of d) s) f ≡ Some o = ap (λ u. final_in h (whole_of d) u f) joined ∙ some.1 in
-      let runs = entry_runs h rows image memory d at (whole_of d) (whole_view d) t.placed t.stands s (first_key h f) o value.valid value.class (first_own h keeps f real) found in
-      let here : part_at l d at (whole_of d) s ≡ at + l.place d s = ap (λ u. at + l.place d u) joined in
+      let runs = entry_runs h rows image memory d at (whole_of d) (whole_object_view d) t.placed t.stands s (first_key h f) o value.valid value.class (first_own h keeps f real) found in
+      let here : address_in_object l d at (whole_of d) s ≡ at + l.place d s = ap (λ u. at + l.place d u) joined in
       let word = subst (λ a. HasEntryWord h l image t.placed.codes memory (first_key h f) o a (at + l.place d o.at)) here runs in
       by_word o t.placed t.numbers t.stands.low real (found_in_whole h keeps d s f o some.1) word (is_pure h o.function) refl
 
@@ -97,9 +97,9 @@ module _ (h : Classes) (rows : List ClassLayout) (image : ImageBytes) (codes : L
   by_code is code has = runs_itself code (λ real. let yes = virtual_test h complete.keeps f real in absurd (cc)) has
 
   -- what the two words lead to: an odd one to an entry, an even one to code
-  through : (word this : ℕ) (result : Option Applied) → (v : Bool) → is_virtual h f ≡ v → HasCode h codes (Function f s) → word ≡ function_word h (places_of h rows) codes f → this ≡ at + (places_of h rows).place d s →
+  through : (word this : ℕ) (result : Option Applied) → (v : Bool) → is_virtual h f ≡ v → HasFunctionCode h codes (Function f s) → word ≡ function_word h (places_of h rows) codes f → this ≡ at + (places_of h rows).place d s →
       (word % 2 ≡ 1 → result ≡ entry_target image memory this (word - 1)) →
-      ((code : ℕ) → code < 2 ^ 32 → word ≡ code_word code → result ≡ Some (record { code = code; this_at = this })) → Applies h (places_of h rows) codes d at f s result
+      ((code : ℕ) → code < 2 ^ 32 → word ≡ even_word code → result ≡ Some (record { code = code; this_at = this })) → Applies h (places_of h rows) codes d at f s result
   through word this result true is coded word_is this_is odd even =
       let e : word ≡ 1 + 8 * entry_number h l (first_key h f) = word_is ∙ virtual_word h l codes f is in
       let bytes : word - 1 ≡ 8 * entry_number h l (first_key h f) = omega (arith, e) in
@@ -111,10 +111,10 @@ module _ (h : Classes) (rows : List ClassLayout) (image : ImageBytes) (codes : L
       let found = even c.0 (complete.small f c.0 c.1) e ∙ ap (λ a. let x : Option Applied = Some (record { code = c.0; this_at = a }) in x) this_is in
       subst (Applies h l codes d at f s) (sym found) (by_code is c.0 c.1)
 
-  pub applies : (ptr adj : ℤ) (word place this : ℕ) (result : Option Applied) → HasCode h codes (Function f s) → ptr ≡ pos (function_word h (places_of h rows) codes f) → adj ≡ pos ((places_of h rows).place d s) →
+  pub applies : (ptr adj : ℤ) (word place this : ℕ) (result : Option Applied) → HasFunctionCode h codes (Function f s) → ptr ≡ pos (function_word h (places_of h rows) codes f) → adj ≡ pos ((places_of h rows).place d s) →
       ((n : ℕ) → ptr ≡ pos n → word ≡ n) → ((n : ℕ) → adj ≡ pos n → place ≡ n) → this ≡ moved at place →
       (word % 2 ≡ 1 → result ≡ entry_target image memory this (word - 1)) →
-      ((code : ℕ) → code < 2 ^ 32 → word ≡ code_word code → result ≡ Some (record { code = code; this_at = this })) → Applies h (places_of h rows) codes d at f s result
+      ((code : ℕ) → code < 2 ^ 32 → word ≡ even_word code → result ≡ Some (record { code = code; this_at = this })) → Applies h (places_of h rows) codes d at f s result
   applies ptr adj word place this result coded ptr_is adj_is first second this_is odd even =
       let here = this_is ∙ (ap (moved at) (second (l.place d s) adj_is) ∙ this_here) in
       through word this result (is_virtual h f) refl coded (first (function_word h l codes f) ptr_is) here odd even

@@ -9,15 +9,15 @@ use Rattle.cxx_subobject.proofs.InsideLemmas.{join_class}
 use Rattle.cxx_overrider.specs.declared.FunctionId.{FunctionId}
 use Rattle.abi_memptr.specs.declared.pointers.MemberFault.{MemberFault}
 use Rattle.abi_memptr.specs.declared.pointers.MemberFault.TheVariants.{NoSuchMember as NoSuchMemberFault, BitField as BitFieldFault, NotBase as NotBaseFault, AmbiguousBase as AmbiguousBaseFault, VirtualBase as VirtualBaseFault, NoMemory as NoMemoryFault}
-use Rattle.abi_memptr.specs.Pointers.{Outcome, and_then, IsRefusal, IsDataIn, IsFunctionIn}
+use Rattle.abi_memptr.specs.Pointers.{MemberOutcome, next_outcome, IsMemberRefusal, IsDataIn, IsFunctionIn}
 
 -- what refuses the first question refuses both
-pub refusal_first : {X Y : Type 0} (outcome : Outcome X) (next : X → Outcome Y) (fault : MemberFault) → IsRefusal outcome fault → IsRefusal (and_then outcome next) fault
-refusal_first outcome next NoSuchMemberFault e = ap (λ o. and_then o next) e
-refusal_first outcome next BitFieldFault e = ap (λ o. and_then o next) e
-refusal_first outcome next NotBaseFault e = ap (λ o. and_then o next) e
-refusal_first outcome next AmbiguousBaseFault e = ap (λ o. and_then o next) e
-refusal_first outcome next VirtualBaseFault e = ap (λ o. and_then o next) e
+pub refusal_first : {X Y : Type 0} (outcome : MemberOutcome X) (next : X → MemberOutcome Y) (fault : MemberFault) → IsMemberRefusal outcome fault → IsMemberRefusal (next_outcome outcome next) fault
+refusal_first outcome next NoSuchMemberFault e = ap (λ o. next_outcome o next) e
+refusal_first outcome next BitFieldFault e = ap (λ o. next_outcome o next) e
+refusal_first outcome next NotBaseFault e = ap (λ o. next_outcome o next) e
+refusal_first outcome next AmbiguousBaseFault e = ap (λ o. next_outcome o next) e
+refusal_first outcome next VirtualBaseFault e = ap (λ o. next_outcome o next) e
 refusal_first outcome next NoMemoryFault e = tt
 
 -- a part of the base is one of the whole object

@@ -21,7 +21,7 @@ use Rattle.cxx_subobject.specs.Subobjects.{IsSubobject, whole, class_of, same_su
 use Rattle.cxx_subobject.proofs.TreeLemmas.{subobject_same, same_itself}
 use Rattle.abi_sound.specs.declared.class_layout.ClassLayout.{ClassLayout}
 use Rattle.abi_sound.specs.Places.{Places, places_of, size_of_value}
-use Rattle.abi_sound.specs.Locations.{place_at, leaf_span, bits_of_value, Span, AreDisjoint}
+use Rattle.abi_sound.specs.Locations.{place_along_hops, leaf_span, bits_of_value, Span, AreDisjoint}
 use Rattle.abi_sound.specs.Sound.{IsSoundLayout, IsSoundClass, IsAligned}
 use Rattle.abi_sound.proofs.LeafSpans.{EndsIn, last_element, some_bits, span_is, value_span}
 use Rattle.abi_sound.proofs.PlaceLemmas.{place_at_value, place_at_inner}
@@ -81,9 +81,9 @@ module _ (h : Classes) (rows : List ClassLayout) (keeps : IsHierarchy h) (sound 
       let place = place_at_value h l d c s m 0 type a.class e in
       let laws = sound.each d a.known in
       let width : width_of_member h c m ≡ None = ap width_in a.there ∙ a.unit in
-      let aligned : IsAligned None type (place_at h l d hops) (l.first c m) = subst (λ w. IsAligned w type (place_at h l d hops) (l.first c m)) width (laws.aligned type hops c m leads last) in
+      let aligned : IsAligned None type (place_along_hops h l d hops) (l.first c m) = subst (λ w. IsAligned w type (place_along_hops h l d hops) (l.first c m)) width (laws.aligned type hops c m leads last) in
       let first = aligned.1 in
-      let start : (leaf_span h l d hops).start ≡ 8 * place_at h l d hops + l.first c m = ap (λ (z : Span). z.start) span in
+      let start : (leaf_span h l d hops).start ≡ 8 * place_along_hops h l d hops + l.first c m = ap (λ (z : Span). z.start) span in
       let many : (leaf_span h l d hops).length ≡ bits_of_value (width_of_member h c m) type = ap (λ (z : Span). z.length) span in
       let some = some_bits h keeps c m 0 type e in
       let inside = laws.leaf_inside type hops leads in
@@ -129,7 +129,7 @@ module _ (h : Classes) (rows : List ClassLayout) (keeps : IsHierarchy h) (sound 
   -- an object that is a member, at its place
   record IsObject (c : ClassId) (m : ℕ) (s : Subobject) (k : ClassId) : Type 0 where
     leads : LeadsTo h d (Inherit s ∷ MemberHop m 0 ∷ Inherit (whole_of k) ∷ []) (Object k)
-    place : place_at h (places_of h rows) d (Inherit s ∷ MemberHop m 0 ∷ Inherit (whole_of k) ∷ []) ≡ data_place (places_of h rows) d c m s + place_at h (places_of h rows) k (Inherit (whole_of k) ∷ [])
+    place : place_along_hops h (places_of h rows) d (Inherit s ∷ MemberHop m 0 ∷ Inherit (whole_of k) ∷ []) ≡ data_place (places_of h rows) d c m s + place_along_hops h (places_of h rows) k (Inherit (whole_of k) ∷ [])
     bound : data_place (places_of h rows) d c m s ≤ 1048576
 
   object : (c : ClassId) (m : ℕ) (s : Subobject) (a : IsDataIn h d c m s) (k : ClassId) → a.member.ty ≡ Object k → IsObject c m s k
@@ -141,7 +141,7 @@ module _ (h : Classes) (rows : List ClassLayout) (keeps : IsHierarchy h) (sound 
       let laws = sound.each d a.known in
       let inside = laws.begins_inside k hops leads in
       let size = laws.bounded in
-      let place : place_at h l d hops ≡ data_place l d c m s + place_at h l k (Inherit (whole_of k) ∷ []) = omega (arith, inner) in
+      let place : place_along_hops h l d hops ≡ data_place l d c m s + place_along_hops h l k (Inherit (whole_of k) ∷ []) = omega (arith, inner) in
       record { leads = leads; place = place; bound = omega (arith, place, inside, size) }
 
   bounded : (c : ClassId) (m : ℕ) (s : Subobject) (a : IsDataIn h d c m s) (type : FieldType ClassId) → a.member.ty ≡ type → data_place (places_of h rows) d c m s ≤ 1048576
@@ -159,7 +159,7 @@ module _ (h : Classes) (rows : List ClassLayout) (keeps : IsHierarchy h) (sound 
       let q = object e n t b k y in
       let first = p.place in
       let second = q.place in
-      let at : place_at h l d (Inherit s ∷ MemberHop m 0 ∷ Inherit (whole_of k) ∷ []) ≡ place_at h l d (Inherit t ∷ MemberHop n 0 ∷ Inherit (whole_of k) ∷ []) = omega (arith, first, second, same) in
+      let at : place_along_hops h l d (Inherit s ∷ MemberHop m 0 ∷ Inherit (whole_of k) ∷ []) ≡ place_along_hops h l d (Inherit t ∷ MemberHop n 0 ∷ Inherit (whole_of k) ∷ []) = omega (arith, first, second, same) in
       let hops = (sound.each d a.known).distinct k (Inherit s ∷ MemberHop m 0 ∷ Inherit (whole_of k) ∷ []) (Inherit t ∷ MemberHop n 0 ∷ Inherit (whole_of k) ∷ []) p.leads q.leads at in
       let r = one_pair m n s t (Inherit (whole_of k) ∷ []) (Inherit (whole_of k) ∷ []) hops in
       same_pointer c e m n s t a.class b.class r.0 r.1

@@ -17,7 +17,7 @@ use Rattle.abi_memptr.specs.declared.pointers.MemberPointer.{MemberPointer}
 use Rattle.abi_memptr.specs.declared.pointers.MemberPointer.TheVariants.{NullData, Data, NullFunction, Function}
 use Rattle.abi_memptr.specs.declared.answers.MemberAnswer.{MemberAnswer}
 use Rattle.abi_memptr.specs.declared.answers.MemberAnswer.TheVariants.{Refused, Text}
-use Rattle.abi_memptr.specs.Pointers.{Outcome, refused, given, and_then, pointer_for}
+use Rattle.abi_memptr.specs.Pointers.{MemberOutcome, refused, given, next_outcome, pointer_for}
 use Rattle.abi_memptr.specs.PointerBytes.{data_place, word_bytes, entry_word}
 
 -- the place of a data member, and the bytes of the pointer
@@ -25,8 +25,8 @@ abbrev pub data_text : ℕ → List ℕ
 data_text place = codes "data " ++ decimal place ++ codes "\nbytes " ++ encode_lower (word_bytes place) ++ codes "\n"
 
 -- the first word of a pointer to a virtual function
-abbrev pub entry_of : Classes → Places → FunctionId → Option ℕ
-entry_of h l f = if is_virtual h f then Some (entry_word h l f) else None
+abbrev pub virtual_entry : Classes → Places → FunctionId → Option ℕ
+virtual_entry h l f = if is_virtual h f then Some (entry_word h l f) else None
 
 -- the first word as it is told: a number where the function is virtual, else the function whose code it names
 abbrev pub first_text : Classes → FunctionId → Option ℕ → List ℕ
@@ -55,17 +55,17 @@ call_line h l d f s true = overrider_line h l d (final_in h (whole_of d) s f)
 call_line h l d f s false = run_line h false f (l.place d s)
 
 -- the text of a pointer to a member of class d; there is none of null
-abbrev pub pointer_text : Classes → Places → ClassId → MemberPointer → List ℕ
-pointer_text h l d NullData = []
-pointer_text h l d (Data c m s) = data_text (data_place l d c m s)
-pointer_text h l d NullFunction = []
-pointer_text h l d (Function f s) = function_line h f (entry_of h l f) (l.place d s) ++ call_line h l d f s (is_virtual h f)
+abbrev pub member_pointer_text : Classes → Places → ClassId → MemberPointer → List ℕ
+member_pointer_text h l d NullData = []
+member_pointer_text h l d (Data c m s) = data_text (data_place l d c m s)
+member_pointer_text h l d NullFunction = []
+member_pointer_text h l d (Function f s) = function_line h f (virtual_entry h l f) (l.place d s) ++ call_line h l d f s (is_virtual h f)
 
 -- the answer of `memptr K::m@D`: the text of the pointer to the member of k as one to a member of d, or the first rule that refuses it
-abbrev pub answer_of : Classes → Places → ClassId → List ℕ → ClassId → Outcome (List ℕ)
-answer_of h l k name d = and_then (pointer_for h k name d) (λ v. given (pointer_text h l d v))
+abbrev pub answer_of : Classes → Places → ClassId → List ℕ → ClassId → MemberOutcome (List ℕ)
+answer_of h l k name d = next_outcome (pointer_for h k name d) (λ v. given (member_pointer_text h l d v))
 
 -- what an answer says
-abbrev pub said : MemberAnswer → Outcome (List ℕ)
+abbrev pub said : MemberAnswer → MemberOutcome (List ℕ)
 said (Refused rule) = refused rule
 said (Text text) = given text.items

@@ -24,31 +24,31 @@ abbrev pub entry_word : Classes → Places → FunctionId → ℕ
 entry_word h l f = 1 + 8 * entry_number h l (first_key h f)
 
 -- the word of code: twice its number, and 2, so that it is even and not 0
-abbrev pub code_word : ℕ → ℕ
-code_word code = 2 * code + 2
+abbrev pub even_word : ℕ → ℕ
+even_word code = 2 * code + 2
 
 abbrev pub code_word_of : Option ℕ → ℕ
 code_word_of None = 0
-code_word_of (Some code) = code_word code
+code_word_of (Some code) = even_word code
 
 -- the first word of a pointer to a function
 abbrev pub function_word : Classes → Places → List CodeRow → FunctionId → ℕ
 function_word h l codes f = if is_virtual h f then entry_word h l f else code_word_of (code_of codes f Plain)
 
 -- there is code for a function that is not virtual
-abbrev pub HasCode : Classes → List CodeRow → MemberPointer → Type 0
-HasCode h codes NullData = Unit {0}
-HasCode h codes (Data c m s) = Unit {0}
-HasCode h codes NullFunction = Unit {0}
-HasCode h codes (Function f s) = is_virtual h f ≡ false → (code : ℕ) × (code_of codes f Plain ≡ Some code)
+abbrev pub HasFunctionCode : Classes → List CodeRow → MemberPointer → Type 0
+HasFunctionCode h codes NullData = Unit {0}
+HasFunctionCode h codes (Data c m s) = Unit {0}
+HasFunctionCode h codes NullFunction = Unit {0}
+HasFunctionCode h codes (Function f s) = is_virtual h f ≡ false → (code : ℕ) × (code_of codes f Plain ≡ Some code)
 
 abbrev pub word_bytes : ℕ → List ℕ
 word_bytes word = to_le_bytes w64 word
 
 -- the bytes of a pointer to members of class d, the lowest first: the place of data, -1 for null; of a function its word and the
 -- place of its subobject, 0 and 0 for null
-abbrev pub bytes_of : Classes → Places → List CodeRow → ClassId → MemberPointer → List ℕ
-bytes_of h l codes d NullData = word_bytes (2 ^ 64 - 1)
-bytes_of h l codes d (Data c m s) = word_bytes (data_place l d c m s)
-bytes_of h l codes d NullFunction = word_bytes 0 ++ word_bytes 0
-bytes_of h l codes d (Function f s) = word_bytes (function_word h l codes f) ++ word_bytes (l.place d s)
+abbrev pub member_pointer_bytes : Classes → Places → List CodeRow → ClassId → MemberPointer → List ℕ
+member_pointer_bytes h l codes d NullData = word_bytes (2 ^ 64 - 1)
+member_pointer_bytes h l codes d (Data c m s) = word_bytes (data_place l d c m s)
+member_pointer_bytes h l codes d NullFunction = word_bytes 0 ++ word_bytes 0
+member_pointer_bytes h l codes d (Function f s) = word_bytes (function_word h l codes f) ++ word_bytes (l.place d s)

@@ -24,17 +24,17 @@ use Rattle.agree_dispatch.specs.Standing.{IsViewAt}
 use Rattle.abi_memptr.specs.declared.calls.Applied.{Applied}
 use Rattle.abi_memptr.specs.declared.pointers.MemberPointer.TheVariants.{Function}
 use Rattle.abi_memptr.specs.Pointers.{IsFunctionIn}
-use Rattle.abi_memptr.specs.PointerBytes.{HasCode, function_word}
+use Rattle.abi_memptr.specs.PointerBytes.{HasFunctionCode, function_word}
 
 -- the whole of an object of class d, as a view
-abbrev pub whole_view : ClassId → View
-whole_view d = record { complete = d; at_sub = whole_of d; class = d }
+abbrev pub whole_object_view : ClassId → View
+whole_object_view d = record { complete = d; at_sub = whole_of d; class = d }
 
 -- the virtual pointers of an object of class d lead to the tables of the whole object, in an image with these numbers of code
 pub record HasWholeTables (h : Classes) (rows : List ClassLayout) (image : ImageBytes) (codes : List CodeRow) (memory : Store) (d : ClassId) (at : ℕ) : Type 0 where
   pub placed : PlacedTables
   pub numbers : placed.codes ≡ codes
-  pub stands : IsViewAt h rows image memory d at (whole_of d) (whole_view d) placed
+  pub stands : IsViewAt h rows image memory d at (whole_of d) (whole_object_view d) placed
 
 -- a complete object of class d stands at an address, over a sound layout; where its class is dynamic it has its tables. The numbers of
 -- code have 32 bits
@@ -60,5 +60,5 @@ pub data Applies (h : Classes) (l : Places) (codes : List CodeRow) (d : ClassId)
 -- what a call of f in s runs
 abbrev pub AppliesWords : ImageBytes → Store → ℕ → (ptr adj : ℤ) → Option Applied → Type 0
 AppliesWords image memory at ptr adj result = (h : Classes) (rows : List ClassLayout) (codes : List CodeRow) (d : ClassId) (f : FunctionId) (s : Subobject) →
-    IsCompleteAt h rows image codes memory d at → IsFunctionIn h d f s → HasCode h codes (Function f s) →
+    IsCompleteAt h rows image codes memory d at → IsFunctionIn h d f s → HasFunctionCode h codes (Function f s) →
     ptr ≡ pos (function_word h (places_of h rows) codes f) → adj ≡ pos ((places_of h rows).place d s) → Applies h (places_of h rows) codes d at f s result

@@ -22,23 +22,23 @@ use Rattle.abi_memptr.specs.declared.pointers.MemberFault.{MemberFault}
 use Rattle.abi_memptr.specs.declared.pointers.MemberFault.TheVariants.{NoSuchMember as NoSuchMemberFault, BitField as BitFieldFault, NotBase as NotBaseFault, AmbiguousBase as AmbiguousBaseFault, VirtualBase as VirtualBaseFault, NoMemory}
 
 -- what comes of a question: a thing, or the rule that refuses it
-pub data Outcome (X : Type 0) : Type 0 where
-  refused : MemberRule → Outcome X
-  given : X → Outcome X
+pub data MemberOutcome (X : Type 0) : Type 0 where
+  refused : MemberRule → MemberOutcome X
+  given : X → MemberOutcome X
 
 -- what comes of a second question, about what the first one gave
-abbrev pub and_then : {X Y : Type 0} → Outcome X → (X → Outcome Y) → Outcome Y
-and_then (refused rule) next = refused rule
-and_then (given x) next = next x
+abbrev pub next_outcome : {X Y : Type 0} → MemberOutcome X → (X → MemberOutcome Y) → MemberOutcome Y
+next_outcome (refused rule) next = refused rule
+next_outcome (given x) next = next x
 
 -- a call that gives nothing says why; want of memory is free
-abbrev pub IsRefusal : {X : Type 0} → Outcome X → MemberFault → Type 0
-IsRefusal outcome NoSuchMemberFault = outcome ≡ refused NoSuchMember
-IsRefusal outcome BitFieldFault = outcome ≡ refused BitField
-IsRefusal outcome NotBaseFault = outcome ≡ refused NotBase
-IsRefusal outcome AmbiguousBaseFault = outcome ≡ refused AmbiguousBase
-IsRefusal outcome VirtualBaseFault = outcome ≡ refused VirtualBase
-IsRefusal outcome NoMemory = Unit {0}
+abbrev pub IsMemberRefusal : {X : Type 0} → MemberOutcome X → MemberFault → Type 0
+IsMemberRefusal outcome NoSuchMemberFault = outcome ≡ refused NoSuchMember
+IsMemberRefusal outcome BitFieldFault = outcome ≡ refused BitField
+IsMemberRefusal outcome NotBaseFault = outcome ≡ refused NotBase
+IsMemberRefusal outcome AmbiguousBaseFault = outcome ≡ refused AmbiguousBase
+IsMemberRefusal outcome VirtualBaseFault = outcome ≡ refused VirtualBase
+IsMemberRefusal outcome NoMemory = Unit {0}
 
 -- values
 
@@ -68,48 +68,48 @@ IsPointerOf h d (Function f s) = IsFunctionIn h d f s
 
 -- `&K::m`
 
-abbrev pub data_pointer : ClassId → ℕ → Option ℕ → Outcome MemberPointer
+abbrev pub data_pointer : ClassId → ℕ → Option ℕ → MemberOutcome MemberPointer
 data_pointer k m None = given (Data k m (whole_of k))
 data_pointer k m (Some width) = refused BitField
 
-abbrev pub pointer_by : Classes → ClassId → Option Found → Outcome MemberPointer
+abbrev pub pointer_by : Classes → ClassId → Option Found → MemberOutcome MemberPointer
 pointer_by h k None = refused NoSuchMember
 pointer_by h k (Some (Member s m)) = data_pointer k m (width_of_member h k m)
 pointer_by h k (Some (FunctionFound s i)) = given (Function (function_at k i) (whole_of k))
 
 -- the pointer to the member of a name that class k itself declares, which is no bit-field (ISO C++03 5.3.1, 9.6)
-abbrev pub pointer_to : Classes → ClassId → List ℕ → Outcome MemberPointer
-pointer_to h k name = pointer_by h k (declaration_at h name (whole_of k))
+abbrev pub pointer_to_member : Classes → ClassId → List ℕ → MemberOutcome MemberPointer
+pointer_to_member h k name = pointer_by h k (declaration_at h name (whole_of k))
 
 -- conversions
 
-abbrev pub base_at : Root → Subobject → Outcome Subobject
-base_at Whole s = given s
-base_at (Shared v) s = refused VirtualBase
+abbrev pub unshared_base : Root → Subobject → MemberOutcome Subobject
+unshared_base Whole s = given s
+unshared_base (Shared v) s = refused VirtualBase
 
-abbrev pub base_in : Finding Subobject → Outcome Subobject
+abbrev pub base_in : Finding Subobject → MemberOutcome Subobject
 base_in finds_none = refused NotBase
 base_in finds_more = refused AmbiguousBase
-base_in (finds_one s) = base_at s.root s
+base_in (finds_one s) = unshared_base s.root s
 
 -- the one subobject of class k in an object of class d, which lies in no virtual base (ISO C++03 4.11)
-abbrev pub base_for : Classes → ClassId → ClassId → Outcome Subobject
+abbrev pub base_for : Classes → ClassId → ClassId → MemberOutcome Subobject
 base_for h k d = base_in (base_by h d k)
 
 -- a pointer to a member of the subobject's class, as one of the whole object
-abbrev pub joined : Subobject → MemberPointer → MemberPointer
-joined base NullData = NullData
-joined base (Data c m s) = Data c m (join base s)
-joined base NullFunction = NullFunction
-joined base (Function f s) = Function f (join base s)
+abbrev pub pointer_in_whole : Subobject → MemberPointer → MemberPointer
+pointer_in_whole base NullData = NullData
+pointer_in_whole base (Data c m s) = Data c m (join base s)
+pointer_in_whole base NullFunction = NullFunction
+pointer_in_whole base (Function f s) = Function f (join base s)
 
 -- a pointer to a member of k, as one to a member of d
-abbrev pub converted : Classes → ClassId → ClassId → MemberPointer → Outcome MemberPointer
-converted h k d v = and_then (base_for h k d) (λ base. given (joined base v))
+abbrev pub converted_pointer : Classes → ClassId → ClassId → MemberPointer → MemberOutcome MemberPointer
+converted_pointer h k d v = next_outcome (base_for h k d) (λ base. given (pointer_in_whole base v))
 
 -- the pointer to the member of a name that class k declares, as one to a member of d: the first rule that refuses it counts
-abbrev pub pointer_for : Classes → ClassId → List ℕ → ClassId → Outcome MemberPointer
-pointer_for h k name d = and_then (pointer_to h k name) (converted h k d)
+abbrev pub pointer_for : Classes → ClassId → List ℕ → ClassId → MemberOutcome MemberPointer
+pointer_for h k name d = next_outcome (pointer_to_member h k name) (converted_pointer h k d)
 
 -- the whole object
 
@@ -118,8 +118,8 @@ first_class [] = record { 0 = 0 }
 first_class (d ∷ path) = d
 
 -- the class of the whole object: the first one of the subobject's path; null has none
-abbrev pub object_of : MemberPointer → ClassId
-object_of NullData = record { 0 = 0 }
-object_of (Data c m s) = first_class s.path
-object_of NullFunction = record { 0 = 0 }
-object_of (Function f s) = first_class s.path
+abbrev pub whole_object_class : MemberPointer → ClassId
+whole_object_class NullData = record { 0 = 0 }
+whole_object_class (Data c m s) = first_class s.path
+whole_object_class NullFunction = record { 0 = 0 }
+whole_object_class (Function f s) = first_class s.path

@@ -8,9 +8,9 @@ ghost use Rattle.cxx_overrider.specs.Virtuals.{is_virtual};
 ghost use Rattle.cxx_search.specs.Searches.{final_in};
 ghost use Rattle.abi_sound.specs.Places.{Places, places_of};
 ghost use Rattle.abi_slots.specs.Slots.{AreSlots};
-ghost use Rattle.abi_memptr.specs.Pointers.{IsFunctionIn, IsPointerOf, IsRefusal, Outcome, given, pointer_for};
-ghost use Rattle.abi_memptr.specs.Answers.{answer_of, call_line, entry_of, overrider_line, pointer_text, said};
-ghost use Rattle.abi_memptr.specs.invariants.Sites.{IsSite, site_places};
+ghost use Rattle.abi_memptr.specs.Pointers.{IsFunctionIn, IsPointerOf, IsMemberRefusal, MemberOutcome, given, pointer_for};
+ghost use Rattle.abi_memptr.specs.Answers.{answer_of, call_line, virtual_entry, overrider_line, member_pointer_text, said};
+ghost use Rattle.abi_memptr.specs.invariants.Sites.{IsSite, pointer_site_places};
 
 use crate::conversions::convert;
 use crate::pointer_bytes::{data_place, entry_word};
@@ -45,7 +45,7 @@ struct Site<'a, L> {
 /// The first word of a pointer to a virtual function; None for another one.
 fn entry_of(h: &Hierarchy, overriders: &Overriders, slots: &Slots, f: FunctionId) -> Option<u64>
     requires { AreOverriders h.now overriders.now }
-    ensures { (l : Places) → AreSlots h.now l slots.now → result ≡ entry_of h.now l f }
+    ensures { (l : Places) → AreSlots h.now l slots.now → result ≡ virtual_entry h.now l f }
 {
     h.keeps();
     names_are_signatures();
@@ -67,7 +67,7 @@ fn append_overrider<L: SoundLayout>(
     requires site { IsSite L.lays_out site.now }
     requires value { IsFunctionIn site.now.h.now d f s.now }
     requires is_virtual { IsVirtual site.now.h.now f }
-    ensures { OnOk result (text.new.items ≡ text.old.items ++ overrider_line site.now.h.now (site_places L.rows site.now) d (final_in site.now.h.now (whole_of d) s.now f)) }
+    ensures { OnOk result (text.new.items ≡ text.old.items ++ overrider_line site.now.h.now (pointer_site_places L.rows site.now) d (final_in site.now.h.now (whole_of d) s.now f)) }
 {
     let h = site.h;
     h.keeps();
@@ -95,7 +95,7 @@ fn append_call<L: SoundLayout>(
 ) -> Written
     requires site { IsSite L.lays_out site.now }
     requires value { IsFunctionIn site.now.h.now d f s.now }
-    ensures { OnOk result (text.new.items ≡ text.old.items ++ call_line site.now.h.now (site_places L.rows site.now) d f s.now (is_virtual site.now.h.now f)) }
+    ensures { OnOk result (text.new.items ≡ text.old.items ++ call_line site.now.h.now (pointer_site_places L.rows site.now) d f s.now (is_virtual site.now.h.now f)) }
 {
     let h = site.h;
     h.keeps();
@@ -116,9 +116,9 @@ fn pointer_text<L: SoundLayout>(
     v: &MemberPointer,
 ) -> Result<Vec<u8>, NoMemory>
     requires site { IsSite L.lays_out site.now }
-    requires slots { AreSlots site.now.h.now (site_places L.rows site.now) slots.now }
+    requires slots { AreSlots site.now.h.now (pointer_site_places L.rows site.now) slots.now }
     requires value { IsPointerOf site.now.h.now d v.now }
-    ensures { IfOk result (λ text. text.items ≡ pointer_text site.now.h.now (site_places L.rows site.now) d v.now) }
+    ensures { IfOk result (λ text. text.items ≡ member_pointer_text site.now.h.now (pointer_site_places L.rows site.now) d v.now) }
 {
     let mut text = Vec::new(site.alloc);
     match v {
@@ -139,7 +139,7 @@ fn pointer_text<L: SoundLayout>(
 
 /// The answer of a fault; want of memory is none.
 fn refusal(fault: MemberFault) -> Result<MemberAnswer, NoMemory>
-    ensures { IfOk result (λ answer. (outcome : Outcome (List ℕ)) → IsRefusal outcome fault → said answer ≡ outcome) }
+    ensures { IfOk result (λ answer. (outcome : MemberOutcome (List ℕ)) → IsMemberRefusal outcome fault → said answer ≡ outcome) }
 {
     match fault {
         MemberFault::NoSuchMember => Ok(MemberAnswer::Refused(MemberRule::NoSuchMember)),
@@ -165,7 +165,7 @@ fn pointer_for(
     requires object { d.0 < length h.now }
     ensures ok { IfOk result (λ v. pointer_for h.now k name.now d ≡ given v) }
     ensures value { IfOk result (IsPointerOf h.now d) }
-    ensures err { IfErr result (IsRefusal (pointer_for h.now k name.now d)) }
+    ensures err { IfErr result (IsMemberRefusal (pointer_for h.now k name.now d)) }
 {
     let v = member_pointer(alloc, h, k, name)?;
     let v = convert(alloc, h, &v, k, d)?;

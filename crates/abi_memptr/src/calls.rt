@@ -3,7 +3,7 @@
 ghost use Rattle.std.specs.Prelude.{◌≡◌, ℕ, ◌-◌, ◌%◌, ◌<◌, ◌^◌, Some, pos};
 ghost use Rattle.byte_machine.specs.Running.{moved, table_word};
 ghost use Rattle.byte_machine.specs.Calls.{moved_by_word};
-ghost use Rattle.abi_memptr.specs.PointerBytes.{code_word};
+ghost use Rattle.abi_memptr.specs.PointerBytes.{even_word};
 ghost use Rattle.abi_memptr.specs.PointerCalls.{AppliesWords};
 ghost use Rattle.abi_memptr.specs.invariants.Targets.{entry_target, thunk_this};
 
@@ -84,7 +84,7 @@ fn unsigned(number: i64) -> u64
 
 /// What runs by the word of code, with `this`.
 fn code_target(word: u64, this: u64) -> Applied
-    ensures { (code : ℕ) → code < 2 ^ 32 → word ≡ code_word code → result ≡ record { code = code; this_at = this } }
+    ensures { (code : ℕ) → code < 2 ^ 32 → word ≡ even_word code → result ≡ record { code = code; this_at = this } }
 {
     Applied {
         code: low_number((word / 2).saturating_sub(1)),
@@ -95,7 +95,7 @@ fn code_target(word: u64, this: u64) -> Applied
 /// What runs by the first word of a pointer to a function, with `this`: an odd one leads to an entry, an even one names code.
 fn word_target<M: Memory>(image: &ImageBytes, memory: &M, word: u64, this: u64) -> Option<Applied>
     ensures odd { word % 2 ≡ 1 → result ≡ entry_target image.now (M.meaning memory.now) this (word - 1) }
-    ensures even { (code : ℕ) → code < 2 ^ 32 → word ≡ code_word code → result ≡ Some (record { code = code; this_at = this }) }
+    ensures even { (code : ℕ) → code < 2 ^ 32 → word ≡ even_word code → result ≡ Some (record { code = code; this_at = this }) }
 {
     if word % 2 == 1 {
         entry_target(image, memory, this, word - 1)

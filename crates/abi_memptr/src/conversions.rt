@@ -2,7 +2,7 @@
 
 ghost use Rattle.std.specs.Prelude.{◌≡◌, ◌<◌, IfOk, IfErr, length};
 ghost use Rattle.cxx_lookup.specs.UniqueBase.{IsOfClass};
-ghost use Rattle.abi_memptr.specs.Pointers.{IsPointerOf, IsRefusal, base_for, converted, given};
+ghost use Rattle.abi_memptr.specs.Pointers.{IsPointerOf, IsMemberRefusal, base_for, converted_pointer, given};
 ghost use Rattle.abi_memptr.specs.invariants.Faults.{member_fault};
 
 use crate::pointers::{MemberFault, MemberPointer};
@@ -30,7 +30,7 @@ fn base_for(alloc: Global, h: &Hierarchy, k: ClassId, d: ClassId) -> Result<Subo
     requires { d.0 < length h.now }
     ensures ok { IfOk result (λ s. base_for h.now k d ≡ given s) }
     ensures valid { IfOk result (IsOfClass h.now d k) }
-    ensures err { IfErr result (IsRefusal (base_for h.now k d)) }
+    ensures err { IfErr result (IsMemberRefusal (base_for h.now k d)) }
 {
     h.keeps();
     base_finding();
@@ -57,9 +57,9 @@ pub fn convert(
 ) -> Result<MemberPointer, MemberFault>
     requires known { d.0 < length h.now }
     requires value { IsPointerOf h.now k v.now }
-    ensures ok { IfOk result (λ w. converted h.now k d v.now ≡ given w) }
+    ensures ok { IfOk result (λ w. converted_pointer h.now k d v.now ≡ given w) }
     ensures value { IfOk result (IsPointerOf h.now d) }
-    ensures err { IfErr result (IsRefusal (converted h.now k d v.now)) }
+    ensures err { IfErr result (IsMemberRefusal (converted_pointer h.now k d v.now)) }
 {
     let base = base_for(alloc, h, k, d)?;
     match v {

@@ -6,8 +6,8 @@ ghost use Rattle.cxx_overrider.specs.Overriders.{AreOverriders};
 ghost use Rattle.cxx_overrider.specs.Virtuals.{own};
 ghost use Rattle.abi_sound.specs.Places.{Places, places_of};
 ghost use Rattle.abi_slots.specs.Slots.{AreSlots};
-ghost use Rattle.abi_memptr.specs.Pointers.{IsDataIn, IsPointerOf, first_class, object_of};
-ghost use Rattle.abi_memptr.specs.PointerBytes.{HasCode, bytes_of, code_word_of, data_place, entry_word, function_word, word_bytes};
+ghost use Rattle.abi_memptr.specs.Pointers.{IsDataIn, IsPointerOf, first_class, whole_object_class};
+ghost use Rattle.abi_memptr.specs.PointerBytes.{HasFunctionCode, member_pointer_bytes, code_word_of, data_place, entry_word, function_word, word_bytes};
 
 use crate::pointers::MemberPointer;
 use abi_slots::{BlockKind, CodeNumbers, Slots};
@@ -123,9 +123,9 @@ pub fn to_bytes<L: SoundLayout>(
     requires layout { L.lays_out layout.now h.now }
     requires overriders { AreOverriders h.now overriders.now }
     requires slots { AreSlots h.now (places_of h.now (L.rows layout.now)) slots.now }
-    requires value { IsPointerOf h.now (object_of v.now) v.now }
-    requires coded { HasCode h.now codes.now v.now }
-    ensures { IfOk result (λ bytes. bytes ≡ bytes_of h.now (places_of h.now (L.rows layout.now)) codes.now (object_of v.now) v.now) }
+    requires value { IsPointerOf h.now (whole_object_class v.now) v.now }
+    requires coded { HasFunctionCode h.now codes.now v.now }
+    ensures { IfOk result (λ bytes. bytes ≡ member_pointer_bytes h.now (places_of h.now (L.rows layout.now)) codes.now (whole_object_class v.now) v.now) }
 {
     let bytes = match v {
         MemberPointer::NullData => word_bytes(alloc, NULL_DATA)?,

@@ -4,7 +4,7 @@ ghost use Rattle.std.specs.Prelude.{◌≡◌, ◌<◌, IfOk, IfErr, length, pos
 ghost use Rattle.std.specs.Str.{bytes_eq};
 ghost use Rattle.cxx_hierarchy.specs.Classes.{width_in};
 ghost use Rattle.cxx_subobject.specs.Subobjects.{whole_of};
-ghost use Rattle.abi_memptr.specs.Pointers.{IsPointerOf, IsRefusal, given, pointer_to};
+ghost use Rattle.abi_memptr.specs.Pointers.{IsPointerOf, IsMemberRefusal, given, pointer_to_member};
 
 use cxx_hierarchy::{ClassId, Function, Hierarchy, Member};
 use cxx_overrider::FunctionId;
@@ -118,9 +118,9 @@ pub fn member_pointer(
     name: &[u8],
 ) -> Result<MemberPointer, MemberFault>
     requires known { k.0 < length h.now }
-    ensures ok { IfOk result (λ v. pointer_to h.now k name.now ≡ given v) }
+    ensures ok { IfOk result (λ v. pointer_to_member h.now k name.now ≡ given v) }
     ensures value { IfOk result (IsPointerOf h.now k) }
-    ensures err { IfErr result (IsRefusal (pointer_to h.now k name.now)) }
+    ensures err { IfErr result (IsMemberRefusal (pointer_to_member h.now k name.now)) }
 {
     h.keeps();
     let class = h.class(k);

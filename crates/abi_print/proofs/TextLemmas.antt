@@ -15,7 +15,7 @@ use Rattle.abi_slots.specs.declared.words.GroupName.{GroupName}
 use Rattle.abi_slots.specs.declared.words.VttWord.{VttWord}
 use Rattle.abi_slots.specs.declared.words.TableWord.{TableWord}
 use Rattle.abi_print.specs.Texts.{PlaceOf}
-use Rattle.abi_print.specs.TableTexts.{group_of, group_name, tables_in, table_in, target_text, targets_text, word_text, words_text}
+use Rattle.abi_print.specs.TableTexts.{group_of, group_title, tables_in, table_in, target_text, targets_text, word_text, words_text}
 
 -- names of one view and one complete object are one
 pub same_name : (one other : GroupName) → one.complete.0 ≡ other.complete.0 → same_subobject one.view other.view ≡ true → one ≡ other
@@ -68,7 +68,7 @@ words_more h words i d number next text new whole lt all grown step =
 pub targets_more : (h : Classes) (place : PlaceOf) (groups : List Group) (words : List VttWord) (i : ℕ) (word : VttWord) (number group : ℕ) (name text new whole : List ℕ) → i < length words → word ≡ get_or words i word
     → text ++ targets_text h place groups number (drop i words) ≡ whole
     → new ≡ text ++ decimal number ++ codes " " ++ (table_in h (slice_get (tables_in (slice_get groups group)) word.table) ++ codes " of " ++ name) ++ codes "\n"
-    → slice_get groups group ≡ group_of groups word → name ≡ group_name h place word.group
+    → slice_get groups group ≡ group_of groups word → name ≡ group_title h place word.group
     → new ++ targets_text h place groups (number + 1) (drop (i + 1) words) ≡ whole
 targets_more h place groups words i word number group name text new whole lt is all grown found named =
     let line : List ℕ → List ℕ = λ target. text ++ decimal number ++ codes " " ++ target ++ codes "\n" in

@@ -19,28 +19,28 @@ use Rattle.cxx_subobject.specs.Preorder.{preorder}
 use Rattle.abi_primary.specs.declared.Primary.{Primary}
 use Rattle.abi_primary.specs.declared.Primary.TheVariants.{None as NoPrimary, Direct, Virtual}
 use Rattle.abi_sound.specs.declared.class_layout.ClassLayout.{ClassLayout}
-use Rattle.abi_sound.specs.Places.{number_in, members_in, first_bit}
+use Rattle.abi_sound.specs.Places.{place_or_zero, member_places_in, first_bit}
 
-abbrev pub name_in : Option Class → List ℕ
-name_in None = []
-name_in (Some class) = class.name
+abbrev pub name_in_class : Option Class → List ℕ
+name_in_class None = []
+name_in_class (Some class) = class.name
 
 -- the name of a class
-abbrev pub name_of : Classes → ClassId → List ℕ
-name_of h c = name_in (class_at h c)
+abbrev pub declared_class_name : Classes → ClassId → List ℕ
+declared_class_name h c = name_in_class (class_at h c)
 
 -- the names of classes, each behind a slash
 abbrev pub slashed : Classes → List ClassId → List ℕ
-slashed h path = flat_map (λ (c : ClassId). 47 ∷ name_of h c) path
+slashed h path = flat_map (λ (c : ClassId). 47 ∷ declared_class_name h c) path
 
 -- the names of classes with slashes between
-abbrev pub joined : Classes → List ClassId → List ℕ
-joined h [] = []
-joined h (c ∷ path) = name_of h c ++ slashed h path
+abbrev pub slashed_names : Classes → List ClassId → List ℕ
+slashed_names h [] = []
+slashed_names h (c ∷ path) = declared_class_name h c ++ slashed h path
 
 abbrev pub path_text : Classes → Root → List ClassId → List ℕ
-path_text h Whole path = joined h (tail_of path)
-path_text h (Shared v) path = 42 ∷ joined h path
+path_text h Whole path = slashed_names h (tail_of path)
+path_text h (Shared v) path = 42 ∷ slashed_names h path
 
 -- a subobject: the names of its path below the whole, or `*` and those from its virtual base on
 abbrev pub subobject_text : Classes → Subobject → List ℕ
@@ -60,14 +60,14 @@ scalar_text ULong = codes "unsigned long"
 scalar_text LongLong = codes "long long"
 scalar_text ULongLong = codes "unsigned long long"
 
-abbrev pub value_text : Classes → ValueType ClassId → List ℕ
-value_text h (Number t) = scalar_text t
-value_text h (Pointer c) = name_of h c ++ codes "*"
+abbrev pub value_type_text : Classes → ValueType ClassId → List ℕ
+value_type_text h (Number t) = scalar_text t
+value_type_text h (Pointer c) = declared_class_name h c ++ codes "*"
 
 -- a type as a member of it is written
 abbrev pub type_text : Classes → FieldType ClassId → List ℕ
-type_text h (Value t) = value_text h t
-type_text h (Object d) = name_of h d
+type_text h (Value t) = value_type_text h t
+type_text h (Object d) = declared_class_name h d
 
 -- the first bit of a bit-field in the byte at its place, and its width
 abbrev pub bits_text : ℕ → ℕ → List ℕ
@@ -84,13 +84,13 @@ length_text (Some n) = codes "[" ++ decimal n ++ codes "]"
 
 abbrev pub primary_text : Classes → Primary → List ℕ
 primary_text h NoPrimary = codes "none"
-primary_text h (Direct b) = name_of h b
-primary_text h (Virtual v) = codes "virtual " ++ name_of h v
+primary_text h (Direct b) = declared_class_name h b
+primary_text h (Virtual v) = codes "virtual " ++ declared_class_name h v
 
 -- the class, its numbers, and its primary base
 abbrev pub class_text : Classes → ClassId → ClassLayout → List ℕ
 class_text h c row =
-    codes "class " ++ name_of h c ++ codes " size " ++ decimal row.size ++ codes " align " ++ decimal row.align
+    codes "class " ++ declared_class_name h c ++ codes " size " ++ decimal row.size ++ codes " align " ++ decimal row.align
     ++ codes " dsize " ++ decimal row.dsize ++ codes " nvsize " ++ decimal row.nvsize ++ codes " nvalign " ++ decimal row.nvalign
     ++ codes "\nprimary " ++ primary_text h row.primary ++ codes "\n"
 
@@ -110,13 +110,13 @@ abbrev pub field_in : Classes → ℕ → ℕ → Option (Member ClassId) → Li
 field_in h place first None = []
 field_in h place first (Some member) = field_text h place first member
 
-abbrev pub member_place : List ClassLayout → ClassId → ℕ → ℕ
-member_place rows c n = number_in (slice_get (members_in (slice_get rows c.0)) n)
+abbrev pub printed_member_place : List ClassLayout → ClassId → ℕ → ℕ
+printed_member_place rows c n = place_or_zero (slice_get (member_places_in (slice_get rows c.0)) n)
 
 -- the first members, as many as are asked for
 abbrev pub fields_text : Classes → List ClassLayout → ClassId → ℕ → List ℕ
 fields_text h rows c zero = []
-fields_text h rows c (suc n) = fields_text h rows c n ++ field_in h (member_place rows c n) (first_bit rows c n) (slice_get (members_of h c) n)
+fields_text h rows c (suc n) = fields_text h rows c n ++ field_in h (printed_member_place rows c n) (first_bit rows c n) (slice_get (members_of h c) n)
 
 -- all but the whole, which stands first
 abbrev pub proper : List Subobject → List Subobject

@@ -26,7 +26,7 @@ use Rattle.abi_slots.specs.declared.words.VttWord.{VttWord}
 use Rattle.abi_slots.specs.declared.words.InfoBase.{InfoBase}
 use Rattle.abi_slots.specs.declared.words.TypeInfo.{TypeInfo}
 use Rattle.abi_slots.specs.declared.words.TypeInfo.TheVariants.{Plain as NoBases, Single, Many}
-use Rattle.abi_print.specs.LayoutTexts.{name_of}
+use Rattle.abi_print.specs.LayoutTexts.{declared_class_name}
 use Rattle.abi_print.specs.Texts.{PlaceOf}
 
 -- the view of a group is a subobject of a class of the hierarchy
@@ -42,7 +42,7 @@ name_behind class None = 126 ∷ class
 
 -- a function behind its class, and a destructor as `C::~C`
 abbrev pub function_text : Classes → FunctionId → List ℕ
-function_text h f = name_of h f.class ++ codes "::" ++ name_behind (name_of h f.class) (declaration_of h f)
+function_text h f = declared_class_name h f.class ++ codes "::" ++ name_behind (declared_class_name h f.class) (declaration_of h f)
 
 -- words
 
@@ -74,9 +74,9 @@ entry_text h (Code f kind this result) = kind_text kind ++ function_text h f ++ 
 
 abbrev pub word_text : Classes → TableWord → List ℕ
 word_text h (Vcall distance f) = codes "vcall " ++ signed_decimal distance ++ codes " " ++ function_text h f
-word_text h (Vbase distance v) = codes "vbase " ++ signed_decimal distance ++ codes " " ++ name_of h v
+word_text h (Vbase distance v) = codes "vbase " ++ signed_decimal distance ++ codes " " ++ declared_class_name h v
 word_text h (Top distance) = codes "top " ++ signed_decimal distance
-word_text h (Info c) = codes "typeinfo " ++ name_of h c
+word_text h (Info c) = codes "typeinfo " ++ declared_class_name h c
 word_text h (Entry word) = entry_text h word
 
 -- the words of a table behind their numbers, which count from the address point; the first has this number
@@ -88,30 +88,30 @@ words_text h number (word ∷ words) = signed_decimal number ++ codes " " ++ wor
 
 -- a table: the class of its subobject, and that subobject's place in the complete object
 abbrev pub table_name : Classes → Table → List ℕ
-table_name h table = name_of h table.class ++ codes "@" ++ decimal table.place
+table_name h table = declared_class_name h table.class ++ codes "@" ++ decimal table.place
 
 abbrev pub table_text : Classes → Table → List ℕ
 table_text h table = codes "table " ++ table_name h table ++ codes "\n" ++ words_text h (pos 0 -ℤ pos table.before) table.words
 
-abbrev pub name_in : Classes → Option ClassId → List ℕ
-name_in h None = []
-name_in h (Some c) = name_of h c
+abbrev pub optional_class_name : Classes → Option ClassId → List ℕ
+optional_class_name h None = []
+optional_class_name h (Some c) = declared_class_name h c
 
 abbrev pub view_text : Classes → PlaceOf → ClassId → Subobject → List ℕ
-view_text h place c x = name_in h (class_of x) ++ codes "@" ++ decimal (place c x) ++ codes " in " ++ name_of h c
+view_text h place c x = optional_class_name h (class_of x) ++ codes "@" ++ decimal (place c x) ++ codes " in " ++ declared_class_name h c
 
 abbrev pub name_by : Classes → PlaceOf → ClassId → Root → List ClassId → List ℕ
-name_by h place c Whole (d ∷ []) = name_of h c
+name_by h place c Whole (d ∷ []) = declared_class_name h c
 name_by h place c Whole [] = view_text h place c (record { root = Whole; path = [] })
 name_by h place c Whole (d ∷ e ∷ path) = view_text h place c (record { root = Whole; path = d ∷ e ∷ path })
 name_by h place c (Shared v) path = view_text h place c (record { root = Shared v; path = path })
 
 -- a group: the class of the complete object alone where its whole is the view, else the view's class and place before it
-abbrev pub group_name : Classes → PlaceOf → GroupName → List ℕ
-group_name h place name = name_by h place name.complete name.view.root name.view.path
+abbrev pub group_title : Classes → PlaceOf → GroupName → List ℕ
+group_title h place name = name_by h place name.complete name.view.root name.view.path
 
 abbrev pub group_text : Classes → PlaceOf → Group → List ℕ
-group_text h place group = codes "group " ++ group_name h place group.name ++ codes "\n" ++ flat_map (table_text h) group.tables
+group_text h place group = codes "group " ++ group_title h place group.name ++ codes "\n" ++ flat_map (table_text h) group.tables
 
 -- the VTT
 
@@ -129,7 +129,7 @@ table_in h (Some table) = table_name h table
 
 -- the table to which a word of the VTT points, and its group
 abbrev pub target_text : Classes → PlaceOf → List Group → VttWord → List ℕ
-target_text h place groups word = table_in h (slice_get (tables_in (group_of groups word)) word.table) ++ codes " of " ++ group_name h place word.group
+target_text h place groups word = table_in h (slice_get (tables_in (group_of groups word)) word.table) ++ codes " of " ++ group_title h place word.group
 
 -- the words of the VTT behind their numbers, of which the first is this
 abbrev pub targets_text : Classes → PlaceOf → List Group → ℕ → List VttWord → List ℕ
@@ -139,20 +139,20 @@ targets_text h place groups number (word ∷ words) = decimal number ++ codes " 
 -- the VTT of a class, and nothing where it has none
 abbrev pub vtt_text : Classes → PlaceOf → ClassId → List Group → List VttWord → List ℕ
 vtt_text h place c groups [] = []
-vtt_text h place c groups (word ∷ words) = codes "vtt " ++ name_of h c ++ codes " " ++ decimal (length (word ∷ words)) ++ codes "\n" ++ targets_text h place groups 0 (word ∷ words)
+vtt_text h place c groups (word ∷ words) = codes "vtt " ++ declared_class_name h c ++ codes " " ++ decimal (length (word ∷ words)) ++ codes "\n" ++ targets_text h place groups 0 (word ∷ words)
 
 -- type information
 
 abbrev pub base_text : Classes → InfoBase → List ℕ
-base_text h base = codes "base " ++ name_of h base.class ++ codes " " ++ signed_decimal base.offset_flags ++ codes "\n"
+base_text h base = codes "base " ++ declared_class_name h base.class ++ codes " " ++ signed_decimal base.offset_flags ++ codes "\n"
 
 abbrev pub info_text : Classes → TypeInfo → List ℕ
 info_text h NoBases = codes " class\n"
-info_text h (Single base) = codes " si " ++ name_of h base ++ codes "\n"
+info_text h (Single base) = codes " si " ++ declared_class_name h base ++ codes "\n"
 info_text h (Many flags bases) = codes " vmi flags " ++ decimal flags ++ codes " bases " ++ decimal (length bases) ++ codes "\n" ++ flat_map (base_text h) bases
 
 abbrev pub class_info_text : Classes → ClassId → TypeInfo → List ℕ
-class_info_text h c info = codes "typeinfo " ++ name_of h c ++ info_text h info
+class_info_text h c info = codes "typeinfo " ++ declared_class_name h c ++ info_text h info
 
 -- all together
 

@@ -6,7 +6,7 @@ ghost use Rattle.cxx_hierarchy.specs.declared.records.ClassId.{ClassId};
 ghost use Rattle.cxx_subobject.specs.declared.Subobject.{Subobject};
 ghost use Rattle.cxx_subobject.specs.Subobjects.{IsSubobject};
 ghost use Rattle.cxx_hierarchy.specs.Classes.{members_of};
-ghost use Rattle.abi_sound.specs.Places.{first_in, number_in, places_of};
+ghost use Rattle.abi_sound.specs.Places.{first_bit_in, place_or_zero, places_of};
 ghost use Rattle.abi_print.specs.LayoutTexts.{type_text, kind_text, length_text, primary_text, class_text, base_text, field_text, fields_text, proper, listed_text, layout_text};
 ghost use Rattle.abi_print.specs.invariants.Writers.{written_place};
 
@@ -157,7 +157,7 @@ fn append_field<L>(
 
 /// The place of a number, 0 past the last one.
 fn place_of(places: &[u32], n: usize) -> u32
-    ensures { result ≡ number_in (slice_get places.now n) }
+    ensures { result ≡ place_or_zero (slice_get places.now n) }
 {
     match places.get(n) {
         Some(place) => *place,
@@ -167,7 +167,7 @@ fn place_of(places: &[u32], n: usize) -> u32
 
 /// The first bit of the member of a number, 0 past the last one.
 fn first_bit_of(bits: &[Bits], n: usize) -> u8
-    ensures { result ≡ first_in (slice_get bits.now n) }
+    ensures { result ≡ first_bit_in (slice_get bits.now n) }
 {
     match bits.get(n) {
         Some(bits) => bits.first,

@@ -7,8 +7,8 @@ ghost use Rattle.cxx_subobject.specs.Subobjects.{IsSubobject};
 ghost use Rattle.abi_slots.specs.declared.words.Group.{Group};
 ghost use Rattle.abi_slots.specs.declared.words.VttWord.{VttWord};
 ghost use Rattle.abi_sound.specs.Places.{places_of};
-ghost use Rattle.abi_print.specs.invariants.Wholes.{is_whole};
-ghost use Rattle.abi_print.specs.TableTexts.{IsViewName, table_text, view_text, group_name, group_text, group_of, tables_in, table_in, targets_text, vtt_text, base_text, info_text, class_info_text, groups_text, tables_text};
+ghost use Rattle.abi_print.specs.invariants.Wholes.{is_whole_view};
+ghost use Rattle.abi_print.specs.TableTexts.{IsViewName, table_text, view_text, group_title, group_text, group_of, tables_in, table_in, targets_text, vtt_text, base_text, info_text, class_info_text, groups_text, tables_text};
 ghost use Rattle.abi_print.specs.invariants.Writers.{written_place};
 
 use crate::text::{append, append_class, append_number};
@@ -64,7 +64,7 @@ fn append_view<L: SoundLayout>(
 
 /// Whether a subobject is the whole.
 fn is_whole(s: &Subobject) -> bool
-    ensures { result ≡ is_whole s.now }
+    ensures { result ≡ is_whole_view s.now }
 {
     match s.root {
         Root::Whole => s.path.len() == 1,
@@ -76,7 +76,7 @@ fn is_whole(s: &Subobject) -> bool
 fn append_group_name<L: SoundLayout>(w: &Writer<L>, text: &mut Vec<u8>, name: &GroupName) -> Written
     requires layout { L.lays_out w.now.layout.now w.now.h.now }
     requires view { IsViewName w.now.h.now name.now }
-    ensures { OnOk result (text.new.items ≡ text.old.items ++ group_name w.now.h.now (written_place L.rows w.now) name.now) }
+    ensures { OnOk result (text.new.items ≡ text.old.items ++ group_title w.now.h.now (written_place L.rows w.now) name.now) }
 {
     if is_whole(&name.view) {
         append_class(text, w.h, name.complete)?;
@@ -145,7 +145,7 @@ fn word_group<L: SoundLayout>(
     requires layout { L.lays_out w.now.layout.now w.now.h.now }
     requires view { IsViewName w.now.h.now word.now.group }
     ensures number { IfOk result (λ group. slice_get groups.now group.number ≡ group_of groups.now word.now) }
-    ensures name { IfOk result (λ group. group.name.items ≡ group_name w.now.h.now (written_place L.rows w.now) word.now.group) }
+    ensures name { IfOk result (λ group. group.name.items ≡ group_title w.now.h.now (written_place L.rows w.now) word.now.group) }
 {
     let mut name = Vec::new(w.alloc);
     append_group_name(w, &mut name, &word.group)?;
@@ -164,9 +164,9 @@ fn next_group<L: SoundLayout>(
     requires layout { L.lays_out w.now.layout.now w.now.h.now }
     requires view { IsViewName w.now.h.now word.now.group }
     requires number { slice_get groups.now known.number ≡ group_of groups.now before.now }
-    requires name { known.name.items ≡ group_name w.now.h.now (written_place L.rows w.now) before.now.group }
+    requires name { known.name.items ≡ group_title w.now.h.now (written_place L.rows w.now) before.now.group }
     ensures number { IfOk result (λ group. slice_get groups.now group.number ≡ group_of groups.now word.now) }
-    ensures name { IfOk result (λ group. group.name.items ≡ group_name w.now.h.now (written_place L.rows w.now) word.now.group) }
+    ensures name { IfOk result (λ group. group.name.items ≡ group_title w.now.h.now (written_place L.rows w.now) word.now.group) }
 {
     if is_same_name(&before.group, &word.group) {
         return Ok(known);

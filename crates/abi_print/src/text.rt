@@ -5,7 +5,7 @@ ghost use Rattle.std.specs.Fmt.{decimal};
 ghost use Rattle.std.specs.Option.{option_copied};
 ghost use Rattle.cxx_overrider.specs.Functions.{declaration_of};
 ghost use Rattle.cxx_subobject.specs.Subobjects.{tail_of};
-ghost use Rattle.abi_print.specs.LayoutTexts.{bits_text, name_of, slashed, joined, subobject_text, scalar_text, value_text};
+ghost use Rattle.abi_print.specs.LayoutTexts.{bits_text, declared_class_name, slashed, slashed_names, subobject_text, scalar_text, value_type_text};
 ghost use Rattle.abi_print.specs.TableTexts.{name_behind, function_text};
 
 use cxx_hierarchy::{ClassId, Function, Hierarchy, Scalar, ValueType};
@@ -45,7 +45,7 @@ pub fn append_bits(alloc: Global, text: &mut Vec<u8>, first: u8, width: u32) -> 
 
 /// Puts the name of a class at the end of a text, and nothing where there is no such class. Errors: want of memory.
 pub fn append_class(text: &mut Vec<u8>, h: &Hierarchy, c: ClassId) -> Result<(), NoMemory>
-    ensures { OnOk result (text.new.items ≡ text.old.items ++ name_of h.now c) }
+    ensures { OnOk result (text.new.items ≡ text.old.items ++ declared_class_name h.now c) }
 {
     if c.0 >= h.len() {
         return Ok(());
@@ -67,7 +67,7 @@ fn append_slashed(text: &mut Vec<u8>, h: &Hierarchy, path: &[ClassId]) -> Result
 
 /// Puts the names of classes at the end, with slashes between.
 fn append_path(text: &mut Vec<u8>, h: &Hierarchy, path: &[ClassId]) -> Result<(), NoMemory>
-    ensures { OnOk result (text.new.items ≡ text.old.items ++ joined h.now path.now) }
+    ensures { OnOk result (text.new.items ≡ text.old.items ++ slashed_names h.now path.now) }
 {
     match path {
         [] => Ok(()),
@@ -128,7 +128,7 @@ pub fn append_value_type(
     h: &Hierarchy,
     ty: &ValueType<ClassId>,
 ) -> Result<(), NoMemory>
-    ensures { OnOk result (text.new.items ≡ text.old.items ++ value_text h.now ty.now) }
+    ensures { OnOk result (text.new.items ≡ text.old.items ++ value_type_text h.now ty.now) }
 {
     match ty {
         ValueType::Number(scalar) => append(text, scalar_text(*scalar))?,
@@ -152,7 +152,7 @@ fn declared<'a>(h: &'a Hierarchy, f: FunctionId) -> Option<&'a Function<ClassId>
 
 /// Puts the name of a function at the end of a text, and `~C` for the destructor of a class C.
 fn append_member_name(text: &mut Vec<u8>, h: &Hierarchy, f: FunctionId) -> Result<(), NoMemory>
-    ensures { OnOk result (text.new.items ≡ text.old.items ++ name_behind (name_of h.now f.class) (declaration_of h.now f)) }
+    ensures { OnOk result (text.new.items ≡ text.old.items ++ name_behind (declared_class_name h.now f.class) (declaration_of h.now f)) }
 {
     match declared(h, f) {
         Some(function) => append(text, function.name.as_slice())?,

@@ -23,21 +23,21 @@ use Rattle.cxx_program.specs.declared.statement.TypedRight.TheVariants.{Operand,
 use Rattle.cxx_program.specs.declared.statement.TypedStatement.{TypedStatement}
 use Rattle.foundation.proofs.Members.{Has}
 use Rattle.path_rules.specs.declared.Undefined.{Undefined}
-use Rattle.path_plan.specs.Phases.{Event, Begin, Ready, Init, Body, Done, Ending, Bases, End}
+use Rattle.path_plan.specs.Phases.{PartEvent, Begin, Ready, Init, Body, Done, Ending, Bases, End}
 use Rattle.path_model.specs.declared.outs.DumpLeaf.{DumpLeaf}
 use Rattle.path_model.specs.declared.outs.Out.{Out}
 use Rattle.path_model.specs.declared.outs.Out.TheVariants.{Number as NumberOut, Pointer as PointerOut, TypeName as TypeNameOut, Dump as DumpOut, Call as CallOut, Built as BuiltOut, Ending as EndingOut}
-use Rattle.path_model.specs.Values.{Value, Unset, Number, Null, Pointer, Objects, Sight, value, argument_value}
-use Rattle.path_model.specs.Uses.{receiver}
-use Rattle.path_model.specs.Rules.{refusal, closing_refusal}
-use Rattle.path_model.specs.States.{at_statement, Target, State, Running, Planned, Frame, InBody, InPlan, body_of, sight, wanted, with_frames, with_objects}
-use Rattle.path_model.specs.Effects.{Next, Goes, Refuses, Ends, Wrong, runs, body_entered, function_entered, called_at, called, taker, taken, declared, written, copied_at, object_ended, deleted, going, branched, block_at, result_given, left_by, returned_value, value_out, view_out, type_out, dump_out, telling, kind_effect, effect}
-use Rattle.path_model.specs.Steps.{body_owner, class_of_part, body_opened, plan_left, resumed, objects_after, event_outs, event_step, unless, constructor_closed, closed, before_kind, statement_step, in_body, body_step, frame_step, step}
+use Rattle.path_model.specs.Values.{Value, Unset, Number, Null, Pointer, Objects, Sight, value_of_operand, argument_value}
+use Rattle.path_model.specs.Uses.{receiver_value}
+use Rattle.path_model.specs.Rules.{statement_refusal, closing_refusal}
+use Rattle.path_model.specs.States.{at_statement, Target, ProgramState, RunningBody, Planned, Frame, InBody, InPlan, owned_body, sight, wanted_result, with_frames, with_objects}
+use Rattle.path_model.specs.Effects.{Next, Goes, Refuses, Ends, Wrong, runs, body_entered, function_entered, called_at, called, taker, taken, local_declared, written, copied_at, object_ended, deleted, going_on_at, branched, block_at, result_given, left_by, returned_value, value_out, view_out, type_out, dump_out, telling, kind_effect, effect}
+use Rattle.path_model.specs.Steps.{body_owner, class_of_part, body_opened, plan_left, resumed, objects_after, event_outs, event_step, unless, constructor_closed, body_closed, before_kind, step_of_statement, next_in_body, body_step, frame_step, step}
 use Rattle.path_model.specs.Runs.{Moves, limit_at, within, move_by, move}
 
 -- a body is on top of the frames
 pub record HasBody (frames : List Frame) : Type 0 where
-  pub body : Running
+  pub body : RunningBody
   pub below : List Frame
   pub is : frames ≡ InBody body ∷ below
 
@@ -69,31 +69,31 @@ other_told : (frames : List Frame) (out : Out) → IsNoDump out → Tops frames 
 other_told frames out other number c leaves has = ⊎_elim (λ same. absurd (subst (λ (x : Out). IsNoDump x) same other)) (λ more. absurd more) has
 
 -- a body is on top, whatever is told
-top_told : (s : State) (o : Option Out) → HasBody s.frames → IsTopped (telling s o)
+top_told : (s : ProgramState) (o : Option Out) → HasBody s.frames → IsTopped (telling s o)
 top_told s None top = tt
 top_told s (Some out) top = λ number c leaves has. top
 
 -- statements
 
 module _ (h : Classes) (program : TypedProgram) where
-  entered_told : (s : State) (values : List Value) (call : TypedCall) (target : Option Target) (run : ObjectPart × FunctionId) (o : Option TypedBody) → IsTopped (body_entered h s values call target run o)
+  entered_told : (s : ProgramState) (values : List Value) (call : TypedCall) (target : Option Target) (run : ObjectPart × FunctionId) (o : Option TypedBody) → IsTopped (body_entered h s values call target run o)
   entered_told s values call target run None = tt
   entered_told s values call target run (Some body) = other_told _ _ tt
 
-  function_told : (s : State) (values : List Value) (call : TypedCall) (target : Option Target) (o : Option (ObjectPart × FunctionId)) → IsTopped (function_entered h program s values call target o)
+  function_told : (s : ProgramState) (values : List Value) (call : TypedCall) (target : Option Target) (o : Option (ObjectPart × FunctionId)) → IsTopped (function_entered h program s values call target o)
   function_told s values call target None = tt
-  function_told s values call target (Some run) = entered_told s values call target run (body_of program (Function run.1))
+  function_told s values call target (Some run) = entered_told s values call target run (owned_body program (Function run.1))
 
-  called_told : (s : State) (values : List Value) (call : TypedCall) (target : Option Target) (v : Value) → IsTopped (called_at h program s values call target v)
+  called_told : (s : ProgramState) (values : List Value) (call : TypedCall) (target : Option Target) (v : Value) → IsTopped (called_at h program s values call target v)
   called_told s values call target Unset = tt
   called_told s values call target (Number z) = tt
   called_told s values call target Null = tt
   called_told s values call target (Pointer p) = function_told s values call target (runs h s.objects call p)
 
-  call_told : (see : Sight) (s : State) (call : TypedCall) (target : Option Target) → IsTopped (called h program see s call target)
-  call_told see s call target = called_told s (map (argument_value see) call.arguments) call target (receiver see call)
+  call_told : (see : Sight) (s : ProgramState) (call : TypedCall) (target : Option Target) → IsTopped (called h program see s call target)
+  call_told see s call target = called_told s (map (argument_value see) call.arguments) call target (receiver_value see call)
 
-  taken_told : (see : Sight) (s : State) (variable : Variable) (right : TypedRight) (c : Conversion) → IsTopped (taken h program see s variable right c)
+  taken_told : (see : Sight) (s : ProgramState) (variable : Variable) (right : TypedRight) (c : Conversion) → IsTopped (taken h program see s variable right c)
   taken_told see s variable (Operand x) c = nothing_dumped _
   taken_told see s variable (Arithmetic op t x y) c = nothing_dumped _
   taken_told see s variable (SamePointer differ a b) c = nothing_dumped _
@@ -105,17 +105,17 @@ module _ (h : Classes) (program : TypedProgram) where
   taken_told see s variable (Cast cast x) c = nothing_dumped _
   taken_told see s variable (TypeEqual x d) c = nothing_dumped _
 
-  declared_told : (see : Sight) (s : State) (n : ℕ) (o : Option Converted) → IsTopped (declared h program see s n o)
+  declared_told : (see : Sight) (s : ProgramState) (n : ℕ) (o : Option Converted) → IsTopped (local_declared h program see s n o)
   declared_told see s n None = nothing_dumped _
   declared_told see s n (Some x) = taken_told see s (Local n) x.right x.conversion
 
-  written_told : (s : State) (place : TypedPlace) (new v : Value) → IsTopped (written s place new v)
+  written_told : (s : ProgramState) (place : TypedPlace) (new v : Value) → IsTopped (written s place new v)
   written_told s place new Unset = tt
   written_told s place new (Number z) = tt
   written_told s place new Null = tt
   written_told s place new (Pointer p) = nothing_dumped _
 
-  copied_told : (s : State) (c : ClassId) (to from : Value) → IsTopped (copied_at h s c to from)
+  copied_told : (s : ProgramState) (c : ClassId) (to from : Value) → IsTopped (copied_at h s c to from)
   copied_told s c Unset from = tt
   copied_told s c (Number z) from = tt
   copied_told s c Null from = tt
@@ -124,50 +124,50 @@ module _ (h : Classes) (program : TypedProgram) where
   copied_told s c (Pointer to) Null = tt
   copied_told s c (Pointer to) (Pointer from) = nothing_dumped _
 
-  ended_told : (s : State) (k : ℕ) (o : Option ClassId) → IsTopped (object_ended h program s k o)
+  ended_told : (s : ProgramState) (k : ℕ) (o : Option ClassId) → IsTopped (object_ended h program s k o)
   ended_told s k None = tt
   ended_told s k (Some c) = nothing_dumped _
 
-  deleted_told : (s : State) (v : Value) → IsTopped (deleted h program s v)
+  deleted_told : (s : ProgramState) (v : Value) → IsTopped (deleted h program s v)
   deleted_told s Unset = tt
   deleted_told s (Number z) = tt
   deleted_told s Null = nothing_dumped _
   deleted_told s (Pointer p) = ended_told s p.object (slice_get s.objects.classes p.object)
 
-  branched_told : (s : State) (v : Value) (yes_at no_at : ℕ) → IsTopped (branched s v yes_at no_at)
+  branched_told : (s : ProgramState) (v : Value) (yes_at no_at : ℕ) → IsTopped (branched s v yes_at no_at)
   branched_told s Unset yes_at no_at = tt
   branched_told s (Number z) yes_at no_at = nothing_dumped _
   branched_told s Null yes_at no_at = tt
   branched_told s (Pointer p) yes_at no_at = tt
 
-  left_told : (owner : Owner) (s : State) → IsTopped (left_by owner s)
+  left_told : (owner : Owner) (s : ProgramState) → IsTopped (left_by owner s)
   left_told Main s = tt
   left_told (Function g) s = nothing_dumped _
   left_told (Constructor c) s = tt
   left_told (Destructor c) s = tt
 
-  kind_told : (see : Sight) (on : State) (f : Running) (below : List Frame) (n next : ℕ) (kind : TypedKind) → HasBody on.frames → IsTopped (kind_effect h program see on f below n next kind)
+  kind_told : (see : Sight) (on : ProgramState) (f : RunningBody) (below : List Frame) (n next : ℕ) (kind : TypedKind) → HasBody on.frames → IsTopped (kind_effect h program see on f below n next kind)
   kind_told see on f below n next (Declare m x) top = declared_told see on m x
   kind_told see on f below n next (Assign variable x) top = taken_told see on variable x.right x.conversion
-  kind_told see on f below n next (Write place x) top = written_told on place (argument_value see x) (value see place.pointer)
-  kind_told see on f below n next (Copy to from c) top = copied_told on c (value see to) (value see from)
+  kind_told see on f below n next (Write place x) top = written_told on place (argument_value see x) (value_of_operand see place.pointer)
+  kind_told see on f below n next (Copy to from c) top = copied_told on c (value_of_operand see to) (value_of_operand see from)
   kind_told see on f below n next (Call call) top = call_told see on call None
-  kind_told see on f below n next (Delete x c) top = deleted_told on (value see x)
-  kind_told see on f below n next (If x other behind) top = branched_told on (value see x) (block_at (n + 1) other next) (block_at other behind next)
-  kind_told see on f below n next (While x behind) top = branched_told on (value see x) (block_at (n + 1) behind n) next
+  kind_told see on f below n next (Delete x c) top = deleted_told on (value_of_operand see x)
+  kind_told see on f below n next (If x other behind) top = branched_told on (value_of_operand see x) (block_at (n + 1) other next) (block_at other behind next)
+  kind_told see on f below n next (While x behind) top = branched_told on (value_of_operand see x) (block_at (n + 1) behind n) next
   kind_told see on f below n next (Return x) top = left_told f.owner (result_given (with_frames on below) f.found f.target (returned_value see x))
-  kind_told see on f below n next (Print x) top = top_told on (value_out on.objects (value see x)) top
-  kind_told see on f below n next (PrintType x c) top = top_told on (type_out h on.objects (value see x)) top
-  kind_told see on f below n next (PrintView x c) top = top_told on (view_out h on.objects (value see x)) top
-  kind_told see on f below n next (Dump x c) top = top_told on (dump_out h on.objects (value see x)) top
+  kind_told see on f below n next (Print x) top = top_told on (value_out on.objects (value_of_operand see x)) top
+  kind_told see on f below n next (PrintType x c) top = top_told on (type_out h on.objects (value_of_operand see x)) top
+  kind_told see on f below n next (PrintView x c) top = top_told on (view_out h on.objects (value_of_operand see x)) top
+  kind_told see on f below n next (Dump x c) top = top_told on (dump_out h on.objects (value_of_operand see x)) top
 
   unless_told : (o : Option Undefined) (line : ℕ) (next : Next) → (o ≡ None → IsTopped next) → IsTopped (unless o line next)
   unless_told None line next told = told refl
   unless_told (Some rule) line next told = tt
 
-  statement_told : (s : State) (f : Running) (below : List Frame) (n : ℕ) (statement : TypedStatement) → IsTopped (statement_step h program s f below n statement)
-  statement_told s f below n statement = unless_told (refusal h (sight s f) (wanted f) statement.kind) statement.line (effect h program (with_frames s (InBody f ∷ below)) f below n statement)
-      (λ none. kind_told (sight s f) (going (with_frames s (InBody f ∷ below)) statement.next) f below n statement.next statement.kind (record { body = at_statement f statement.next; below = below; is = refl }))
+  statement_told : (s : ProgramState) (f : RunningBody) (below : List Frame) (n : ℕ) (statement : TypedStatement) → IsTopped (step_of_statement h program s f below n statement)
+  statement_told s f below n statement = unless_told (statement_refusal h (sight s f) (wanted_result f) statement.kind) statement.line (effect h program (with_frames s (InBody f ∷ below)) f below n statement)
+      (λ none. kind_told (sight s f) (going_on_at (with_frames s (InBody f ∷ below)) statement.next) f below n statement.next statement.kind (record { body = at_statement f statement.next; below = below; is = refl }))
 
   -- events of plans
 
@@ -175,22 +175,22 @@ module _ (h : Classes) (program : TypedProgram) where
   abbrev AreNoDumps : List Out → Type 0
   AreNoDumps outs = (frames : List Frame) → Tops frames outs
 
-  body_told : (s : State) (p : ObjectPart) (outs : List Out) (frames : List Frame) (o : Option TypedBody) → AreNoDumps outs → IsTopped (body_opened s p outs frames o)
+  body_told : (s : ProgramState) (p : ObjectPart) (outs : List Out) (frames : List Frame) (o : Option TypedBody) → AreNoDumps outs → IsTopped (body_opened s p outs frames o)
   body_told s p outs frames None dumped = tt
   body_told s p outs frames (Some body) dumped = dumped _
 
-  resumed_told : (s : State) (f : Planned) (below : List Frame) (outs : List Out) (es : List Event) → AreNoDumps outs → IsTopped (resumed program s f below outs es)
+  resumed_told : (s : ProgramState) (f : Planned) (below : List Frame) (outs : List Out) (es : List PartEvent) → AreNoDumps outs → IsTopped (resumed program s f below outs es)
   resumed_told s f below outs [] dumped = dumped _
   resumed_told s f below outs (Begin p ∷ es) dumped = dumped _
   resumed_told s f below outs (Ready p ∷ es) dumped = dumped _
   resumed_told s f below outs (Init p m ∷ es) dumped = dumped _
-  resumed_told s f below outs (Body p ∷ es) dumped = body_told s p outs (plan_left f es ∷ below) (body_of program (body_owner f.is_building (class_of_part p))) dumped
+  resumed_told s f below outs (Body p ∷ es) dumped = body_told s p outs (plan_left f es ∷ below) (owned_body program (body_owner f.is_building (class_of_part p))) dumped
   resumed_told s f below outs (Done p ∷ es) dumped = dumped _
   resumed_told s f below outs (Ending p ∷ es) dumped = dumped _
   resumed_told s f below outs (Bases p ∷ es) dumped = dumped _
   resumed_told s f below outs (End p ∷ es) dumped = dumped _
 
-  outs_plain : (s : Objects) (e : Event) → AreNoDumps (event_outs s e)
+  outs_plain : (s : Objects) (e : PartEvent) → AreNoDumps (event_outs s e)
   outs_plain s (Begin p) frames = nothing_dumped _
   outs_plain s (Ready p) frames = nothing_dumped _
   outs_plain s (Init p m) frames = nothing_dumped _
@@ -200,7 +200,7 @@ module _ (h : Classes) (program : TypedProgram) where
   outs_plain s (Bases p) frames = nothing_dumped _
   outs_plain s (End p) frames = nothing_dumped _
 
-  event_told : (s : State) (f : Planned) (below : List Frame) (es : List Event) → IsTopped (event_step program s f below es)
+  event_told : (s : ProgramState) (f : Planned) (below : List Frame) (es : List PartEvent) → IsTopped (event_step program s f below es)
   event_told s f below [] = tt
   event_told s f below (Begin p ∷ es) = resumed_told (with_objects s (objects_after program s.objects (Begin p))) f below (event_outs s.objects (Begin p)) es (outs_plain s.objects (Begin p))
   event_told s f below (Ready p ∷ es) = resumed_told (with_objects s (objects_after program s.objects (Ready p))) f below (event_outs s.objects (Ready p)) es (outs_plain s.objects (Ready p))
@@ -213,44 +213,44 @@ module _ (h : Classes) (program : TypedProgram) where
 
   -- steps
 
-  constructor_told : (s : State) (below : List Frame) → IsTopped (constructor_closed program s below)
+  constructor_told : (s : ProgramState) (below : List Frame) → IsTopped (constructor_closed program s below)
   constructor_told s [] = tt
   constructor_told s (InBody f ∷ below) = tt
   constructor_told s (InPlan f ∷ below) = event_told s f below f.events
 
-  closed_told : (s : State) (owner : Owner) (line : ℕ) (below : List Frame) → IsTopped (closed h program s owner line below)
+  closed_told : (s : ProgramState) (owner : Owner) (line : ℕ) (below : List Frame) → IsTopped (body_closed h program s owner line below)
   closed_told s Main line below = tt
   closed_told s (Function g) line below = unless_told (closing_refusal h s.objects g) line (Goes (with_frames s below) []) (λ none. nothing_dumped _)
   closed_told s (Constructor c) line below = constructor_told s below
   closed_told s (Destructor c) line below = nothing_dumped _
 
-  in_body_told : (s : State) (f : Running) (below : List Frame) (body : TypedBody) (o : Option TypedStatement) → IsTopped (in_body h program s f below body o)
+  in_body_told : (s : ProgramState) (f : RunningBody) (below : List Frame) (body : TypedBody) (o : Option TypedStatement) → IsTopped (next_in_body h program s f below body o)
   in_body_told s f below body None = closed_told s f.owner body.close_line below
   in_body_told s f below body (Some statement) = statement_told s (before_kind f statement.kind) below f.next statement
 
-  owner_told : (s : State) (f : Running) (below : List Frame) (o : Option TypedBody) → IsTopped (body_step h program s f below o)
+  owner_told : (s : ProgramState) (f : RunningBody) (below : List Frame) (o : Option TypedBody) → IsTopped (body_step h program s f below o)
   owner_told s f below None = tt
   owner_told s f below (Some body) = in_body_told s f below body (slice_get body.statements f.next)
 
-  frames_told : (s : State) (frames : List Frame) → IsTopped (frame_step h program s frames)
+  frames_told : (s : ProgramState) (frames : List Frame) → IsTopped (frame_step h program s frames)
   frames_told s [] = tt
-  frames_told s (InBody f ∷ below) = owner_told s f below (body_of program f.owner)
+  frames_told s (InBody f ∷ below) = owner_told s f below (owned_body program f.owner)
   frames_told s (InPlan f ∷ below) = event_told s f below f.events
 
-  within_told : (s : State) (outs : List Out) (o : Option LimitNo) → Tops s.frames outs → (new : State) (told : List Out) → within o s outs ≡ Moves new told → Tops new.frames told
+  within_told : (s : ProgramState) (outs : List Out) (o : Option LimitNo) → Tops s.frames outs → (new : ProgramState) (told : List Out) → within o s outs ≡ Moves new told → Tops new.frames told
   within_told s outs None dumped new told e =
       let states : s ≡ new = cc in
       let lists : outs ≡ told = cc in
-      subst (λ (xs : List Out). Tops new.frames xs) lists (subst (λ (t : State). Tops t.frames outs) states dumped)
+      subst (λ (xs : List Out). Tops new.frames xs) lists (subst (λ (t : ProgramState). Tops t.frames outs) states dumped)
   within_told s outs (Some limit) dumped new told e = cc
 
-  next_told : (next : Next) (o : Option LimitNo) → IsTopped next → (new : State) (told : List Out) → move_by next o ≡ Moves new told → Tops new.frames told
+  next_told : (next : Next) (o : Option LimitNo) → IsTopped next → (new : ProgramState) (told : List Out) → move_by next o ≡ Moves new told → Tops new.frames told
   next_told (Goes s outs) o dumped new told e = within_told s outs o dumped new told e
   next_told (Refuses rule line) o dumped new told e = cc
   next_told Ends o dumped new told e = cc
   next_told Wrong o dumped new told e = cc
 
 -- behind a move that tells a dump
-pub dumps_are_in_bodies : (h : Classes) (sizes : ClassId → ℕ) (program : TypedProgram) (s new : State) (outs : List Out) (number : ℕ) (c : ClassId) (leaves : List DumpLeaf) → move h sizes program s ≡ Moves new outs → Has outs (DumpOut number c leaves) → HasBody new.frames
+pub dumps_are_in_bodies : (h : Classes) (sizes : ClassId → ℕ) (program : TypedProgram) (s new : ProgramState) (outs : List Out) (number : ℕ) (c : ClassId) (leaves : List DumpLeaf) → move h sizes program s ≡ Moves new outs → Has outs (DumpOut number c leaves) → HasBody new.frames
 dumps_are_in_bodies h sizes program s new outs number c leaves moves has =
     next_told h program (step h program s) (limit_at sizes program s) (frames_told h program s s.frames) new outs moves number c leaves has

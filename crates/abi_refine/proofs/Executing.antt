@@ -9,10 +9,10 @@ use Rattle.byte_machine.specs.declared.turn.MachineTurn.{MachineTurn}
 use Rattle.byte_machine.specs.declared.turn.MachineTurn.TheVariants.{Went, Ended, Refused, OutOfSteps as NoSteps, Limit as LimitTurn}
 use Rattle.byte_machine.specs.declared.turn.RawOut.{RawOut}
 use Rattle.byte_machine.specs.Running.{Fixed}
-use Rattle.byte_machine.specs.Turn.{State as Bytes, Turns, fixed_of, kept_answer}
+use Rattle.byte_machine.specs.Turn.{ByteState as Bytes, Turns, fixed_of, kept_answer}
 use Rattle.byte_machine.proofs.TurnLeads.{answer_kept}
 use Rattle.foundation.proofs.Members.{Has}
-use Rattle.text_bytes.specs.RawTexts.{HasText, raw_texts, shown}
+use Rattle.text_bytes.specs.RawTexts.{HasText, raw_texts, raw_outs_to_show}
 use Rattle.code_ops.specs.Setups.{Setup, places}
 use Rattle.abi_slots.specs.declared.code_numbers.CodeRow.{CodeRow}
 use Rattle.text_told.specs.declared.ending.End.{End}
@@ -21,9 +21,9 @@ use Rattle.text_told.specs.Told.{IsRun, text_limit}
 use Rattle.text_told.proofs.Lines.{AreLinesOf, IsTextOf, lines_pass, lines_stand}
 use Rattle.abi_refine.specs.Agreed.{Agreed, move_after}
 use Rattle.abi_refine.specs.Endings.{counted_by, turn_of}
-use Rattle.abi_refine.specs.Executions.{lines_in}
+use Rattle.abi_refine.specs.Executions.{text_of_turn}
 use Rattle.abi_refine.specs.Reaches.{ReachesWith, further, by_answer, by_length, Executes}
-use Rattle.abi_refine.specs.Standing.{StandsIn, state_after}
+use Rattle.abi_refine.specs.Standing.{StandsInSomeWorld, state_after}
 use Rattle.abi_refine.proofs.EndNumbers.{same_end}
 use Rattle.abi_refine.proofs.Going.{Going, HasGone, IsEndOf, gone, one_more, over, run_ended, stands_on}
 use Rattle.abi_refine.proofs.TurnLines.{turn_lines, turn_texts}
@@ -50,20 +50,20 @@ pub record IsAtTurn (x : Setup) (numbers : List CodeRow) (trace : Bool) (image :
   pub image_is : image' ≡ image
   pub code_is : code' ≡ code
   pub parts_are : parts' ≡ parts
-  pub going : Going x code numbers trace (fixed_of image code parts) (lines_in x numbers image trace) first b text
+  pub going : Going x code numbers trace (fixed_of image code parts) (text_of_turn x numbers image trace) first b text
 
 -- what a turn of a run gave: it agrees with the next move, and is a turn of the machine's own meaning
 pub record HasTurned (x : Setup) (numbers : List CodeRow) (trace : Bool) (code : Code) (f : Fixed) (first b : Bytes) (text : List ℕ) (b' : Bytes) (told : List RawOut) (turn : MachineTurn) : Type 0 where
-  pub going : Going x code numbers trace f (lines_in x numbers f.image trace) first b text
+  pub going : Going x code numbers trace f (text_of_turn x numbers f.image trace) first b text
   pub agreed : Agreed x code numbers f (move_after x b.taken) b b' told turn
   pub turned : Turns f code b [] b' told turn
 
 -- it stands for the state behind the steps so far
 pub stands_now : {x : Setup} {numbers : List CodeRow} {trace : Bool} {image : ImageBytes} {code : Code} {parts : ℕ} {first : Bytes} {image' : ImageBytes} {code' : Code} {parts' : ℕ} {b : Bytes} {text : List ℕ} → IsAtTurn x numbers trace image code parts first image' code' parts' b text
-    → StandsIn x code' numbers (fixed_of image' code' parts') (state_after x b.taken) b
+    → StandsInSomeWorld x code' numbers (fixed_of image' code' parts') (state_after x b.taken) b
 stands_now {x} {numbers} {trace} {image} {code} {parts} {first} {image'} {code'} {parts'} {b} at_turn =
-    subst (λ (y : Fixed). StandsIn x code' numbers y (state_after x b.taken) b) (sym (fixed_same image' image code' code parts' parts at_turn.image_is at_turn.code_is at_turn.parts_are))
-    (subst (λ (k : Code). StandsIn x k numbers (fixed_of image code parts) (state_after x b.taken) b) (sym at_turn.code_is) at_turn.going.stands)
+    subst (λ (y : Fixed). StandsInSomeWorld x code' numbers y (state_after x b.taken) b) (sym (fixed_same image' image code' code parts' parts at_turn.image_is at_turn.code_is at_turn.parts_are))
+    (subst (λ (k : Code). StandsInSomeWorld x k numbers (fixed_of image code parts) (state_after x b.taken) b) (sym at_turn.code_is) at_turn.going.stands)
 
 pub has_turned : {x : Setup} {numbers : List CodeRow} {trace : Bool} {image : ImageBytes} {code : Code} {parts : ℕ} {first : Bytes} {image' : ImageBytes} {code' : Code} {parts' : ℕ} {b : Bytes} {text : List ℕ} → IsAtTurn x numbers trace image code parts first image' code' parts' b text
     → (b' : Bytes) (told : List RawOut) (turn : MachineTurn) → Agreed x code' numbers (fixed_of image' code' parts') (move_after x b.taken) b b' told turn → Turns (fixed_of image' code' parts') code' b [] b' told turn
@@ -77,36 +77,36 @@ has_turned {x} {numbers} {trace} {image} {code} {parts} {first} {image'} {code'}
     }
 
 -- the lines of a turn, by the rows that calls look up
-pub lines_are : (x : Setup) (numbers rows : List CodeRow) (image seen : ImageBytes) (trace : Bool) (b : Bytes) (lines : List ℕ) (outs told : List RawOut) → rows ≡ numbers → seen ≡ image → outs ≡ told → lines ≡ raw_texts x.h (places x) rows seen b.memory b.objects (shown trace outs) → lines ≡ lines_in x numbers image trace b told
+pub lines_are : (x : Setup) (numbers rows : List CodeRow) (image seen : ImageBytes) (trace : Bool) (b : Bytes) (lines : List ℕ) (outs told : List RawOut) → rows ≡ numbers → seen ≡ image → outs ≡ told → lines ≡ raw_texts x.h (places x) rows seen b.memory b.objects (raw_outs_to_show trace outs) → lines ≡ text_of_turn x numbers image trace b told
 lines_are x numbers rows image seen trace b lines outs told same sees all are =
-    are ∙ (ap (λ (os : List RawOut). raw_texts x.h (places x) rows seen b.memory b.objects (shown trace os)) all ∙ (ap (λ (i : ImageBytes). lines_in x rows i trace b told) sees ∙ ap (λ (ns : List CodeRow). lines_in x ns image trace b told) same))
+    are ∙ (ap (λ (os : List RawOut). raw_texts x.h (places x) rows seen b.memory b.objects (raw_outs_to_show trace os)) all ∙ (ap (λ (i : ImageBytes). text_of_turn x rows i trace b told) sees ∙ ap (λ (ns : List CodeRow). text_of_turn x ns image trace b told) same))
 
 module _ {x : Setup} {numbers : List CodeRow} {trace : Bool} {code : Code} {f : Fixed} {first b : Bytes} {text : List ℕ} {b' : Bytes} {told : List RawOut} {turn : MachineTurn} (given : HasTurned x numbers trace code f first b text b' told turn) where
   -- the turn went on, or it ended the run
   decided : (t : MachineTurn) → turn ≡ t → (turn ≡ Went) ⊎ ((e : End) × (turn ≡ turn_of e))
   decided Went is = inl is
-  decided Ended is = inr (let r = over x code numbers trace f (lines_in x numbers f.image trace) first b b' text told turn given.going (λ w. let g : Ended ≡ Went = sym is ∙ w in cc (g)) given.agreed in (r.0, r.1.answer))
-  decided (Refused rule line) is = inr (let r = over x code numbers trace f (lines_in x numbers f.image trace) first b b' text told turn given.going (λ w. let g : Refused rule line ≡ Went = sym is ∙ w in cc (g)) given.agreed in (r.0, r.1.answer))
-  decided NoSteps is = inr (let r = over x code numbers trace f (lines_in x numbers f.image trace) first b b' text told turn given.going (λ w. let g : NoSteps ≡ Went = sym is ∙ w in cc (g)) given.agreed in (r.0, r.1.answer))
-  decided (LimitTurn limit) is = inr (let r = over x code numbers trace f (lines_in x numbers f.image trace) first b b' text told turn given.going (λ w. let g : LimitTurn limit ≡ Went = sym is ∙ w in cc (g)) given.agreed in (r.0, r.1.answer))
+  decided Ended is = inr (let r = over x code numbers trace f (text_of_turn x numbers f.image trace) first b b' text told turn given.going (λ w. let g : Ended ≡ Went = sym is ∙ w in cc (g)) given.agreed in (r.0, r.1.answer))
+  decided (Refused rule line) is = inr (let r = over x code numbers trace f (text_of_turn x numbers f.image trace) first b b' text told turn given.going (λ w. let g : Refused rule line ≡ Went = sym is ∙ w in cc (g)) given.agreed in (r.0, r.1.answer))
+  decided NoSteps is = inr (let r = over x code numbers trace f (text_of_turn x numbers f.image trace) first b b' text told turn given.going (λ w. let g : NoSteps ≡ Went = sym is ∙ w in cc (g)) given.agreed in (r.0, r.1.answer))
+  decided (LimitTurn limit) is = inr (let r = over x code numbers trace f (text_of_turn x numbers f.image trace) first b b' text told turn given.going (λ w. let g : LimitTurn limit ≡ Went = sym is ∙ w in cc (g)) given.agreed in (r.0, r.1.answer))
 
   pub answers : (turn ≡ Went) ⊎ ((e : End) × (turn ≡ turn_of e))
   answers = decided turn refl
 
   -- an answer ended the run
   module _ (e : End) (is : turn_of e ≡ turn) where
-    its_end : IsEndOf x code numbers trace f (lines_in x numbers f.image trace) first b turn e
+    its_end : IsEndOf x code numbers trace f (text_of_turn x numbers f.image trace) first b turn e
     its_end =
-        let r = over x code numbers trace f (lines_in x numbers f.image trace) first b b' text told turn given.going (λ went. no_step e (is ∙ went)) given.agreed in
-        subst (λ (y : End). IsEndOf x code numbers trace f (lines_in x numbers f.image trace) first b turn y) (same_end r.0 e (sym r.1.answer ∙ sym is)) r.1
+        let r = over x code numbers trace f (text_of_turn x numbers f.image trace) first b b' text told turn given.going (λ went. no_step e (is ∙ went)) given.agreed in
+        subst (λ (y : End). IsEndOf x code numbers trace f (text_of_turn x numbers f.image trace) first b turn y) (same_end r.0 e (sym r.1.answer ∙ sym is)) r.1
 
     pub ends_run : IsRun x.h (places x) x.program trace first.left text e
-    ends_run = run_ended x code numbers trace f (lines_in x numbers f.image trace) first b text turn e given.going its_end
+    ends_run = run_ended x code numbers trace f (text_of_turn x numbers f.image trace) first b text turn e given.going its_end
 
     by_end : Turns f code b [] b' told (turn_of e)
     by_end = subst (λ (t : MachineTurn). Turns f code b [] b' told t) (sym is) given.turned
 
-    pub ends_executing : Executes f code (lines_in x numbers f.image trace) first b' text e
+    pub ends_executing : Executes f code (text_of_turn x numbers f.image trace) first b' text e
     ends_executing = record { mid = b; reaches = given.going.reaches; ends = by_answer b' told e by_end }
 
     pub ends_answered : b'.answer ≡ Some (turn_of e)
@@ -117,38 +117,38 @@ module _ {x : Setup} {numbers : List CodeRow} {trace : Bool} {code : Code} {f : 
 
   -- the turn went on
   module _ (is : turn ≡ Went) where
-    went : HasGone x code numbers trace f (lines_in x numbers f.image trace) first b b' told
-    went = gone x code numbers trace f (lines_in x numbers f.image trace) first b b' told turn is given.agreed
+    went : HasGone x code numbers trace f (text_of_turn x numbers f.image trace) first b b' told
+    went = gone x code numbers trace f (text_of_turn x numbers f.image trace) first b b' told turn is given.agreed
 
     by_step : Turns f code b [] b' told Went
     by_step = subst (λ (t : MachineTurn). Turns f code b [] b' told t) is given.turned
 
-    its_lines : (lines : List ℕ) → lines ≡ lines_in x numbers f.image trace b' told → AreLinesOf x.h (places x) x.program trace b.taken text lines
+    its_lines : (lines : List ℕ) → lines ≡ text_of_turn x numbers f.image trace b' told → AreLinesOf x.h (places x) x.program trace b.taken text lines
     its_lines lines are = record { telling = went.outs; tells = sym (ap outs_in went.moves); are = are ∙ turn_lines x code numbers f b.taken went.new went.outs went.moves b' told went.went trace }
 
     runs_on : IsRunning x.h (places x).size x.program (b.taken + 1)
-    runs_on = one_more x code numbers trace f (lines_in x numbers f.image trace) first b b' told went given.going.running
+    runs_on = one_more x code numbers trace f (text_of_turn x numbers f.image trace) first b b' told went given.going.running
 
     within : b.taken + 1 ≤ first.left
     within = let c = went.counts.left in let t = given.going.total in omega (arith, c, t)
 
     -- its lines pass the limit
-    pub passes_run : (lines : List ℕ) → lines ≡ lines_in x numbers f.image trace b' told → text_limit < length text + length lines → IsRun x.h (places x) x.program trace first.left text (Limit L9)
+    pub passes_run : (lines : List ℕ) → lines ≡ text_of_turn x numbers f.image trace b' told → text_limit < length text + length lines → IsRun x.h (places x) x.program trace first.left text (Limit L9)
     passes_run lines are long = lines_pass x.h (places x) x.program trace b.taken text first.left lines given.going.text_is runs_on within (its_lines lines are) long
 
-    pub passes_executing : (lines : List ℕ) → lines ≡ lines_in x numbers f.image trace b' told → text_limit < length text + length lines → Executes f code (lines_in x numbers f.image trace) first b' text (Limit L9)
+    pub passes_executing : (lines : List ℕ) → lines ≡ text_of_turn x numbers f.image trace b' told → text_limit < length text + length lines → Executes f code (text_of_turn x numbers f.image trace) first b' text (Limit L9)
     passes_executing lines are long = record { mid = b; reaches = given.going.reaches; ends = by_length b' told by_step (subst (λ (ls : List ℕ). text_limit < length text + length ls) are long) }
 
     -- they stand behind the text
-    pub goes_on : (lines new : List ℕ) → lines ≡ lines_in x numbers f.image trace b' told → length text + length lines ≤ text_limit → new ≡ text ++ lines → Going x code numbers trace f (lines_in x numbers f.image trace) first b' new
+    pub goes_on : (lines new : List ℕ) → lines ≡ text_of_turn x numbers f.image trace b' told → length text + length lines ≤ text_limit → new ≡ text ++ lines → Going x code numbers trace f (text_of_turn x numbers f.image trace) first b' new
     goes_on lines new are few puts =
         let more = lines_stand x.h (places x) x.program trace b.taken text lines new given.going.text_is (its_lines lines are) few puts in
         record {
-          stands = stands_on x code numbers trace f (lines_in x numbers f.image trace) first b b' told went;
+          stands = stands_on x code numbers trace f (text_of_turn x numbers f.image trace) first b b' told went;
           running = subst (λ n. IsRunning x.h (places x).size x.program n) (sym went.counts.taken) runs_on;
           total = let c = went.counts.left in let t = given.going.total in let k = went.counts.taken in omega (arith, c, t, k);
           text_is = subst (λ n. IsTextOf x.h (places x) x.program trace n new) (sym went.counts.taken) more;
-          reaches = subst (λ (t : List ℕ). ReachesWith f code (lines_in x numbers f.image trace) first b' t) (sym (puts ∙ ap (λ (ls : List ℕ). text ++ ls) are)) (further b b' text told given.going.reaches by_step);
+          reaches = subst (λ (t : List ℕ). ReachesWith f code (text_of_turn x numbers f.image trace) first b' t) (sym (puts ∙ ap (λ (ls : List ℕ). text ++ ls) are)) (further b b' text told given.going.reaches by_step);
         }
 
     pub less_left : b'.left < b.left

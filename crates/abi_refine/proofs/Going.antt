@@ -7,23 +7,23 @@ use Rattle.cxx_hierarchy.specs.declared.records.ClassId.{ClassId}
 use Rattle.cxx_hierarchy.specs.Stops.{limit_no}
 use Rattle.path_rules.specs.Rules.{undefined_no}
 use Rattle.path_model.specs.declared.outs.Out.{Out}
-use Rattle.path_model.specs.States.{State as PathState}
-use Rattle.path_model.specs.Runs.{Move, Moves, IsRefused, IsLimited, IsOver, IsWrong, Ran, IsRunning, is_taken, outs_at, ran_by, run_from, run_of, state_behind}
+use Rattle.path_model.specs.States.{ProgramState as PathState}
+use Rattle.path_model.specs.Runs.{Move, Moves, IsRefused, IsLimited, IsOver, IsWrong, Ran, IsRunning, is_step_taken, outs_at, ran_by, run_from, run_of, state_behind}
 use Rattle.path_model.proofs.RunLaws.{run_on}
 use Rattle.byte_code.specs.declared.code.Code.{Code}
 use Rattle.byte_machine.specs.declared.turn.MachineTurn.{MachineTurn}
 use Rattle.byte_machine.specs.declared.turn.MachineTurn.TheVariants.{Went, Ended, Refused, OutOfSteps as NoSteps, Limit as LimitTurn}
 use Rattle.byte_machine.specs.declared.turn.RawOut.{RawOut}
 use Rattle.byte_machine.specs.Running.{Fixed}
-use Rattle.byte_machine.specs.Turn.{State as Bytes}
+use Rattle.byte_machine.specs.Turn.{ByteState as Bytes}
 use Rattle.code_ops.specs.Setups.{Setup, places}
 use Rattle.abi_slots.specs.declared.code_numbers.CodeRow.{CodeRow}
 use Rattle.text_told.specs.declared.ending.End.{End}
 use Rattle.text_told.specs.declared.ending.End.TheVariants.{Done, Undefined, OutOfSteps, Limit}
-use Rattle.text_told.specs.Told.{IsRun, ending_of}
+use Rattle.text_told.specs.Told.{IsRun, told_ending}
 use Rattle.text_told.proofs.Lines.{IsTextOf, ends_with}
 use Rattle.text_told.proofs.Texts.{text_none}
-use Rattle.abi_refine.specs.Standing.{StandsIn, state_after}
+use Rattle.abi_refine.specs.Standing.{StandsInSomeWorld, state_after}
 use Rattle.abi_refine.specs.Agreed.{move_after, Agreed, AgreesBy, CountsOn, WentTo}
 use Rattle.abi_refine.specs.Endings.{turn_of, counted_by}
 use Rattle.abi_refine.specs.Reaches.{Lines, ReachesWith, none}
@@ -34,16 +34,16 @@ module _ (x : Setup) (code : Code) (numbers : List CodeRow) (trace : Bool) (f : 
 
   -- a machine that stands for the state behind the steps that it has taken, with the text so far
   pub record Going (b : Bytes) (text : List ℕ) : Type 0 where
-    pub stands : StandsIn x code numbers f (state_after x b.taken) b
+    pub stands : StandsInSomeWorld x code numbers f (state_after x b.taken) b
     pub running : IsRunning x.h sizes x.program b.taken
     pub total : b.taken + b.left ≡ first.left
     pub text_is : IsTextOf x.h (places x) x.program trace b.taken text
     pub reaches : ReachesWith f code lines first b text
 
   -- before the first turn
-  pub starts : StandsIn x code numbers f (state_after x 0) first → first.taken ≡ 0 → (text : List ℕ) → text ≡ [] → Going first text
+  pub starts : StandsInSomeWorld x code numbers f (state_after x 0) first → first.taken ≡ 0 → (text : List ℕ) → text ≡ [] → Going first text
   starts stands zero_taken text empty = subst (λ (t : List ℕ). Going first t) (sym empty) (record {
-    stands = subst (λ n. StandsIn x code numbers f (state_after x n) first) (sym zero_taken) stands;
+    stands = subst (λ n. StandsInSomeWorld x code numbers f (state_after x n) first) (sym zero_taken) stands;
     running = λ k less. absurd (omega (arith, zero_taken, less));
     total = omega (arith, zero_taken);
     text_is = subst (λ n. IsTextOf x.h (places x) x.program trace n []) (sym zero_taken) (record { text_is = sym (text_none x.h (places x) trace); small = omega arith; room = λ k less. absurd (omega (arith, less)) });
@@ -75,19 +75,19 @@ module _ (x : Setup) (code : Code) (numbers : List CodeRow) (trace : Bool) (f : 
     next_state = let e : suc b.taken ≡ b.taken + 1 = omega arith in ap (state_after x) (sym e) ∙ ap (λ (m : Move). state_behind m (state_after x b.taken)) a.moves
 
     pub one_more : IsRunning x.h sizes x.program b.taken → IsRunning x.h sizes x.program (b.taken + 1)
-    one_more running k less = ⊎_elim (λ (low : k < b.taken). running k low) (λ high. let same : k ≡ b.taken = omega (arith, less, high) in ap (λ n. is_taken (move_after x n)) same ∙ ap is_taken a.moves) (cases_lt k b.taken)
+    one_more running k less = ⊎_elim (λ (low : k < b.taken). running k low) (λ high. let same : k ≡ b.taken = omega (arith, less, high) in ap (λ n. is_step_taken (move_after x n)) same ∙ ap is_step_taken a.moves) (cases_lt k b.taken)
 
-    pub stands_on : StandsIn x code numbers f (state_after x b'.taken) b'
-    stands_on = subst (λ (s : PathState). StandsIn x code numbers f s b') (sym next_state ∙ ap (state_after x) (sym a.counts.taken)) a.went.stands
+    pub stands_on : StandsInSomeWorld x code numbers f (state_after x b'.taken) b'
+    stands_on = subst (λ (s : PathState). StandsInSomeWorld x code numbers f s b') (sym next_state ∙ ap (state_after x) (sym a.counts.taken)) a.went.stands
 
   -- an answer that ends the run
   pub record IsEndOf (b : Bytes) (turn : MachineTurn) (e : End) : Type 0 where
     pub answer : turn ≡ turn_of e
     pub outs : (run_of x.h sizes x.program first.left).outs ≡ outs_at x.h sizes x.program b.taken
-    pub ending : (run_of x.h sizes x.program first.left).ending ≡ ending_of e
+    pub ending : (run_of x.h sizes x.program first.left).ending ≡ told_ending e
     pub steps : (run_of x.h sizes x.program first.left).steps ≡ counted_by b.taken e
 
-  ended_as : (b : Bytes) (text : List ℕ) → Going b text → (turn : MachineTurn) (e : End) (ran : Ran) → turn ≡ turn_of e → run_from x.h sizes x.program b.left (state_after x b.taken) ≡ ran → ran.outs ≡ [] → ran.ending ≡ ending_of e → b.taken + ran.steps ≡ counted_by b.taken e → IsEndOf b turn e
+  ended_as : (b : Bytes) (text : List ℕ) → Going b text → (turn : MachineTurn) (e : End) (ran : Ran) → turn ≡ turn_of e → run_from x.h sizes x.program b.left (state_after x b.taken) ≡ ran → ran.outs ≡ [] → ran.ending ≡ told_ending e → b.taken + ran.steps ≡ counted_by b.taken e → IsEndOf b turn e
   ended_as b text going turn e ran answer from silent ending steps =
       let all = ap (λ n. run_of x.h sizes x.program n) (sym going.total) ∙ run_on x.h sizes x.program b.taken b.left going.running in
       record {

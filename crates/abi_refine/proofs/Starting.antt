@@ -10,24 +10,24 @@ use Rattle.cxx_program.specs.declared.program.Owner.{Owner}
 use Rattle.cxx_program.specs.declared.program.Owner.TheVariants.{Main}
 use Rattle.cxx_program.specs.declared.program.TypedBody.{TypedBody}
 use Rattle.path_model.specs.Values.{Value, Unset}
-use Rattle.path_model.specs.States.{Running, InBody, is_body, entered}
-use Rattle.path_model.specs.Runs.{first_value, main_frames, no_objects, open_count, opened_for, start}
+use Rattle.path_model.specs.States.{RunningBody, InBody, is_body, entered_body}
+use Rattle.path_model.specs.Runs.{start_value, main_frames, no_objects, open_count, opened_for, start}
 use Rattle.byte_machine.specs.Frames.{register_of}
 use Rattle.byte_memory.specs.Store.{empty}
 use Rattle.byte_shadow.specs.Shadows.{no_notes}
-use Rattle.byte_machine.specs.Turn.{State as Bytes, begun, main_frame}
+use Rattle.byte_machine.specs.Turn.{ByteState as Bytes, start_state, main_frame}
 use Rattle.foundation.proofs.Members.{has_from_contains}
 use Rattle.agree_parts.specs.Heaps.{Heap}
-use Rattle.agree_relation.specs.Worlds.{World, IsWorld}
+use Rattle.agree_relation.specs.Worlds.{World, IsProgramWorld}
 use Rattle.agree_relation.specs.Words.{heap_of, register_word}
 use Rattle.agree_relation.specs.Columns.{ColumnsStand}
 use Rattle.agree_relation.specs.Goings.{ArePlanned}
-use Rattle.agree_relation.specs.Frames.{Numbers, BodyStands, StandOver}
-use Rattle.agree_relation.specs.Stands.{StandsFor}
-use Rattle.code_blocks.specs.Lowered.{start_of}
+use Rattle.agree_relation.specs.Frames.{PlaceNumbers, BodyStandsOver, StandOver}
+use Rattle.agree_relation.specs.Stands.{StandsForState}
+use Rattle.code_blocks.specs.Lowered.{main_start}
 
-module _ (w : World) (world : IsWorld w) where
-  abbrev at : Numbers
+module _ (w : World) (world : IsProgramWorld w) where
+  abbrev at : PlaceNumbers
   at = world.lowered.at
 
   abbrev g : Heap
@@ -63,18 +63,18 @@ module _ (w : World) (world : IsWorld w) where
   }
 
   -- globals are 0 or null
-  first_global : (t : ValueType ClassId) → register_word w g (first_value t) ≡ Some 0
+  first_global : (t : ValueType ClassId) → register_word w g (start_value t) ≡ Some 0
   first_global (NumberType t) = refl
   first_global (PointerType c) = refl
 
-  first_globals : (types : List (ValueType ClassId)) → replicate (length types) (Some 0) ≡ map (register_word w g) (map first_value types)
+  first_globals : (types : List (ValueType ClassId)) → replicate (length types) (Some 0) ≡ map (register_word w g) (map start_value types)
   first_globals [] = refl
-  first_globals (t ∷ types) = ap (λ (o : Option ℕ). o ∷ replicate (length types) (Some 0)) (sym (first_global t)) ∙ ap (λ (os : List (Option ℕ)). register_word w g (first_value t) ∷ os) (first_globals types)
+  first_globals (t ∷ types) = ap (λ (o : Option ℕ). o ∷ replicate (length types) (Some 0)) (sym (first_global t)) ∙ ap (λ (os : List (Option ℕ)). register_word w g (start_value t) ∷ os) (first_globals types)
 
   -- the body of `main` at its first statement
 
-  abbrev first_running : TypedBody → Running
-  first_running body = entered body Unset [] ToSame None
+  abbrev first_running : TypedBody → RunningBody
+  first_running body = entered_body body Unset [] ToSame None
 
   unset_in : (n i : ℕ) → register_of (replicate n None) i ≡ None
   unset_in zero i = refl
@@ -91,7 +91,7 @@ module _ (w : World) (world : IsWorld w) where
 
   main_stands : (body : TypedBody) → w.setup.program.main ≡ Some body → body.owner ≡ Main → StandOver w at g None (InBody (first_running body) ∷ []) [] (main_frame w.code ∷ [])
   main_stands body there owner =
-      subst (λ (o : Owner). BodyStands w at g (first_running body) o [] (StandOver w at g None []) (StandOver w at g (Some (first_running body)) []) [] (main_frame w.code ∷ [])) (sym owner) (
+      subst (λ (o : Owner). BodyStandsOver w at g (first_running body) o [] (StandOver w at g None []) (StandOver w at g (Some (first_running body)) []) [] (main_frame w.code ∷ [])) (sym owner) (
         record {
           body = record {
             variables = record {
@@ -100,7 +100,7 @@ module _ (w : World) (world : IsWorld w) where
               local = λ n v e. local_unset (n + 1) v (unset_local _ n v e);
               spare = unset_in w.code.registers _;
             };
-            block = world.lowered.start ∙ ap (start_of at) there;
+            block = world.lowered.start ∙ ap (main_start at) there;
           };
           again = refl;
           is_call = refl;
@@ -117,8 +117,8 @@ module _ (w : World) (world : IsWorld w) where
   none_open None e = refl
   none_open (Some body) e = subst (λ (owner : Owner). 0 ≡ 0 + opened_for owner) (sym (world.typed.main body e).0) refl
 
-  pub stands_at_start : (b : Bytes) (steps : ℕ) → b ≡ begun empty w.code steps → StandsFor w at (start w.setup.program) b
-  stands_at_start b steps is = subst (StandsFor w at (start w.setup.program)) (sym is) (record {
+  pub stands_at_start : (b : Bytes) (steps : ℕ) → b ≡ start_state empty w.code steps → StandsForState w at (start w.setup.program) b
+  stands_at_start b steps is = subst (StandsForState w at (start w.setup.program)) (sym is) (record {
     stands = record {
       columns = no_columns;
       globals = ap (λ (n : ℕ). replicate n (Some 0)) world.lowered.globals ∙ first_globals w.setup.program.globals;

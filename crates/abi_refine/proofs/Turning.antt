@@ -8,27 +8,27 @@ use Rattle.byte_machine.specs.declared.turn.MachineTurn.{MachineTurn}
 use Rattle.byte_machine.specs.declared.turn.MachineTurn.TheVariants.{Went}
 use Rattle.byte_machine.specs.declared.turn.RawOut.{RawOut}
 use Rattle.byte_machine.specs.Running.{Fixed, Running}
-use Rattle.byte_machine.specs.Turn.{State as Bytes, HasTurn, Turns, after_block}
+use Rattle.byte_machine.specs.Turn.{ByteState as Bytes, HasTurn, Turns, after_block}
 use Rattle.byte_machine.proofs.TurnLeads.{HasTurn-leads, HasTurn-spent, Turns-leads, IsNext}
 use Rattle.code_ops.specs.Setups.{Setup}
 use Rattle.abi_slots.specs.declared.code_numbers.CodeRow.{CodeRow}
-use Rattle.agree_relation.specs.Worlds.{World, IsWorld, fixed}
-use Rattle.agree_relation.specs.Stands.{StandsFor}
+use Rattle.agree_relation.specs.Worlds.{World, IsProgramWorld, fixed}
+use Rattle.agree_relation.specs.Stands.{StandsForState}
 use Rattle.byte_memory.specs.declared.memory.Region.{Region}
 use Rattle.agree_relation.specs.Agrees.{Agrees, ReadAs}
 use Rattle.agree_relation.specs.Words.{heap_of}
 use Rattle.abi_world.specs.Worlds.{IsWorldOf}
-use Rattle.abi_refine.specs.Standing.{StandsIn, state_after}
+use Rattle.abi_refine.specs.Standing.{StandsInSomeWorld, state_after}
 use Rattle.abi_refine.specs.Agreed.{move_after, Agreed, AgreesBy, AgreesTurn, CountsOn}
 use Rattle.abi_refine.specs.Blocks.{BlockLeads}
 use Rattle.abi_refine.proofs.Turns.{block_leads}
 
-module _ (w : World) (world : IsWorld w) (b : Bytes) where
+module _ (w : World) (world : IsProgramWorld w) (b : Bytes) where
   abbrev x : Setup
   x = w.setup
 
   abbrev HasStarted : Type 0
-  HasStarted = StandsFor w world.lowered.at (state_after x b.taken) b
+  HasStarted = StandsForState w world.lowered.at (state_after x b.taken) b
 
   -- the block that is next, where a step is left
   next_block : (stands : HasStarted) → nat_eq b.left 0 ≡ false → (lead : BlockLeads w world.lowered.at b (move_after x b.taken)) → IsNext w.code b lead.top lead.below lead.block
@@ -50,7 +50,7 @@ module _ (w : World) (world : IsWorld w) (b : Bytes) where
     after new (Moves s outs) (stands, reads, went) is tells =
         let here : b' ≡ after_block b new Went = is ∙ ap (after_block b new) went in
         let regions : new.memory.regions ≡ b'.memory.regions = sym (ap (λ (c : Bytes). c.memory.regions) is) in
-        let b_stands : StandsFor w world.lowered.at s b' = subst (StandsFor w world.lowered.at s) (sym here) (record { stands = stands; going = refl }) in
+        let b_stands : StandsForState w world.lowered.at s b' = subst (StandsForState w world.lowered.at s) (sym here) (record { stands = stands; going = refl }) in
         let b_reads : ReadAs w world.lowered.at (heap_of s.objects.classes b'.memory.regions) told outs =
         subst (λ (rs : List Region). ReadAs w world.lowered.at (heap_of s.objects.classes rs) told outs) regions (subst (λ (os : List RawOut). ReadAs w world.lowered.at (heap_of s.objects.classes new.memory.regions) os outs) (sym tells) reads) in
         (record { stands = record { world = w; is = of; stands = b_stands }; reads = b_reads }, went)
@@ -76,7 +76,7 @@ module _ (w : World) (world : IsWorld w) (b : Bytes) where
     turn_agrees stands turns = agreed_by (nat_eq b.left 0) refl stands turns
 
 -- the same over any program, code and machine that are those of a world
-module _ (x : Setup) (code : Code) (numbers : List CodeRow) (f : Fixed) (b : Bytes) (st : StandsIn x code numbers f (state_after x b.taken) b) where
+module _ (x : Setup) (code : Code) (numbers : List CodeRow) (f : Fixed) (b : Bytes) (st : StandsInSomeWorld x code numbers f (state_after x b.taken) b) where
   abbrev w : World
   w = st.world
 
@@ -84,8 +84,8 @@ module _ (x : Setup) (code : Code) (numbers : List CodeRow) (f : Fixed) (b : Byt
   over : (A : Setup → Code → List CodeRow → Fixed → Type 0) → A w.setup w.code w.numbers (fixed w) → A x code numbers f
   over A a = subst (A x code numbers) st.is.fixed_is (subst (λ ns. A x code ns (fixed w)) st.is.numbers_are (subst (λ c. A x c w.numbers (fixed w)) st.is.code_is (subst (λ y. A y w.code w.numbers (fixed w)) st.is.setup a)))
 
-  here : StandsFor w st.is.world.lowered.at (state_after w.setup b.taken) b
-  here = subst (λ y. StandsFor w st.is.world.lowered.at (state_after y b.taken) b) (sym st.is.setup) st.stands
+  here : StandsForState w st.is.world.lowered.at (state_after w.setup b.taken) b
+  here = subst (λ y. StandsForState w st.is.world.lowered.at (state_after y b.taken) b) (sym st.is.setup) st.stands
 
   pub has_turn_in : HasTurn f code b []
   has_turn_in = over (λ y c ns g. HasTurn g c b []) (has_turn w st.is.world b here)

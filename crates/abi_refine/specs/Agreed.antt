@@ -3,19 +3,19 @@ use Rattle.std.specs.Prelude.{◌≡◌, ℕ, ◌+◌, Bool, true, false, nat_eq
 use Rattle.cxx_hierarchy.specs.Stops.{limit_no}
 use Rattle.path_rules.specs.Rules.{undefined_no}
 use Rattle.path_model.specs.declared.outs.Out.{Out}
-use Rattle.path_model.specs.States.{State}
+use Rattle.path_model.specs.States.{ProgramState}
 use Rattle.path_model.specs.Runs.{Move, Moves, IsRefused, IsLimited, IsOver, IsWrong, move}
 use Rattle.byte_code.specs.declared.code.Code.{Code}
 use Rattle.byte_machine.specs.declared.turn.MachineTurn.{MachineTurn}
 use Rattle.byte_machine.specs.declared.turn.MachineTurn.TheVariants.{Went, Ended, Refused, OutOfSteps, Limit}
 use Rattle.byte_machine.specs.declared.turn.RawOut.{RawOut}
 use Rattle.byte_machine.specs.Running.{Fixed}
-use Rattle.byte_machine.specs.Turn.{State as Bytes}
+use Rattle.byte_machine.specs.Turn.{ByteState as Bytes}
 use Rattle.code_ops.specs.Setups.{Setup, places}
 use Rattle.abi_slots.specs.declared.code_numbers.CodeRow.{CodeRow}
 use Rattle.agree_relation.specs.Words.{heap_of}
 use Rattle.agree_relation.specs.Agrees.{ReadAs}
-use Rattle.abi_refine.specs.Standing.{StandsIn, state_after}
+use Rattle.abi_refine.specs.Standing.{StandsInSomeWorld, state_after}
 
 -- one step was taken
 pub record CountsOn (b b' : Bytes) : Type 0 where
@@ -23,8 +23,8 @@ pub record CountsOn (b b' : Bytes) : Type 0 where
   pub left : b'.left + 1 ≡ b.left
 
 -- it stands for the state that follows, and what it tells reads there as what the step tells
-pub record WentTo (x : Setup) (code : Code) (numbers : List CodeRow) (f : Fixed) (s : State) (outs : List Out) (b' : Bytes) (told : List RawOut) : Type 0 where
-  pub stands : StandsIn x code numbers f s b'
+pub record WentTo (x : Setup) (code : Code) (numbers : List CodeRow) (f : Fixed) (s : ProgramState) (outs : List Out) (b' : Bytes) (told : List RawOut) : Type 0 where
+  pub stands : StandsInSomeWorld x code numbers f s b'
   pub reads : ReadAs stands.world stands.is.world.lowered.at (heap_of s.objects.classes b'.memory.regions) told outs
 
 -- a turn that runs a block stands for the state that follows, or gives the answer of the refusal, the limit or the end

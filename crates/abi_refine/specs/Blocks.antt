@@ -2,17 +2,17 @@
 use Rattle.std.specs.Prelude.{◌≡◌, Some, List, [], ◌∷◌, slice_get}
 use Rattle.path_model.specs.Runs.{Move}
 use Rattle.byte_code.specs.declared.code.Block.{Block}
-use Rattle.byte_machine.specs.Frames.{Frame}
+use Rattle.byte_machine.specs.Frames.{MachineFrame}
 use Rattle.byte_machine.specs.Leads.{LeadsBlock}
-use Rattle.byte_machine.specs.Turn.{State as Bytes, at_block}
+use Rattle.byte_machine.specs.Turn.{ByteState as Bytes, at_block}
 use Rattle.agree_relation.specs.Worlds.{World, fixed}
-use Rattle.agree_relation.specs.Frames.{Numbers}
+use Rattle.agree_relation.specs.Frames.{PlaceNumbers}
 use Rattle.agree_relation.specs.Agrees.{Agrees}
 
 -- the frame on top is at a block of the code, and what the block leads to agrees with the move
-pub record BlockLeads (w : World) (at : Numbers) (b : Bytes) (m : Move) : Type 0 where
-  pub top : Frame
-  pub below : List Frame
+pub record BlockLeads (w : World) (at : PlaceNumbers) (b : Bytes) (m : Move) : Type 0 where
+  pub top : MachineFrame
+  pub below : List MachineFrame
   pub frames : b.frames ≡ top ∷ below
   pub block : Block
   pub there : slice_get w.code.blocks top.block ≡ Some block

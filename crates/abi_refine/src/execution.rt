@@ -7,11 +7,11 @@ ghost use Rattle.cxx_program.specs.Typed.{IsTypedProgram};
 ghost use Rattle.path_model.specs.States.{is_body};
 ghost use Rattle.path_model.specs.Runs.{run_of};
 ghost use Rattle.abi_sound.specs.Places.{places_of};
-ghost use Rattle.abi_tables.specs.Counts.{all_words, most_words};
+ghost use Rattle.abi_tables.specs.Counts.{words_of_all_classes, most_words};
 ghost use Rattle.code_ops.specs.Setups.{setup};
 ghost use Rattle.abi_lower.specs.Bounds.{IsSmall};
-ghost use Rattle.text_told.specs.Told.{told, ending_of};
-ghost use Rattle.byte_machine.specs.MachineState.{code_of, image_of, state_of};
+ghost use Rattle.text_told.specs.Told.{told, told_ending};
+ghost use Rattle.byte_machine.specs.MachineState.{machine_code, machine_image, state_of};
 ghost use Rattle.abi_refine.specs.Executions.{IsExecution};
 
 use crate::run::{Ran, run_machine};
@@ -57,15 +57,15 @@ pub fn execute<L: SoundLayout>(
 ) -> Result<Execution, NoMemory>
     requires layout { L.lays_out layout.now h.now }
     requires overriders { AreOverriders h.now overriders.now }
-    requires words { all_words h.now (places_of h.now (L.rows layout.now)) ≤ most_words }
+    requires words { words_of_all_classes h.now (places_of h.now (L.rows layout.now)) ≤ most_words }
     requires typed { IsTypedProgram h.now program.now }
     requires main { is_body program.now.main ≡ true }
     requires small { IsSmall program.now }
     requires budget { steps ≤ 4000000 }
     ensures text { IfOk result (λ run. run.text ≡ (told h.now (places_of h.now (L.rows layout.now)) program.now trace steps).text) }
-    ensures end { IfOk result (λ run. ending_of run.end ≡ (told h.now (places_of h.now (L.rows layout.now)) program.now trace steps).ending) }
+    ensures end { IfOk result (λ run. told_ending run.end ≡ (told h.now (places_of h.now (L.rows layout.now)) program.now trace steps).ending) }
     ensures steps { IfOk result (λ run. (run.end ≡ End.Limit L9 → ⊥) → run.steps ≡ (run_of h.now (places_of h.now (L.rows layout.now)).size program.now steps).steps) }
-    ensures machine { IfOk result (λ run. IsExecution (setup h.now (L.rows layout.now) program.now) steps trace run.numbers (code_of run.machine) (image_of run.machine) (state_of run.machine) run.text run.end) }
+    ensures machine { IfOk result (λ run. IsExecution (setup h.now (L.rows layout.now) program.now) steps trace run.numbers (machine_code run.machine) (machine_image run.machine) (state_of run.machine) run.text run.end) }
 {
     let Built {
         code,

@@ -4,8 +4,8 @@ ghost use Rattle.std.specs.Prelude.{◌≡◌, IfOk, OnOk, OnErr, [], false, tru
 ghost use Rattle.path_model.specs.Runs.{move};
 ghost use Rattle.code_ops.specs.Setups.{setup, places};
 ghost use Rattle.byte_machine.specs.Turn.{Turns};
-ghost use Rattle.byte_machine.specs.MachineState.{code_of, image_of, parts_of, fixed_in, state_of, has_failed};
-ghost use Rattle.abi_refine.specs.Standing.{StandsIn, state_after};
+ghost use Rattle.byte_machine.specs.MachineState.{machine_code, machine_image, cast_room, fixed_in, state_of, has_failed};
+ghost use Rattle.abi_refine.specs.Standing.{StandsInSomeWorld, state_after};
 ghost use Rattle.abi_refine.specs.Agreed.{AgreedNext};
 
 use abi_slots::CodeNumbers;
@@ -29,14 +29,14 @@ pub fn turn<M: Memory, L: SoundLayout>(
     machine: &mut Machine<M>,
     outs: &mut RawOutList,
 ) -> Result<MachineTurn, NoMemory>
-    requires stands { StandsIn (setup _h.now (L.rows _layout.now) _program.now) (code_of machine.old) _numbers.now (fixed_in machine.old) (state_after (setup _h.now (L.rows _layout.now) _program.now) (state_of machine.old).taken) (state_of machine.old) }
+    requires stands { StandsInSomeWorld (setup _h.now (L.rows _layout.now) _program.now) (machine_code machine.old) _numbers.now (fixed_in machine.old) (state_after (setup _h.now (L.rows _layout.now) _program.now) (state_of machine.old).taken) (state_of machine.old) }
     requires ready { has_failed machine.old ≡ false }
     requires none { outs.old ≡ [] }
-    ensures agreed { IfOk result (λ turn. AgreedNext (setup _h.now (L.rows _layout.now) _program.now) (code_of machine.old) _numbers.now (fixed_in machine.old) (state_of machine.old) (state_of machine.new) outs.new turn) }
-    ensures turned { IfOk result (λ turn. Turns (fixed_in machine.old) (code_of machine.old) (state_of machine.old) [] (state_of machine.new) outs.new turn) }
-    ensures code { code_of machine.new ≡ code_of machine.old }
-    ensures image { image_of machine.new ≡ image_of machine.old }
-    ensures parts { parts_of machine.new ≡ parts_of machine.old }
+    ensures agreed { IfOk result (λ turn. AgreedNext (setup _h.now (L.rows _layout.now) _program.now) (machine_code machine.old) _numbers.now (fixed_in machine.old) (state_of machine.old) (state_of machine.new) outs.new turn) }
+    ensures turned { IfOk result (λ turn. Turns (fixed_in machine.old) (machine_code machine.old) (state_of machine.old) [] (state_of machine.new) outs.new turn) }
+    ensures code { machine_code machine.new ≡ machine_code machine.old }
+    ensures image { machine_image machine.new ≡ machine_image machine.old }
+    ensures parts { cast_room machine.new ≡ cast_room machine.old }
     ensures ready { OnOk result (has_failed machine.new ≡ false) }
     ensures failed { OnErr result (has_failed machine.new ≡ true) }
     ensures outs { OnErr result (outs.new ≡ []) }

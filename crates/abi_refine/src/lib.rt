@@ -7,7 +7,7 @@
 //! (agree_copies), calls and returns (agree_calls), `new` and `delete` (agree_objects), events of plans and the ends of bodies
 //! (agree_plans), and of each state that a run reaches (agree_runs).
 //!
-//! It owns `BlockLeads` (`specs/Blocks.antt`), `StandsIn` (`specs/Standing.antt`), `Agreed` (`specs/Agreed.antt`), `Executes`
+//! It owns `BlockLeads` (`specs/Blocks.antt`), `StandsInSomeWorld` (`specs/Standing.antt`), `Agreed` (`specs/Agreed.antt`), `Executes`
 //! (`specs/Reaches.antt`) and `IsExecution` (`specs/Executions.antt`). The layer above may rely on `execute`: the text and the end of
 //! the run are those of the subobject machine's run (`told` of text_told), the turns of the returned machine made them, and its last
 //! answer tells the same end.

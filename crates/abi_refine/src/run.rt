@@ -3,15 +3,15 @@
 ghost use Rattle.std.specs.Prelude.{◌≡◌, ◌≤◌, ◌++◌, ◌∷◌, ◌&&◌, [], false, not, Contains, IfOk, OnOk};
 ghost use Rattle.cxx_hierarchy.specs.declared.stop.LimitNo.TheVariants.{L9};
 ghost use Rattle.path_model.specs.Runs.{run_of};
-ghost use Rattle.byte_machine.specs.MachineState.{code_of, image_of, parts_of, fixed_in, state_of, has_failed};
-ghost use Rattle.text_bytes.specs.RawTexts.{HasText, is_traced, raw_texts, shown};
+ghost use Rattle.byte_machine.specs.MachineState.{machine_code, machine_image, cast_room, fixed_in, state_of, has_failed};
+ghost use Rattle.text_bytes.specs.RawTexts.{HasText, is_raw_traced, raw_texts, raw_outs_to_show};
 ghost use Rattle.abi_sound.specs.Places.{places_of};
 ghost use Rattle.code_ops.specs.Setups.{setup, places};
 ghost use Rattle.text_told.specs.Told.{IsRun};
 ghost use Rattle.abi_refine.specs.Endings.{counted_by, turn_of};
-ghost use Rattle.abi_refine.specs.Executions.{lines_in};
+ghost use Rattle.abi_refine.specs.Executions.{text_of_turn};
 ghost use Rattle.abi_refine.specs.Reaches.{Executes};
-ghost use Rattle.abi_refine.specs.Standing.{StandsIn, state_after};
+ghost use Rattle.abi_refine.specs.Standing.{StandsInSomeWorld, state_after};
 
 use crate::ending::end_of;
 use crate::law::turn;
@@ -39,7 +39,7 @@ pub struct Ran {
 
 /// Whether a thing that a turn told has no line: it is told in a trace alone, and the run has none.
 fn is_hidden(trace: bool, raw: RawOut) -> bool
-    ensures { result ≡ (not trace && is_traced raw) }
+    ensures { result ≡ (not trace && is_raw_traced raw) }
 {
     !trace && is_traced(raw)
 }
@@ -59,7 +59,7 @@ fn append_one<M: Memory, L: SoundLayout>(
 ) -> Result<(), NoMemory>
     requires layout { L.lays_out layout.now h.now }
     requires has_text { HasText h.now (state_of machine.now).objects raw }
-    ensures { OnOk result (text.new.items ≡ text.old.items ++ raw_texts h.now (places_of h.now (L.rows layout.now)) called.now (image_of machine.now) (state_of machine.now).memory (state_of machine.now).objects (shown trace (raw ∷ []))) }
+    ensures { OnOk result (text.new.items ≡ text.old.items ++ raw_texts h.now (places_of h.now (L.rows layout.now)) called.now (machine_image machine.now) (state_of machine.now).memory (state_of machine.now).objects (raw_outs_to_show trace (raw ∷ []))) }
 {
     if is_hidden(trace, raw) {
         return Ok(());
@@ -83,7 +83,7 @@ fn lines_of<M: Memory, L: SoundLayout>(
 ) -> Result<Vec<u8>, NoMemory>
     requires layout { L.lays_out layout.now h.now }
     requires has_text { (raw : RawOut) → Contains outs.now raw → HasText h.now (state_of machine.now).objects raw }
-    ensures { IfOk result (λ lines. lines.items ≡ raw_texts h.now (places_of h.now (L.rows layout.now)) called.now (image_of machine.now) (state_of machine.now).memory (state_of machine.now).objects (shown trace outs.now)) }
+    ensures { IfOk result (λ lines. lines.items ≡ raw_texts h.now (places_of h.now (L.rows layout.now)) called.now (machine_image machine.now) (state_of machine.now).memory (state_of machine.now).objects (raw_outs_to_show trace outs.now)) }
 {
     let mut text = Vec::new(alloc);
     for out in outs {
@@ -118,17 +118,17 @@ pub fn run_machine<M: Memory, L: SoundLayout>(
     trace: bool,
 ) -> Result<Ran, NoMemory>
     requires layout { L.lays_out layout.now h.now }
-    requires stands { StandsIn (setup h.now (L.rows layout.now) program.now) (code_of machine.old) numbers.now (fixed_in machine.old) (state_after (setup h.now (L.rows layout.now) program.now) 0) (state_of machine.old) }
+    requires stands { StandsInSomeWorld (setup h.now (L.rows layout.now) program.now) (machine_code machine.old) numbers.now (fixed_in machine.old) (state_after (setup h.now (L.rows layout.now) program.now) 0) (state_of machine.old) }
     requires first { (state_of machine.old).taken ≡ 0 }
     requires budget { (state_of machine.old).left ≤ 4000000 }
     requires ready { has_failed machine.old ≡ false }
     ensures run { IfOk result (λ ran. let x = setup h.now (L.rows layout.now) program.now in IsRun x.h (places x) x.program trace (state_of machine.old).left ran.text.items ran.end) }
-    ensures executes { IfOk result (λ ran. Executes (fixed_in machine.old) (code_of machine.old) (lines_in (setup h.now (L.rows layout.now) program.now) numbers.now (image_of machine.old) trace) (state_of machine.old) (state_of machine.new) ran.text.items ran.end) }
+    ensures executes { IfOk result (λ ran. Executes (fixed_in machine.old) (machine_code machine.old) (text_of_turn (setup h.now (L.rows layout.now) program.now) numbers.now (machine_image machine.old) trace) (state_of machine.old) (state_of machine.new) ran.text.items ran.end) }
     ensures ended { IfOk result (λ ran. (ran.end ≡ End.Limit L9 → ⊥) → (state_of machine.new).answer ≡ Some (turn_of ran.end)) }
     ensures steps { IfOk result (λ ran. (ran.end ≡ End.Limit L9 → ⊥) → let x = setup h.now (L.rows layout.now) program.now in ran.steps ≡ (run_of x.h (places x).size x.program (state_of machine.old).left).steps) }
-    ensures code { code_of machine.new ≡ code_of machine.old }
-    ensures image { image_of machine.new ≡ image_of machine.old }
-    ensures parts { parts_of machine.new ≡ parts_of machine.old }
+    ensures code { machine_code machine.new ≡ machine_code machine.old }
+    ensures image { machine_image machine.new ≡ machine_image machine.old }
+    ensures parts { cast_room machine.new ≡ cast_room machine.old }
 {
     let called = CalledFunctions::new(alloc, numbers.rows())?;
     let mut text = Vec::new(alloc);

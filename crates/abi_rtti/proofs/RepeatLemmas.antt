@@ -6,7 +6,7 @@ use Rattle.std.proofs.lemmas.Bool.{eqb-true, eq-eqb}
 use Rattle.std.proofs.lemmas.List.Folds.{list_any-append, list_any_at}
 use Rattle.cxx_hierarchy.specs.declared.records.ClassId.{ClassId}
 use Rattle.foundation.proofs.Truth.{split, or_left, or_right, or_parts, not_both}
-use Rattle.abi_rtti.specs.Repeats.{is_class, has_repeat}
+use Rattle.abi_rtti.specs.Repeats.{is_same_class, has_repeat}
 
 -- a class has the number
 abbrev pub is_number : ℕ → ClassId → Bool
@@ -18,19 +18,19 @@ repeat_at [] d i lt any = absurd (omega arith)
 repeat_at (x ∷ xs) d zero lt any = cc
 repeat_at (x ∷ xs) d (suc k) lt any =
     let lower : k < length xs = omega arith in
-    split (is_number (get_or xs k d).0 x) (λ b. is_number (get_or xs k d).0 x ≡ b → (b || list_any (is_number (get_or xs k d).0) (take k xs)) ≡ true → (list_any (is_class x) xs || has_repeat xs) ≡ true)
-    (λ is _ _. or_left _ _ (list_any_at (is_class x) xs k d lower is))
-    (λ _ _ rest. or_right (list_any (is_class x) xs) (has_repeat xs) (repeat_at xs d k lower rest))
+    split (is_number (get_or xs k d).0 x) (λ b. is_number (get_or xs k d).0 x ≡ b → (b || list_any (is_number (get_or xs k d).0) (take k xs)) ≡ true → (list_any (is_same_class x) xs || has_repeat xs) ≡ true)
+    (λ is _ _. or_left _ _ (list_any_at (is_same_class x) xs k d lower is))
+    (λ _ _ rest. or_right (list_any (is_same_class x) xs) (has_repeat xs) (repeat_at xs d k lower rest))
     refl any
 
 -- one more class that did not stand before
 pub no_repeat_more : (cs : List ClassId) (c : ClassId) → has_repeat cs ≡ false → list_any (is_number c.0) cs ≡ false → has_repeat (cs ++ c ∷ []) ≡ false
 no_repeat_more [] c a b = refl
 no_repeat_more (x ∷ xs) c a b =
-    let p = or_parts (list_any (is_class x) xs) (has_repeat xs) a in
+    let p = or_parts (list_any (is_same_class x) xs) (has_repeat xs) a in
     let q = or_parts (is_number c.0 x) (list_any (is_number c.0) xs) b in
     let rest : has_repeat (xs ++ c ∷ []) ≡ false = no_repeat_more xs c p.1 q.1 in
-    let first : list_any (is_class x) (xs ++ c ∷ []) ≡ false = list_any-append (is_class x) xs (c ∷ []) ∙ ap (λ b. b || (is_class x c || false)) p.0 ∙ ap (λ b. b || false) q.0 in
+    let first : list_any (is_same_class x) (xs ++ c ∷ []) ≡ false = list_any-append (is_same_class x) xs (c ∷ []) ∙ ap (λ b. b || (is_same_class x c || false)) p.0 ∙ ap (λ b. b || false) q.0 in
     ap (λ b. b || has_repeat (xs ++ c ∷ [])) first ∙ rest
 
 -- what the marks say, one class later

@@ -3,10 +3,10 @@ use Rattle.std.specs.Prelude.{Bool, false, nat_eq, ◌||◌, List, [], ◌∷◌
 use Rattle.std.specs.List.{list_any}
 use Rattle.cxx_hierarchy.specs.declared.records.ClassId.{ClassId}
 
-abbrev pub is_class : ClassId → ClassId → Bool
-is_class c d = nat_eq c.0 d.0
+abbrev pub is_same_class : ClassId → ClassId → Bool
+is_same_class c d = nat_eq c.0 d.0
 
 -- some class stands in the list twice
 abbrev pub has_repeat : List ClassId → Bool
 has_repeat [] = false
-has_repeat (c ∷ cs) = list_any (is_class c) cs || has_repeat cs
+has_repeat (c ∷ cs) = list_any (is_same_class c) cs || has_repeat cs

@@ -22,12 +22,12 @@ classes_in h c = filter_map class_of (preorder h c)
 abbrev pub is_virtual_base : Base ClassId → Bool
 is_virtual_base base = base.is_virtual
 
-abbrev pub class_of_base : Base ClassId → ClassId
-class_of_base base = base.class
+abbrev pub direct_base_class : Base ClassId → ClassId
+direct_base_class base = base.class
 
 -- the virtual bases that the head of a class names
 abbrev pub named_virtual : Classes → ClassId → List ClassId
-named_virtual h d = map class_of_base (filter is_virtual_base (bases_of h d))
+named_virtual h d = map direct_base_class (filter is_virtual_base (bases_of h d))
 
 -- the ends of all edges to virtual bases, on a walk over all subobjects
 abbrev pub virtual_edges : Classes → ClassId → List ClassId
@@ -53,11 +53,11 @@ abbrev pub base_flags : Base ClassId → ℕ
 base_flags base = bit base.is_virtual 1 + bit base.is_public 2
 
 -- the place of a base; of a virtual base how far the word that leads to it lies from the address point, in bytes
-abbrev pub base_offset : Classes → Places → ClassId → Base ClassId → ℤ
-base_offset h l c base = if base.is_virtual then pos 8 *ℤ word_number (vbase_number h l c base.class) else pos (place_of_base l c base)
+abbrev pub recorded_offset : Classes → Places → ClassId → Base ClassId → ℤ
+recorded_offset h l c base = if base.is_virtual then pos 8 *ℤ word_number (vbase_number h l c base.class) else pos (place_of_base l c base)
 
 abbrev pub offset_flags : Classes → Places → ClassId → Base ClassId → ℤ
-offset_flags h l c base = pos (base_flags base) +ℤ pos 256 *ℤ base_offset h l c base
+offset_flags h l c base = pos (base_flags base) +ℤ pos 256 *ℤ recorded_offset h l c base
 
 abbrev pub info_base : Classes → Places → ClassId → Base ClassId → InfoBase
 info_base h l c base = record { class = base.class; offset_flags = offset_flags h l c base }

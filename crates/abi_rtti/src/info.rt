@@ -6,7 +6,7 @@ ghost use Rattle.cxx_hierarchy.specs.declared.records.ClassId.{ClassId};
 ghost use Rattle.cxx_hierarchy.specs.Classes.{bases_of};
 ghost use Rattle.abi_sound.specs.Places.{places_of};
 ghost use Rattle.abi_slots.specs.Slots.{AreSlots};
-ghost use Rattle.abi_rtti.specs.TypeInfos.{place_of_base, is_simple, base_flags, base_offset, offset_flags, info_base, shape_flags, all_bases, type_info};
+ghost use Rattle.abi_rtti.specs.TypeInfos.{place_of_base, is_simple, base_flags, recorded_offset, offset_flags, info_base, shape_flags, all_bases, type_info};
 
 use crate::repeats::has_repeat;
 use crate::walk::{classes_in, virtual_edges};
@@ -69,7 +69,7 @@ fn base_offset<L: SoundLayout>(
     requires slots { AreSlots h.now (places_of h.now (L.rows layout.now)) slots.now }
     requires known { c.0 < length h.now }
     requires base { Contains (bases_of h.now c) base.now }
-    ensures offset { result ≡ base_offset h.now (places_of h.now (L.rows layout.now)) c base.now }
+    ensures offset { result ≡ recorded_offset h.now (places_of h.now (L.rows layout.now)) c base.now }
     ensures low { (pos 0 -ℤ pos (2 ^ 34)) ≤ℤ result }
     ensures high { result ≤ℤ pos (2 ^ 34) }
 {

@@ -25,7 +25,7 @@ use Rattle.abi_sound.specs.Places.{Places}
 use Rattle.abi_slots.specs.declared.words.EntryKey.{EntryKey}
 use Rattle.abi_slots.specs.Limits.{most_entries}
 use Rattle.cxx_overrider.specs.Virtuals.{index_of, implicit_index, indices_in, function_at, functions_in, declared, is_virtual, own}
-use Rattle.abi_slots.specs.Listing.{kinds_in, keys_of, shares, primary_entries, new_entries, with_new, entries_in, entries}
+use Rattle.abi_slots.specs.Listing.{kinds_in, keys_of, shares, primary_entries, new_entries, with_new_entries, entries_in, entries}
 
 -- functions
 
@@ -120,7 +120,7 @@ few_keys h (f ∷ list) =
     let rest = few_keys h list in
     let all = length-append (keys_of h f) (flat_map (keys_of h) list) in
     let kinds = few_kinds (signature_of h f) in
-    let mapped = length-map (kinds_in (signature_of h f)) (Rattle.abi_slots.specs.Listing.key f) in
+    let mapped = length-map (kinds_in (signature_of h f)) (Rattle.abi_slots.specs.Listing.entry_key f) in
     omega arith
 
 few_old : (f : ClassId → List EntryKey) (most : ℕ) → ((b : ClassId) → length (f b) ≤ most) → (p : Primary) → length (primary_entries f p) ≤ most

@@ -19,7 +19,7 @@ use Rattle.abi_slots.specs.declared.words.Offset.{Offset}
 use Rattle.abi_slots.specs.declared.words.Offset.TheVariants.{ToBase, ToOverrider}
 use Rattle.cxx_overrider.specs.Virtuals.{same_name, own}
 use Rattle.cxx_subobject.specs.VirtualBases.{virtual_bases}
-use Rattle.abi_slots.specs.Listing.{vcall_number, is_name, is_direct, is_first_base, is_other_base, below_bases, call, calls_in, calls, with_calls, push_all, primary_offsets, offsets_in, offsets}
+use Rattle.abi_slots.specs.Listing.{vcall_number, is_offset_of_name, is_direct, is_nonvirtual_primary, is_secondary_base, below_bases, call, calls_in, calls, with_calls, push_all, primary_offsets, offsets_in, offsets}
 use Rattle.abi_slots.proofs.Lists.{Item, item_left, item_right, item_cases, item_map, from_map, item_flat, from_flat, item_filter, at_place}
 use Rattle.abi_slots.proofs.Names.{name_through}
 use Rattle.abi_slots.proofs.Bases.{item_contains, item_virtual}
@@ -46,25 +46,25 @@ each_call h l v zero path leads x i = absurd (let e = i.there in cc)
 each_call h l v (suc n) path leads x i =
     let c = last_of v path in
     let each = λ (more : List ClassId) (to : Leads h v more) (y : Offset) (j : Item (calls_in h l n (v ∷ more) (last_of v more)) y). each_call h l v n more to y j in
-    let first = below_bases (calls_in h l n) (v ∷ path) (filter (is_first_base (l.primary c)) (bases_of h c)) in
-    let other = below_bases (calls_in h l n) (v ∷ path) (filter (is_other_base (l.primary c)) (bases_of h c)) in
+    let first = below_bases (calls_in h l n) (v ∷ path) (filter (is_nonvirtual_primary (l.primary c)) (bases_of h c)) in
+    let other = below_bases (calls_in h l n) (v ∷ path) (filter (is_secondary_base (l.primary c)) (bases_of h c)) in
     ⊎_elim
     (λ a. ⊎_elim
-    (λ b. call_down h l v path n c (is_first_base (l.primary c)) (first_plain (l.primary c)) leads refl each x b)
+    (λ b. call_down h l v path n c (is_nonvirtual_primary (l.primary c)) (first_plain (l.primary c)) leads refl each x b)
     (λ b.
     let r = from_map (call (v ∷ path)) (own h c) x b in
     let class = own_class h c r.0 r.1 in
     subst (λ y. IsCallAt h v y) r.2 (call_at path r.0 leads (sym class) (subst (λ a. Item (own h a) r.0) (sym class) r.1)))
     (item_cases first (map (call (v ∷ path)) (own h c)) x a))
-    (λ b. call_down h l v path n c (is_other_base (l.primary c)) (other_plain (l.primary c)) leads refl each x b)
+    (λ b. call_down h l v path n c (is_secondary_base (l.primary c)) (other_plain (l.primary c)) leads refl each x b)
     (item_cases (first ++ map (call (v ∷ path)) (own h c)) other x i)
 
 -- a function that the class at the end of a path declares has its word
 call_below : (h : Classes) (l : Places) → IsHierarchy h → (n : ℕ) (path : List ClassId) (c : ClassId) (q : List ClassId) (g : FunctionId) → c.0 < n → Leads h c q → Item (own h (last_of c q)) g → Item (calls_in h l n path c) (ToOverrider (path ++ q) g)
 call_below h l keeps zero path c q g lt leads i = absurd (omega arith)
 call_below h l keeps (suc n) path c [] g lt leads i =
-    let first = below_bases (calls_in h l n) path (filter (is_first_base (l.primary c)) (bases_of h c)) in
-    let other = below_bases (calls_in h l n) path (filter (is_other_base (l.primary c)) (bases_of h c)) in
+    let first = below_bases (calls_in h l n) path (filter (is_nonvirtual_primary (l.primary c)) (bases_of h c)) in
+    let other = below_bases (calls_in h l n) path (filter (is_secondary_base (l.primary c)) (bases_of h c)) in
     subst (λ p. Item (calls_in h l (suc n) path c) (ToOverrider p g)) (sym (append-nil path))
     (item_left (first ++ map (call path) (own h c)) other (ToOverrider path g) (item_right first (map (call path) (own h c)) (ToOverrider path g) (item_map (call path) (own h c) g i)))
 call_below h l keeps (suc n) path c (b ∷ q) g lt leads i =
@@ -76,16 +76,16 @@ call_below h l keeps (suc n) path c (b ∷ q) g lt leads i =
     subst (λ a. Item (calls_in h l n (path ++ a ∷ []) a) (ToOverrider (path ++ (b ∷ q)) g)) (sym edge.class) (subst (λ p. Item (calls_in h l n (path ++ b ∷ []) b) (ToOverrider p g)) same below) in
     let listed = item_contains (bases_of h c) edge.base edge.listed in
     let goes = λ (base : Base ClassId). calls_in h l n (path ++ base.class ∷ []) base.class in
-    let first = below_bases (calls_in h l n) path (filter (is_first_base (l.primary c)) (bases_of h c)) in
-    let other = below_bases (calls_in h l n) path (filter (is_other_base (l.primary c)) (bases_of h c)) in
+    let first = below_bases (calls_in h l n) path (filter (is_nonvirtual_primary (l.primary c)) (bases_of h c)) in
+    let other = below_bases (calls_in h l n) path (filter (is_secondary_base (l.primary c)) (bases_of h c)) in
     let plain : not edge.base.is_virtual ≡ true = ap not edge.way in
     split (is_direct (l.primary c) edge.base.class) (λ t. is_direct (l.primary c) edge.base.class ≡ t → Item (calls_in h l (suc n) path c) (ToOverrider (path ++ (b ∷ q)) g))
     (λ t same.
     item_left (first ++ map (call path) (own h c)) other _ (item_left first (map (call path) (own h c)) _
-    (item_flat goes (filter (is_first_base (l.primary c)) (bases_of h c)) edge.base _ (item_filter (is_first_base (l.primary c)) (bases_of h c) edge.base listed (and_from (not edge.base.is_virtual) (is_direct (l.primary c) edge.base.class) plain same)) there)))
+    (item_flat goes (filter (is_nonvirtual_primary (l.primary c)) (bases_of h c)) edge.base _ (item_filter (is_nonvirtual_primary (l.primary c)) (bases_of h c) edge.base listed (and_from (not edge.base.is_virtual) (is_direct (l.primary c) edge.base.class) plain same)) there)))
     (λ t same.
     item_right (first ++ map (call path) (own h c)) other _
-    (item_flat goes (filter (is_other_base (l.primary c)) (bases_of h c)) edge.base _ (item_filter (is_other_base (l.primary c)) (bases_of h c) edge.base listed (and_from (not edge.base.is_virtual) (not (is_direct (l.primary c) edge.base.class)) plain (ap not same))) there))
+    (item_flat goes (filter (is_secondary_base (l.primary c)) (bases_of h c)) edge.base _ (item_filter (is_secondary_base (l.primary c)) (bases_of h c) edge.base listed (and_from (not edge.base.is_virtual) (not (is_direct (l.primary c) edge.base.class)) plain (ap not same))) there))
     refl
 
 -- at the number of a function's vcall word stands the offset of a function of its name
@@ -132,7 +132,7 @@ module _ (h : Classes) (l : Places) (keeps : IsHierarchy h) (are : ArePrimaries 
   pub each_listable : (is_shared : Bool) (c : ClassId) → c.0 < length h → (x : Offset) → Item (offsets h l is_shared c) x → IsListable h is_shared c x
   each_listable is_shared c known x i = each_in (c.0 + 1) is_shared c known x i
 
-  call_of : (v : ClassId) (f : FunctionId) (i : ℕ) (x : Offset) → IsListable h true v x → slice_get (offsets h l true v) (vcall_number h l v f) ≡ Some x → is_name h f x ≡ true → HasCall h l v f
+  call_of : (v : ClassId) (f : FunctionId) (i : ℕ) (x : Offset) → IsListable h true v x → slice_get (offsets h l true v) (vcall_number h l v f) ≡ Some x → is_offset_of_name h f x ≡ true → HasCall h l v f
   call_of v f i _ (a_base u has) at named = cc
   call_of v f i _ (a_call u path g is) at named = record { base = u; path = path; function = g; there = at; named = named; of = is }
 
@@ -140,10 +140,10 @@ module _ (h : Classes) (l : Places) (keeps : IsHierarchy h) (are : ArePrimaries 
   vcall_there v path f g known leads ends declares named =
       let more = push_all h (primary_offsets (offsets h l) (l.primary v)) (map ToBase (virtual_bases h v)) in
       let called : Item (calls h l v) (ToOverrider (v ∷ path) g) = call_below h l keeps (v.0 + 1) (v ∷ []) v path g (omega arith) leads (subst (λ a. Item (own h a) g) (sym ends) declares) in
-      let there : list_any (is_name h f) (offsets h l true v) ≡ true = subst (λ xs. list_any (is_name h f) xs ≡ true) (sym (offsets_is h l keeps are true v known)) (push_all_has h (is_name h f) more (calls h l v) (ToOverrider (v ∷ path) g) called named (λ z e. closed z e)) in
-      let at = at_place (is_name h f) (offsets h l true v) there in
+      let there : list_any (is_offset_of_name h f) (offsets h l true v) ≡ true = subst (λ xs. list_any (is_offset_of_name h f) xs ≡ true) (sym (offsets_is h l keeps are true v known)) (push_all_has h (is_offset_of_name h f) more (calls h l v) (ToOverrider (v ∷ path) g) called named (λ z e. closed z e)) in
+      let at = at_place (is_offset_of_name h f) (offsets h l true v) there in
       call_of v f 0 at.item (each_listable true v known at.item (record { index = vcall_number h l v f; there = at.there })) at.there at.passes
     where
-      closed : (z : Offset) → is_name h g z ≡ true → is_name h f z ≡ true
+      closed : (z : Offset) → is_offset_of_name h g z ≡ true → is_offset_of_name h f z ≡ true
       closed (ToBase u) e = cc
       closed (ToOverrider more k) e = name_through h f g k named e

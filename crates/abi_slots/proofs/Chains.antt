@@ -19,7 +19,7 @@ use Rattle.abi_primary.specs.declared.Primary.TheVariants.{None as NoPrimary, Di
 use Rattle.abi_sound.specs.Places.{Places}
 use Rattle.abi_sound.specs.Chains.{primary_part, primary_of_class, primary_by, is_subobject_in}
 use Rattle.abi_slots.specs.Listing.{entries, offsets, primary_entries, primary_offsets}
-use Rattle.abi_slots.specs.Views.{View, IsView, seen, place, is_some, next_by, next_in, next, walk, first_in}
+use Rattle.abi_slots.specs.Views.{View, IsView, seen, place, is_some, next_by, next_in, next, along_chain, first_in}
 use Rattle.abi_slots.specs.Groups.{is_shared_base}
 use Rattle.abi_slots.proofs.Lists.{Keeps, keeps_itself, keeps_through}
 use Rattle.abi_slots.proofs.Listings.{ArePrimaries, entries_keep, offsets_keep}
@@ -189,7 +189,7 @@ module _ (h : Classes) (l : Places) (x : View) (set : Setting h l x) where
       let d = class_there h x.class s valid in
       next_of s u d.0 valid d.1 (l.primary d.0) refl (subst (λ o. next_in l x s o ≡ Some u) d.1 e)
 
-  walk_none : (i : ℕ) → walk (next l x) i None ≡ None
+  walk_none : (i : ℕ) → along_chain (next l x) i None ≡ None
   walk_none zero = refl
   walk_none (suc i) = refl
 
@@ -208,11 +208,11 @@ module _ (h : Classes) (l : Places) (x : View) (set : Setting h l x) where
         omega arith;
   }
 
-  pub walk_under : (i : ℕ) (s r : Subobject) → IsSubobject h x.class s → walk (next l x) i (Some s) ≡ Some r → IsWalked i s r
+  pub walk_under : (i : ℕ) (s r : Subobject) → IsSubobject h x.class s → along_chain (next l x) i (Some s) ≡ Some r → IsWalked i s r
   walk_under zero s r valid e = subst (λ a. IsWalked 0 s a) (same_some s r e) (record { under = under_itself s valid; less = λ a b of_a of_b. let f : a ≡ b = same_some a b (sym of_a ∙ of_b) in subst (λ (c : ClassId). 0 + c.0 ≤ a.0) f (omega arith) })
   walk_under (suc i) s r valid e = by_next (next l x s) refl e (λ u inner there. walk_under i u r inner there)
     where
-      by_next : (o : Option Subobject) → next l x s ≡ o → walk (next l x) i o ≡ Some r → ((u : Subobject) → IsSubobject h x.class u → walk (next l x) i (Some u) ≡ Some r → IsWalked i u r) → IsWalked (suc i) s r
+      by_next : (o : Option Subobject) → next l x s ≡ o → along_chain (next l x) i o ≡ Some r → ((u : Subobject) → IsSubobject h x.class u → along_chain (next l x) i (Some u) ≡ Some r → IsWalked i u r) → IsWalked (suc i) s r
       by_next None is there rest = absurd (let fails = walk_none i in cc)
       by_next (Some u) is there rest = let one = next_under s u valid is in more_walked i s u r one (rest u one.under.valid_below there)
 
@@ -220,21 +220,21 @@ module _ (h : Classes) (l : Places) (x : View) (set : Setting h l x) where
 pub record IsFirstFound (p : Subobject → Bool) (go : Subobject → Option Subobject) (fuel : ℕ) (s r : Subobject) : Type 0 where
   pub first : Subobject
   pub above : ℕ
-  pub from : walk go above (Some s) ≡ Some first
+  pub from : along_chain go above (Some s) ≡ Some first
   pub below : ℕ
-  pub to : walk go below (Some first) ≡ Some r
+  pub to : along_chain go below (Some first) ≡ Some r
   pub passes : p first ≡ true
   pub is : first_in p go fuel (Some s) ≡ Some first
 
-walk_no : (go : Subobject → Option Subobject) (i : ℕ) → walk go i None ≡ None
+walk_no : (go : Subobject → Option Subobject) (i : ℕ) → along_chain go i None ≡ None
 walk_no go zero = refl
 walk_no go (suc i) = refl
 
-pub first_found : (p : Subobject → Bool) (go : Subobject → Option Subobject) (fuel i : ℕ) (s r : Subobject) → walk go i (Some s) ≡ Some r → p r ≡ true → i < fuel → IsFirstFound p go fuel s r
+pub first_found : (p : Subobject → Bool) (go : Subobject → Option Subobject) (fuel i : ℕ) (s r : Subobject) → along_chain go i (Some s) ≡ Some r → p r ≡ true → i < fuel → IsFirstFound p go fuel s r
 first_found p go zero i s r e pass less = absurd (omega arith)
 first_found p go (suc fuel) i s r e pass less = by_bool (p s) refl i e less (λ k u there small. first_found p go fuel k u r there pass small)
   where
-    by_next : (o : Option Subobject) (k : ℕ) → go s ≡ o → p s ≡ false → walk go k o ≡ Some r → k < fuel → ((k : ℕ) (u : Subobject) → walk go k (Some u) ≡ Some r → k < fuel → IsFirstFound p go fuel u r) → IsFirstFound p go (suc fuel) s r
+    by_next : (o : Option Subobject) (k : ℕ) → go s ≡ o → p s ≡ false → along_chain go k o ≡ Some r → k < fuel → ((k : ℕ) (u : Subobject) → along_chain go k (Some u) ≡ Some r → k < fuel → IsFirstFound p go fuel u r) → IsFirstFound p go (suc fuel) s r
     by_next None k is fails there small rest = absurd (let none = walk_no go k in cc)
     by_next (Some u) k is fails there small rest = let f = rest k u there small in record {
       first = f.first;
@@ -246,7 +246,7 @@ first_found p go (suc fuel) i s r e pass less = by_bool (p s) refl i e less (λ 
       is = rw (fails, is) f.is;
     }
 
-    by_bool : (b : Bool) → p s ≡ b → (i : ℕ) → walk go i (Some s) ≡ Some r → i < suc fuel → ((k : ℕ) (u : Subobject) → walk go k (Some u) ≡ Some r → k < fuel → IsFirstFound p go fuel u r) → IsFirstFound p go (suc fuel) s r
+    by_bool : (b : Bool) → p s ≡ b → (i : ℕ) → along_chain go i (Some s) ≡ Some r → i < suc fuel → ((k : ℕ) (u : Subobject) → along_chain go k (Some u) ≡ Some r → k < fuel → IsFirstFound p go fuel u r) → IsFirstFound p go (suc fuel) s r
     by_bool true holds i there small rest = record { first = s; above = 0; from = refl; below = i; to = there; passes = holds; is = rw holds refl }
     by_bool false fails zero there small rest = absurd (let same : s ≡ r = same_some s r there in let t : p s ≡ true = rw same pass in cc)
     by_bool false fails (suc k) there small rest = by_next (go s) k refl fails there (omega arith) rest

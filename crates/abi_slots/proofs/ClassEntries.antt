@@ -19,8 +19,8 @@ use Rattle.abi_slots.specs.declared.words.CodeKind.TheVariants.{Plain, Complete,
 use Rattle.abi_slots.specs.declared.words.EntryKey.{EntryKey}
 use Rattle.abi_slots.specs.declared.entries.Listing.{Listing}
 use Rattle.cxx_overrider.specs.Virtuals.{same_name, own}
-use Rattle.abi_slots.specs.Listing.{key, kinds_in, keys_of, own_keys, same_key, shares, primary_entries, new_entries, entries_in, entries, listing}
-use Rattle.abi_slots.specs.Rows.{listed, listed_all, listing_of, listings_of, has_entry, function_of, declared_in, is_first, HaveOneEntry}
+use Rattle.abi_slots.specs.Listing.{entry_key, kinds_in, keys_of, own_keys, same_entry_key, shares, primary_entries, new_entries, entries_in, entries, listing}
+use Rattle.abi_slots.specs.Rows.{listing_of_key, listed_all, listing_of, listings_of, has_entry, listing_function, listed_function, is_first, HaveOneEntry}
 use Rattle.abi_slots.specs.Slots.{first_kind, first_key, declared_at}
 use Rattle.abi_slots.proofs.Lists.{Item, item_first, item_later, item_none, item_split, item_cases, item_map, from_map, item_flat, from_flat, from_filter}
 use Rattle.abi_slots.proofs.Names.{name_is, key_is}
@@ -38,7 +38,7 @@ pub record IsOwnKey (h : Classes) (k : EntryKey) : Type 0 where
   pub kind : Item (kinds_in (signature_of h k.function)) k.kind
 
 key_parts : (h : Classes) (f : FunctionId) (k : EntryKey) → Item (keys_of h f) k → (k.function ≡ f) × Item (kinds_in (signature_of h f)) k.kind
-key_parts h f k i = let r = from_map (key f) (kinds_in (signature_of h f)) k i in (ap (λ (x : EntryKey). x.function) (sym r.2), subst (λ (x : EntryKey). Item (kinds_in (signature_of h f)) x.kind) r.2 r.1)
+key_parts h f k i = let r = from_map (entry_key f) (kinds_in (signature_of h f)) k i in (ap (λ (x : EntryKey). x.function) (sym r.2), subst (λ (x : EntryKey). Item (kinds_in (signature_of h f)) x.kind) r.2 r.1)
 
 pub own_key : (h : Classes) (c : ClassId) (k : EntryKey) → Item (own_keys h c) k → (k.function.class ≡ c) × IsOwnKey h k
 own_key h c k i =
@@ -103,8 +103,8 @@ listings_are h l c p mine keys old all primary owns made before e =
     let keys_are = made ∙ ap (flat_map (keys_of h)) owns in
     let base = primary_entries (entries h l) (l.primary c) in
     e ∙ ap (λ xs. listed_all h l xs keys) old_is ∙ ap (listed_all h l base) keys_are
-    ∙ map_same (λ k. listed k (find (shares h l k) base)) (listing_of h l) (own_keys h c)
-    (λ k i. ap (λ (a : ClassId). listed k (find (shares h l k) (primary_entries (entries h l) (l.primary a)))) (sym (own_key h c k i).0))
+    ∙ map_same (λ k. listing_of_key k (find (shares h l k) base)) (listing_of h l) (own_keys h c)
+    (λ k i. ap (λ (a : ClassId). listing_of_key k (find (shares h l k) (primary_entries (entries h l) (l.primary a)))) (sym (own_key h c k i).0))
 
 -- the function of a class's own that has an entry
 
@@ -118,61 +118,61 @@ one_kind kind i = ⊎_elim (λ e. sym e) (λ j. absurd (item_none kind j)) (item
 two_kinds : (kind : CodeKind) → Item (Complete ∷ Deleting ∷ []) kind → (kind ≡ Complete) ⊎ (kind ≡ Deleting)
 two_kinds kind i = ⊎_elim (λ e. Rattle.std.proofs.Common.inl (sym e)) (λ j. ⊎_elim (λ e. Rattle.std.proofs.Common.inr (sym e)) (λ n. absurd (item_none kind n)) (item_split Deleting [] kind j)) (item_split Complete (Deleting ∷ []) kind i)
 
-one_or : (rest : Option Listing) (found : Option FunctionId) (f : FunctionId) (b c : Bool) (x : Listing) → b ≡ c → function_of x ≡ f → option_map function_of rest ≡ found → option_map function_of (if b then Some x else rest) ≡ (if c then Some f else found)
+one_or : (rest : Option Listing) (found : Option FunctionId) (f : FunctionId) (b c : Bool) (x : Listing) → b ≡ c → listing_function x ≡ f → option_map listing_function rest ≡ found → option_map listing_function (if b then Some x else rest) ≡ (if c then Some f else found)
 one_or rest found f true c x e of rec = rw (← e) (ap (λ a. Some a) of)
 one_or rest found f false c x e of rec = rw (← e) rec
 
-two_or : (rest : Option Listing) (found : Option FunctionId) (f : FunctionId) (a b c : Bool) (x y : Listing) → (a || b) ≡ c → function_of x ≡ f → function_of y ≡ f → option_map function_of rest ≡ found → option_map function_of (if a then Some x else (if b then Some y else rest)) ≡ (if c then Some f else found)
+two_or : (rest : Option Listing) (found : Option FunctionId) (f : FunctionId) (a b c : Bool) (x y : Listing) → (a || b) ≡ c → listing_function x ≡ f → listing_function y ≡ f → option_map listing_function rest ≡ found → option_map listing_function (if a then Some x else (if b then Some y else rest)) ≡ (if c then Some f else found)
 two_or rest found f true b c x y e of also rec = rw (← e) (ap (λ z. Some z) of)
 two_or rest found f false b c x y e of also rec = one_or rest found f b c y e also rec
 
 module _ (h : Classes) (l : Places) (keeps : IsHierarchy h) (are : ArePrimaries h l) where
   abbrev tests : EntryKey → FunctionId → Bool
-  tests k f = same_name h f k.function && same_key (listing h l (key f k.kind)) k
+  tests k f = same_name h f k.function && same_entry_key (listing h l (entry_key f k.kind)) k
 
   -- a key of f that has the entry passes
-  shared_passes : (f : FunctionId) (kind : CodeKind) (k : EntryKey) (s : Signature) → signature_of h f ≡ Some s → same_key (listing h l (key f kind)) k ≡ true → tests k f ≡ true
+  shared_passes : (f : FunctionId) (kind : CodeKind) (k : EntryKey) (s : Signature) → signature_of h f ≡ Some s → same_entry_key (listing h l (entry_key f kind)) k ≡ true → tests k f ≡ true
   shared_passes f kind k s is test =
-      let e = key_is (listing h l (key f kind)) k test in
-      let named_so = listing_is_named h l keeps are (key f kind) s is in
+      let e = key_is (listing h l (entry_key f kind)) k test in
+      let named_so = listing_is_named h l keeps are (entry_key f kind) s is in
       let same : same_name h f k.function ≡ true = ap (λ (a : EntryKey). same_name h f a.function) (sym e) ∙ named_so.0 in
       let kinds : kind ≡ k.kind = sym named_so.1 ∙ ap (λ (a : EntryKey). a.kind) e in
-      and_from (same_name h f k.function) (same_key (listing h l (key f k.kind)) k) same (ap (λ j. same_key (listing h l (key f j)) k) (sym kinds) ∙ test)
+      and_from (same_name h f k.function) (same_entry_key (listing h l (entry_key f k.kind)) k) same (ap (λ j. same_entry_key (listing h l (entry_key f j)) k) (sym kinds) ∙ test)
 
-  plain_passes : (f : FunctionId) (k : EntryKey) (n : List ℕ) (ts : List (Rattle.cxx_hierarchy.specs.declared.records.ValueType.ValueType ClassId)) → signature_of h f ≡ Some (named n ts) → IsOwnKey h k → same_key (listing h l (key f Plain)) k ≡ tests k f
-  plain_passes f k n ts is own_k = same_bool (same_key (listing h l (key f Plain)) k) (tests k f)
+  plain_passes : (f : FunctionId) (k : EntryKey) (n : List ℕ) (ts : List (Rattle.cxx_hierarchy.specs.declared.records.ValueType.ValueType ClassId)) → signature_of h f ≡ Some (named n ts) → IsOwnKey h k → same_entry_key (listing h l (entry_key f Plain)) k ≡ tests k f
+  plain_passes f k n ts is own_k = same_bool (same_entry_key (listing h l (entry_key f Plain)) k) (tests k f)
       (λ e. shared_passes f Plain k (named n ts) is e)
       (λ e.
-      let both = and_parts (same_name h f k.function) (same_key (listing h l (key f k.kind)) k) e in
+      let both = and_parts (same_name h f k.function) (same_entry_key (listing h l (entry_key f k.kind)) k) e in
       let kind = one_kind k.kind (same_kinds h f k (named n ts) is own_k both.0) in
-      ap (λ j. same_key (listing h l (key f j)) k) (sym kind) ∙ both.1)
+      ap (λ j. same_entry_key (listing h l (entry_key f j)) k) (sym kind) ∙ both.1)
 
-  two_pass : (f : FunctionId) (k : EntryKey) → signature_of h f ≡ Some destructor → IsOwnKey h k → (same_key (listing h l (key f Complete)) k || same_key (listing h l (key f Deleting)) k) ≡ tests k f
-  two_pass f k is own_k = same_bool (same_key (listing h l (key f Complete)) k || same_key (listing h l (key f Deleting)) k) (tests k f)
-      (λ e. split (same_key (listing h l (key f Complete)) k) (λ b. same_key (listing h l (key f Complete)) k ≡ b → (b || same_key (listing h l (key f Deleting)) k) ≡ true → tests k f ≡ true)
+  two_pass : (f : FunctionId) (k : EntryKey) → signature_of h f ≡ Some destructor → IsOwnKey h k → (same_entry_key (listing h l (entry_key f Complete)) k || same_entry_key (listing h l (entry_key f Deleting)) k) ≡ tests k f
+  two_pass f k is own_k = same_bool (same_entry_key (listing h l (entry_key f Complete)) k || same_entry_key (listing h l (entry_key f Deleting)) k) (tests k f)
+      (λ e. split (same_entry_key (listing h l (entry_key f Complete)) k) (λ b. same_entry_key (listing h l (entry_key f Complete)) k ≡ b → (b || same_entry_key (listing h l (entry_key f Deleting)) k) ≡ true → tests k f ≡ true)
       (λ t same other. shared_passes f Complete k destructor is same)
       (λ t same other. shared_passes f Deleting k destructor is other)
       refl e)
       (λ e.
-      let both = and_parts (same_name h f k.function) (same_key (listing h l (key f k.kind)) k) e in
+      let both = and_parts (same_name h f k.function) (same_entry_key (listing h l (entry_key f k.kind)) k) e in
       ⊎_elim
-      (λ kind. Rattle.abi_slots.proofs.Lists.or_left (same_key (listing h l (key f Complete)) k) (same_key (listing h l (key f Deleting)) k) (ap (λ j. same_key (listing h l (key f j)) k) (sym kind) ∙ both.1))
-      (λ kind. Rattle.abi_slots.proofs.Lists.or_right (same_key (listing h l (key f Complete)) k) (same_key (listing h l (key f Deleting)) k) (ap (λ j. same_key (listing h l (key f j)) k) (sym kind) ∙ both.1))
+      (λ kind. Rattle.abi_slots.proofs.Lists.or_left (same_entry_key (listing h l (entry_key f Complete)) k) (same_entry_key (listing h l (entry_key f Deleting)) k) (ap (λ j. same_entry_key (listing h l (entry_key f j)) k) (sym kind) ∙ both.1))
+      (λ kind. Rattle.abi_slots.proofs.Lists.or_right (same_entry_key (listing h l (entry_key f Complete)) k) (same_entry_key (listing h l (entry_key f Deleting)) k) (ap (λ j. same_entry_key (listing h l (entry_key f j)) k) (sym kind) ∙ both.1))
       (two_kinds k.kind (same_kinds h f k destructor is own_k both.0)))
 
   -- the first function whose key has the entry
-  declared_over : (k : EntryKey) → IsOwnKey h k → (fs : List FunctionId) → option_map function_of (find (has_entry k) (map (listing_of h l) (flat_map (keys_of h) fs))) ≡ find (tests k) fs
+  declared_over : (k : EntryKey) → IsOwnKey h k → (fs : List FunctionId) → option_map listing_function (find (has_entry k) (map (listing_of h l) (flat_map (keys_of h) fs))) ≡ find (tests k) fs
   declared_over k own_k [] = refl
   declared_over k own_k (f ∷ fs) = by_signature (signature_of h f) refl (declared_over k own_k fs)
     where
-      by_signature : (o : Option Signature) → signature_of h f ≡ o → option_map function_of (find (has_entry k) (map (listing_of h l) (flat_map (keys_of h) fs))) ≡ find (tests k) fs
-          → option_map function_of (find (has_entry k) (map (listing_of h l) (map (key f) (kinds_in (signature_of h f)) ++ flat_map (keys_of h) fs))) ≡ find (tests k) (f ∷ fs)
-      by_signature None is rec = let none : tests k f ≡ false = rw is refl in ap (λ a. option_map function_of (find (has_entry k) (map (listing_of h l) (map (key f) (kinds_in a) ++ flat_map (keys_of h) fs)))) is ∙ rec ∙ sym (ap (λ b. if b then Some f else find (tests k) fs) none)
-      by_signature (Some (named n ts)) is rec = ap (λ a. option_map function_of (find (has_entry k) (map (listing_of h l) (map (key f) (kinds_in a) ++ flat_map (keys_of h) fs)))) is ∙ (one_or _ (find (tests k) fs) f (same_key (listing h l (key f Plain)) k) (tests k f) (listing_of h l (key f Plain)) (plain_passes f k n ts is own_k) refl rec)
-      by_signature (Some destructor) is rec = ap (λ a. option_map function_of (find (has_entry k) (map (listing_of h l) (map (key f) (kinds_in a) ++ flat_map (keys_of h) fs)))) is ∙ (two_or _ (find (tests k) fs) f (same_key (listing h l (key f Complete)) k) (same_key (listing h l (key f Deleting)) k) (tests k f) (listing_of h l (key f Complete)) (listing_of h l (key f Deleting)) (two_pass f k is own_k) refl refl rec)
+      by_signature : (o : Option Signature) → signature_of h f ≡ o → option_map listing_function (find (has_entry k) (map (listing_of h l) (flat_map (keys_of h) fs))) ≡ find (tests k) fs
+          → option_map listing_function (find (has_entry k) (map (listing_of h l) (map (entry_key f) (kinds_in (signature_of h f)) ++ flat_map (keys_of h) fs))) ≡ find (tests k) (f ∷ fs)
+      by_signature None is rec = let none : tests k f ≡ false = rw is refl in ap (λ a. option_map listing_function (find (has_entry k) (map (listing_of h l) (map (entry_key f) (kinds_in a) ++ flat_map (keys_of h) fs)))) is ∙ rec ∙ sym (ap (λ b. if b then Some f else find (tests k) fs) none)
+      by_signature (Some (named n ts)) is rec = ap (λ a. option_map listing_function (find (has_entry k) (map (listing_of h l) (map (entry_key f) (kinds_in a) ++ flat_map (keys_of h) fs)))) is ∙ (one_or _ (find (tests k) fs) f (same_entry_key (listing h l (entry_key f Plain)) k) (tests k f) (listing_of h l (entry_key f Plain)) (plain_passes f k n ts is own_k) refl rec)
+      by_signature (Some destructor) is rec = ap (λ a. option_map listing_function (find (has_entry k) (map (listing_of h l) (map (entry_key f) (kinds_in a) ++ flat_map (keys_of h) fs)))) is ∙ (two_or _ (find (tests k) fs) f (same_entry_key (listing h l (entry_key f Complete)) k) (same_entry_key (listing h l (entry_key f Deleting)) k) (tests k f) (listing_of h l (entry_key f Complete)) (listing_of h l (entry_key f Deleting)) (two_pass f k is own_k) refl refl rec)
 
-  pub declared_are : (c : ClassId) → map (declared_in (listings_of h l c)) (entries h l c) ≡ map (declared_at h l c) (entries h l c)
-  declared_are c = map_same (declared_in (listings_of h l c)) (declared_at h l c) (entries h l c) (λ k i. declared_over k (entry_own h l c k i) (own h c))
+  pub declared_are : (c : ClassId) → map (listed_function (listings_of h l c)) (entries h l c) ≡ map (declared_at h l c) (entries h l c)
+  declared_are c = map_same (listed_function (listings_of h l c)) (declared_at h l c) (entries h l c) (λ k i. declared_over k (entry_own h l c k i) (own h c))
 
   -- the numbers of entries
 
@@ -185,7 +185,7 @@ module _ (h : Classes) (l : Places) (keeps : IsHierarchy h) (are : ArePrimaries 
       let virtual = own_virtual h keeps k.function.class k.function is.declares in
       let kinds = subst (λ o. Item (kinds_in o) k.kind) virtual.is is.kind in
       let e : k.kind ≡ first_kind (signature_of h k.function) = first_in_kinds virtual.signature k.kind kinds first ∙ ap first_kind (sym virtual.is) in
-      ap (key k.function) e
+      ap (entry_key k.function) e
 
   same_index : (c : ClassId) (f g : FunctionId) → f.class ≡ c → g.class ≡ c → f.index ≡ g.index → f ≡ g
   same_index c f g a b e = let make : ClassId → ℕ → FunctionId = λ x n. record { class = x; index = n } in let one : make f.class f.index ≡ make g.class g.index = ap (λ x. make x f.index) (a ∙ sym b) ∙ ap (make g.class) e in one

@@ -35,10 +35,10 @@ use Rattle.abi_slots.specs.declared.words.Offset.TheVariants.{ToBase, ToOverride
 use Rattle.abi_slots.specs.declared.words.Table.{Table}
 use Rattle.abi_slots.specs.declared.words.Group.{Group}
 use Rattle.cxx_overrider.specs.Virtuals.{same_name, own}
-use Rattle.abi_slots.specs.Listing.{key, same_key, kinds_in, keys_of, listing, entries, offsets, entry_number, vbase_number, vcall_number}
+use Rattle.abi_slots.specs.Listing.{entry_key, same_entry_key, kinds_in, keys_of, listing, entries, offsets, entry_number, vbase_number, vcall_number}
 use Rattle.abi_slots.specs.Views.{View, seen, place, next}
-use Rattle.abi_slots.specs.Groups.{between, this_constant, this_adjust, vcall_bytes, vcall_for, return_for, named_in, IsOffsetWord, to_base, to_overrider, declares_in, declares_at, declarer, code_word, IsEntryWord, nothing, runs, is_shared_base, IsTable, view_of, IsGroup}
-use Rattle.abi_slots.specs.Dispatch.{IsServedBy, Leads, HasOffset, LeadsOn, ThisLeads, as_it_is, by_constant, by_base, Runs, runs_pure, runs_code, Dispatches, Converts, HasTop}
+use Rattle.abi_slots.specs.Groups.{between, this_constant, this_adjust, vcall_bytes, vcall_for, return_for, named_in, IsOffsetWord, to_base, to_overrider, declares_in, declares_at, declarer, code_word, IsEntryWord, nothing, runs, is_shared_base, IsTable, view_of_group, IsGroup}
+use Rattle.abi_slots.specs.Dispatch.{IsServedBy, LeadsByDistance, HasOffset, LeadsOn, ThisLeads, as_it_is, by_constant, by_base, RunsOverrider, runs_pure, runs_code, Dispatches, LeadsToVirtualBase, HasTop}
 use Rattle.abi_slots.proofs.Lists.{Item, any_item, item_any, from_map, from_flat}
 use Rattle.abi_slots.proofs.Names.{name_is, key_is, key_itself, name_back}
 use Rattle.abi_slots.proofs.Owns.{own_class, own_virtual}
@@ -50,12 +50,12 @@ use Rattle.abi_slots.proofs.Dynamics.{dynamic_along, virtual_dynamic}
 use Rattle.foundation.proofs.Truth.{split}
 
 -- a function that a class declares at an entry
-declared_at : (h : Classes) (l : Places) (k : EntryKey) (o : Option ClassId) → declares_in h l k o ≡ true → (c : ClassId) × (o ≡ Some c) × (f : FunctionId) × Item (own h c) f × (same_name h f k.function ≡ true) × (listing h l (key f k.kind) ≡ k)
+declared_at : (h : Classes) (l : Places) (k : EntryKey) (o : Option ClassId) → declares_in h l k o ≡ true → (c : ClassId) × (o ≡ Some c) × (f : FunctionId) × Item (own h c) f × (same_name h f k.function ≡ true) × (listing h l (entry_key f k.kind) ≡ k)
 declared_at h l k None e = cc
 declared_at h l k (Some c) e =
-    let r = item_any (λ f. same_name h f k.function && same_key (listing h l (key f k.kind)) k) (own h c) e in
-    let both = and_parts (same_name h r.0 k.function) (same_key (listing h l (key r.0 k.kind)) k) r.2 in
-    (c, refl, r.0, r.1, both.0, key_is (listing h l (key r.0 k.kind)) k both.1)
+    let r = item_any (λ f. same_name h f k.function && same_entry_key (listing h l (entry_key f k.kind)) k) (own h c) e in
+    let both = and_parts (same_name h r.0 k.function) (same_entry_key (listing h l (entry_key r.0 k.kind)) k) r.2 in
+    (c, refl, r.0, r.1, both.0, key_is (listing h l (entry_key r.0 k.kind)) k both.1)
 
 -- a constant that leads where it should
 constant_leads : (h : Classes) (l : Places) (x : View) (group : Group) (s j o : Subobject) (d : ℤ) → place l x s ≡ place l x j → d ≡ pos (place l x o) -ℤ pos (place l x j) → ThisLeads h l x group s o (this_constant d)
@@ -63,19 +63,19 @@ constant_leads h l x group s j o (pos zero) same is = as_it_is (omega (arith, in
 constant_leads h l x group s j o (pos (suc n)) same is = by_constant (pos (suc n)) (omega (arith, ints))
 constant_leads h l x group s j o (negsuc n) same is = by_constant (negsuc n) (omega (arith, ints))
 
-pub leads_between : (l : Places) (x : View) (s k o : Subobject) → place l x s ≡ place l x k → Leads l x s (between l x.complete (seen x k) (seen x o)) o
+pub leads_between : (l : Places) (x : View) (s k o : Subobject) → place l x s ≡ place l x k → LeadsByDistance l x s (between l x.complete (seen x k) (seen x o)) o
 leads_between l x s k o same = omega (arith, ints)
 
-module _ (h : Classes) (l : Places) (group : Group) (of : IsGroup h l group) (set : Setting h l (view_of group of.class)) where
+module _ (h : Classes) (l : Places) (group : Group) (of : IsGroup h l group) (set : Setting h l (view_of_group group of.class)) where
   -- the table at a number of the group, and its head
-  pub table_of : (s : Subobject) (table : Table) → (at : IsServedBy h l (view_of group of.class) group s table) → IsTable h l (view_of group of.class) at.head table
+  pub table_of : (s : Subobject) (table : Table) → (at : IsServedBy h l (view_of_group group of.class) group s table) → IsTable h l (view_of_group group of.class) at.head table
   table_of s table at = of.tables.each at.number at.head table at.at_head at.at_table
 
-  pub under_of : (s : Subobject) (table : Table) → (at : IsServedBy h l (view_of group of.class) group s table) → IsUnder h l (view_of group of.class) at.head s
-  under_of s table at = (walk_under h l (view_of group of.class) set at.serves.steps at.head s at.serves.valid at.serves.leads).under
+  pub under_of : (s : Subobject) (table : Table) → (at : IsServedBy h l (view_of_group group of.class) group s table) → IsUnder h l (view_of_group group of.class) at.head s
+  under_of s table at = (walk_under h l (view_of_group group of.class) set at.serves.steps at.head s at.serves.valid at.serves.leads).under
 
   -- what is listed for a class of the chain is listed for the table, at the same number
-  listed_entry : (s : Subobject) (table : Table) (c : ClassId) → (at : IsServedBy h l (view_of group of.class) group s table) → class_of s ≡ Some c → (n : ℕ) (k : EntryKey) → slice_get (entries h l c) n ≡ Some k → slice_get (entries h l table.class) n ≡ Some k
+  listed_entry : (s : Subobject) (table : Table) (c : ClassId) → (at : IsServedBy h l (view_of_group group of.class) group s table) → class_of s ≡ Some c → (n : ℕ) (k : EntryKey) → slice_get (entries h l c) n ≡ Some k → slice_get (entries h l table.class) n ≡ Some k
   listed_entry s table c at e n k there =
       let under = under_of s table at in
       let t = table_of s table at in
@@ -83,24 +83,24 @@ module _ (h : Classes) (l : Places) (group : Group) (of : IsGroup h l group) (se
       let other : under.above ≡ table.class = same_some under.above table.class (sym under.of_above ∙ t.class) in
       subst (λ d. slice_get (entries h l d) n ≡ Some k) other (under.entries.stays n k (subst (λ d. slice_get (entries h l d) n ≡ Some k) one there))
 
-  listed_offset : (s : Subobject) (table : Table) (c : ClassId) → (at : IsServedBy h l (view_of group of.class) group s table) → class_of s ≡ Some c → (n : ℕ) (o : Offset) → slice_get (offsets h l (is_shared_base (seen (view_of group of.class) s)) c) n ≡ Some o → slice_get (offsets h l (is_shared_base (seen (view_of group of.class) at.head)) table.class) n ≡ Some o
+  listed_offset : (s : Subobject) (table : Table) (c : ClassId) → (at : IsServedBy h l (view_of_group group of.class) group s table) → class_of s ≡ Some c → (n : ℕ) (o : Offset) → slice_get (offsets h l (is_shared_base (seen (view_of_group group of.class) s)) c) n ≡ Some o → slice_get (offsets h l (is_shared_base (seen (view_of_group group of.class) at.head)) table.class) n ≡ Some o
   listed_offset s table c at e n o there =
       let under = under_of s table at in
       let t = table_of s table at in
       let one : c ≡ under.below = same_some c under.below (sym e ∙ under.of_below) in
       let other : under.above ≡ table.class = same_some under.above table.class (sym under.of_above ∙ t.class) in
-      subst (λ d. slice_get (offsets h l (is_shared_base (seen (view_of group of.class) at.head)) d) n ≡ Some o) other (under.offsets.stays n o (subst (λ d. slice_get (offsets h l (is_shared_base (seen (view_of group of.class) s)) d) n ≡ Some o) one there))
+      subst (λ d. slice_get (offsets h l (is_shared_base (seen (view_of_group group of.class) at.head)) d) n ≡ Some o) other (under.offsets.stays n o (subst (λ d. slice_get (offsets h l (is_shared_base (seen (view_of_group group of.class) s)) d) n ≡ Some o) one there))
 
   -- the word of an offset
   record HasWordOf (s : Subobject) (table : Table) (head : Subobject) (n : ℕ) (o : Offset) : Type 0 where
     word : TableWord
-    is : IsOffsetWord h l (view_of group of.class) head o word
+    is : IsOffsetWord h l (view_of_group group of.class) head o word
     has : HasOffset table n word
 
-  offset_word : (s : Subobject) (table : Table) (c : ClassId) → (at : IsServedBy h l (view_of group of.class) group s table) → class_of s ≡ Some c → (n : ℕ) (o : Offset) → slice_get (offsets h l (is_shared_base (seen (view_of group of.class) s)) c) n ≡ Some o → HasWordOf s table at.head n o
+  offset_word : (s : Subobject) (table : Table) (c : ClassId) → (at : IsServedBy h l (view_of_group group of.class) group s table) → class_of s ≡ Some c → (n : ℕ) (o : Offset) → slice_get (offsets h l (is_shared_base (seen (view_of_group group of.class) s)) c) n ≡ Some o → HasWordOf s table at.head n o
   offset_word s table c at e n o there =
       let t = table_of s table at in
-      let p = partner (IsOffsetWord h l (view_of group of.class) at.head) (offsets h l (is_shared_base (seen (view_of group of.class) at.head)) table.class) t.offset_words t.are_offsets n o (listed_offset s table c at e n o there) in
+      let p = partner (IsOffsetWord h l (view_of_group group of.class) at.head) (offsets h l (is_shared_base (seen (view_of_group group of.class) at.head)) table.class) t.offset_words t.are_offsets n o (listed_offset s table c at e n o there) in
       let lt = within t.offset_words n p.0 p.1 in
       let before = t.before in
       record {
@@ -118,13 +118,13 @@ module _ (h : Classes) (l : Places) (group : Group) (of : IsGroup h l group) (se
       within (y ∷ xs) zero w f = omega arith
       within (y ∷ xs) (suc i) w f = let r = within xs i w f in omega arith
 
-  vbase_word : (table : Table) (v : ClassId) (n : ℕ) (head : Subobject) (w : TableWord) → IsOffsetWord h l (view_of group of.class) head (ToBase v) w → HasOffset table n w → HasOffset table n (Vbase (between l (view_of group of.class).complete (seen (view_of group of.class) head) (seen (view_of group of.class) (shared_base v))) v)
+  vbase_word : (table : Table) (v : ClassId) (n : ℕ) (head : Subobject) (w : TableWord) → IsOffsetWord h l (view_of_group group of.class) head (ToBase v) w → HasOffset table n w → HasOffset table n (Vbase (between l (view_of_group group of.class).complete (seen (view_of_group group of.class) head) (seen (view_of_group group of.class) (shared_base v))) v)
   vbase_word table v n head _ (to_base u) has = has
 
   -- the vbase word of a virtual base leads there
-  pub converts : (s : Subobject) (c : ClassId) (table : Table) (v : ClassId) → IsSubobject h of.class s → class_of s ≡ Some c → HasVirtualBase h c v → IsServedBy h l (view_of group of.class) group s table → Converts h l (view_of group of.class) s c table v
+  pub converts : (s : Subobject) (c : ClassId) (table : Table) (v : ClassId) → IsSubobject h of.class s → class_of s ≡ Some c → HasVirtualBase h c v → IsServedBy h l (view_of_group group of.class) group s table → LeadsToVirtualBase h l (view_of_group group of.class) s c table v
   converts s c table v valid e has at =
-      let x = view_of group of.class in
+      let x = view_of_group group of.class in
       let there = vbase_there h l set.keeps set.primaries (is_shared_base (seen x s)) c v (known h l x set c s valid e) has in
       let w = offset_word s table c at e (vbase_number h l c v) (ToBase v) there in
       record {
@@ -133,9 +133,9 @@ module _ (h : Classes) (l : Places) (group : Group) (of : IsGroup h l group) (se
         leads = leads_between l x s at.head (shared_base v) (under_of s table at).same_place;
       }
 
-  pub has_top : (s : Subobject) (table : Table) → IsServedBy h l (view_of group of.class) group s table → HasTop l (view_of group of.class) s table
+  pub has_top : (s : Subobject) (table : Table) → IsServedBy h l (view_of_group group of.class) group s table → HasTop l (view_of_group group of.class) s table
   has_top s table at =
-      let x = view_of group of.class in
+      let x = view_of_group group of.class in
       let t = table_of s table at in
       let before = t.before in
       record {
@@ -147,17 +147,17 @@ module _ (h : Classes) (l : Places) (group : Group) (of : IsGroup h l group) (se
         info = info_at table.words t.offset_words t.entry_words _ _ t.words;
       }
 
-module _ (h : Classes) (l : Places) (group : Group) (of : IsGroup h l group) (set : Setting h l (view_of group of.class)) (fine : HasNoFault h) where
+module _ (h : Classes) (l : Places) (group : Group) (of : IsGroup h l group) (set : Setting h l (view_of_group group of.class)) (fine : HasNoFault h) where
   abbrev here : View
-  here = view_of group of.class
+  here = view_of_group group of.class
 
   -- what the vcall word says, with the overrider of the function for which it is listed
   record IsCallWord (table : Table) (n : ℕ) (head : Subobject) (path : List ClassId) (f : FunctionId) : Type 0 where
     overrider : Overrider
     final : IsFinalOverrider h of.class (named_in of.class path) f overrider
-    has : HasOffset table n (Vcall (between l (view_of group of.class).complete (seen (view_of group of.class) head) (seen (view_of group of.class) overrider.at)) f)
+    has : HasOffset table n (Vcall (between l (view_of_group group of.class).complete (seen (view_of_group group of.class) head) (seen (view_of_group group of.class) overrider.at)) f)
 
-  call_word : (table : Table) (path : List ClassId) (f : FunctionId) (n : ℕ) (head : Subobject) (w : TableWord) → IsOffsetWord h l (view_of group of.class) head (ToOverrider path f) w → HasOffset table n w → IsCallWord table n head path f
+  call_word : (table : Table) (path : List ClassId) (f : FunctionId) (n : ℕ) (head : Subobject) (w : TableWord) → IsOffsetWord h l (view_of_group group of.class) head (ToOverrider path f) w → HasOffset table n w → IsCallWord table n head path f
   call_word table path f n head _ (to_overrider p g o final) has = record { overrider = o; final = final; has = has }
 
   named_shared : (u : ClassId) (path : List ClassId) → u.0 < of.class.0 → named_in of.class (u ∷ path) ≡ subobject (Shared u) (u ∷ path)
@@ -188,7 +188,7 @@ module _ (h : Classes) (l : Places) (group : Group) (of : IsGroup h l group) (se
       }
 
   -- the vcall word of a name in each table that serves a virtual base of the view
-  leads_on : (v : ClassId) (j : Subobject) (f : FunctionId) (o : Overrider) → HasVirtualBase h of.class v → IsFinalOverrider h of.class j f o → IsInside h o.at (shared_base v) → HasCall h l v f → LeadsOn h l (view_of group of.class) group v (vcall_number h l v f) o.at
+  leads_on : (v : ClassId) (j : Subobject) (f : FunctionId) (o : Overrider) → HasVirtualBase h of.class v → IsFinalOverrider h of.class j f o → IsInside h o.at (shared_base v) → HasCall h l v f → LeadsOn h l (view_of_group group of.class) group v (vcall_number h l v f) o.at
   leads_on v j f o base final over k = record {
     distance = pos (place l here o.at) -ℤ pos (place l here (shared_base v));
     leads = omega (arith, ints);
@@ -241,13 +241,13 @@ module _ (h : Classes) (l : Places) (group : Group) (of : IsGroup h l group) (se
   run_of head k j _ e (nothing none) = absurd (let a = e in let b = none in cc)
   run_of head k j _ e (runs i o is final) = record { declares = i; overrider = o; is = is; final = final; same = refl }
 
-  code_runs : (s j : Subobject) (k old : EntryKey) (o : Overrider) → old ≡ listing h l k → old.kind ≡ k.kind → ThisLeads h l here group s o.at (this_adjust l here.complete (seen here j) (seen here o.at) (vcall_for h l old.function j o.at)) → Runs h l here group s k o (code_word h l here old j o)
+  code_runs : (s j : Subobject) (k old : EntryKey) (o : Overrider) → old ≡ listing h l k → old.kind ≡ k.kind → ThisLeads h l here group s o.at (this_adjust l here.complete (seen here j) (seen here o.at) (vcall_for h l old.function j o.at)) → RunsOverrider h l here group s k o (code_word h l here old j o)
   code_runs s j k old o is kind leads = split (is_pure h o.function)
-      (λ b. is_pure h o.function ≡ b → Runs h l here group s k o (if b then Pure o.function else Code o.function old.kind (this_adjust l here.complete (seen here j) (seen here o.at) (vcall_for h l old.function j o.at)) (return_for h l o.function old.function)))
+      (λ b. is_pure h o.function ≡ b → RunsOverrider h l here group s k o (if b then Pure o.function else Code o.function old.kind (this_adjust l here.complete (seen here j) (seen here o.at) (vcall_for h l old.function j o.at)) (return_for h l o.function old.function)))
       (λ t pure. runs_pure pure)
       (λ t code.
-      subst (λ (a : CodeKind). Runs h l here group s k o (Code o.function a (this_adjust l here.complete (seen here j) (seen here o.at) (vcall_for h l old.function j o.at)) (return_for h l o.function old.function))) (sym kind)
-      (subst (λ (a : EntryKey). Runs h l here group s k o (Code o.function k.kind (this_adjust l here.complete (seen here j) (seen here o.at) (vcall_for h l old.function j o.at)) (return_for h l o.function a.function))) (sym is)
+      subst (λ (a : CodeKind). RunsOverrider h l here group s k o (Code o.function a (this_adjust l here.complete (seen here j) (seen here o.at) (vcall_for h l old.function j o.at)) (return_for h l o.function old.function))) (sym kind)
+      (subst (λ (a : EntryKey). RunsOverrider h l here group s k o (Code o.function k.kind (this_adjust l here.complete (seen here j) (seen here o.at) (vcall_for h l old.function j o.at)) (return_for h l o.function a.function))) (sym is)
       (runs_code (this_adjust l here.complete (seen here j) (seen here o.at) (vcall_for h l old.function j o.at)) code leads)))
       refl
 
@@ -260,7 +260,7 @@ module _ (h : Classes) (l : Places) (group : Group) (of : IsGroup h l group) (se
   own_key : (c : ClassId) (k : EntryKey) → Item (flat_map (keys_of h) (own h c)) k → IsOwnKey c k
   own_key c k i =
       let r = from_flat (keys_of h) (own h c) k i in
-      let m = from_map (key r.0) (kinds_in (signature_of h r.0)) k r.2 in
+      let m = from_map (entry_key r.0) (kinds_in (signature_of h r.0)) k r.2 in
       let same : r.0 ≡ k.function = ap (λ (a : EntryKey). a.function) m.2 in
       let declares : Item (own h c) k.function = subst (λ a. Item (own h c) a) same r.1 in
       let class = own_class h c k.function declares in
@@ -287,7 +287,7 @@ module _ (h : Classes) (l : Places) (group : Group) (of : IsGroup h l group) (se
         final = same_final h set.keeps fine of.class j s old.function k.function run.overrider final is_virtual (inside_through h run.overrider.at j s final.left.candidate.contains down.inside) (name_is h k.function old.function named);
         word = p.0;
         there = subst (λ n. slice_get table.words (n + entry_number h l k) ≡ Some (Entry p.0)) (sym before) (entry_at table.words t.offset_words t.entry_words _ _ t.words (entry_number h l k) p.0 p.1);
-        runs = subst (λ a. Runs h l here group s k run.overrider a) (sym (run.same ∙ ap (λ a. code_word h l here old a run.overrider) one)) (code_runs s j k old run.overrider is kind leads);
+        runs = subst (λ a. RunsOverrider h l here group s k run.overrider a) (sym (run.same ∙ ap (λ a. code_word h l here old a run.overrider) one)) (code_runs s j k old run.overrider is kind leads);
       }
 
   -- the word of a function's entry, in the table that serves a subobject whose class declares it
@@ -298,10 +298,10 @@ module _ (h : Classes) (l : Places) (group : Group) (of : IsGroup h l group) (se
       let named = listing_is_named h l set.keeps set.primaries k sig.signature sig.is in
       let old = listing h l k in
       let there : slice_get (entries h l c) (entry_number h l k) ≡ Some old = subst (λ a. slice_get (entries h l a) (entry_number h l k) ≡ Some old) mine.class (entry_there h l set.keeps set.primaries k (subst (λ (a : ClassId). a.0 < length h) (sym mine.class) (known h l here set c s valid e)) mine.listed) in
-      let same : key k.function old.kind ≡ k = ap (key k.function) named.1 in
+      let same : entry_key k.function old.kind ≡ k = ap (entry_key k.function) named.1 in
       let test : declares_at h l old s ≡ true = subst (λ a. declares_in h l old a ≡ true) (sym e)
-      (any_item (λ f. same_name h f old.function && same_key (listing h l (key f old.kind)) old) (own h c) k.function mine.declares
-      (and_from (same_name h k.function old.function) (same_key (listing h l (key k.function old.kind)) old) named.0 (subst (λ a. same_key (listing h l a) old ≡ true) (sym same) (key_itself old)))) in
+      (any_item (λ f. same_name h f old.function && same_entry_key (listing h l (entry_key f old.kind)) old) (own h c) k.function mine.declares
+      (and_from (same_name h k.function old.function) (same_entry_key (listing h l (entry_key k.function old.kind)) old) named.0 (subst (λ a. same_entry_key (listing h l a) old ≡ true) (sym same) (key_itself old)))) in
       let walked = walk_under h l here set at.serves.steps at.head s at.serves.valid at.serves.leads in
       let bound = class_low h set.keeps of.class walked.under.above at.head at.serves.valid walked.under.of_above in
       let far = walked.less walked.under.above walked.under.below walked.under.of_above walked.under.of_below in

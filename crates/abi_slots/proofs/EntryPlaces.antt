@@ -7,7 +7,7 @@ use Rattle.std.proofs.lemmas.List.{take_more}
 use Rattle.std.proofs.lemmas.Option.{slice_get_within, slice_get-get_or, get_or_from_slice_get}
 use Rattle.abi_slots.specs.declared.words.EntryKey.{EntryKey}
 use Rattle.abi_slots.specs.declared.entries.Listing.{Listing}
-use Rattle.abi_slots.specs.Listing.{same_key, place_in}
+use Rattle.abi_slots.specs.Listing.{same_entry_key, first_position}
 use Rattle.abi_slots.specs.Rows.{is_first, with_entry, AreEntryNumbers, HaveOneEntry}
 use Rattle.abi_slots.proofs.Lists.{Item, item_none, item_split, item_cases}
 use Rattle.foundation.proofs.Truth.{split}
@@ -15,29 +15,29 @@ use Rattle.foundation.proofs.Members.{Has}
 
 -- the first place at which a test passes
 
-same_place : {A : Type 0} (p : A → Bool) (xs : List A) → place_in p xs ≡ position_or_len p xs
+same_place : {A : Type 0} (p : A → Bool) (xs : List A) → first_position p xs ≡ position_or_len p xs
 same_place p [] = refl
-same_place p (x ∷ xs) = split (p x) (λ b. p x ≡ b → place_in p (x ∷ xs) ≡ position_or_len p (x ∷ xs))
+same_place p (x ∷ xs) = split (p x) (λ b. p x ≡ b → first_position p (x ∷ xs) ≡ position_or_len p (x ∷ xs))
     (λ t same. rw same refl)
     (λ t same. let rest = same_place p xs in let one : suc (position_or_len p xs) ≡ 1 + position_or_len p xs = omega arith in rw same (ap suc rest ∙ one))
     refl
 
-pub place_within : {A : Type 0} (p : A → Bool) (xs : List A) → place_in p xs ≤ length xs
+pub place_within : {A : Type 0} (p : A → Bool) (xs : List A) → first_position p xs ≤ length xs
 place_within p [] = omega arith
-place_within p (x ∷ xs) = split (p x) (λ b. (if b then 0 else suc (place_in p xs)) ≤ suc (length xs)) (λ t. omega arith) (λ t. let rest = place_within p xs in omega arith)
+place_within p (x ∷ xs) = split (p x) (λ b. (if b then 0 else suc (first_position p xs)) ≤ suc (length xs)) (λ t. omega arith) (λ t. let rest = place_within p xs in omega arith)
 
-pub place_none : {A : Type 0} (p : A → Bool) (xs : List A) → ((x : A) → Has xs x → p x ≡ false) → place_in p xs ≡ length xs
+pub place_none : {A : Type 0} (p : A → Bool) (xs : List A) → ((x : A) → Has xs x → p x ≡ false) → first_position p xs ≡ length xs
 place_none p [] none = refl
-place_none p (x ∷ xs) none = ap (λ b. if b then 0 else suc (place_in p xs)) (none x (inl refl)) ∙ ap suc (place_none p xs (λ y has. none y (inr has)))
+place_none p (x ∷ xs) none = ap (λ b. if b then 0 else suc (first_position p xs)) (none x (inl refl)) ∙ ap suc (place_none p xs (λ y has. none y (inr has)))
 
-pub place_found : {A : Type 0} (p : A → Bool) (xs : List A) (n : ℕ) → position p xs ≡ Some n → n ≡ place_in p xs
-place_found p xs n at = split (Rattle.std.proofs.Math.Dec.ltb (position_or_len p xs) (length xs)) (λ b. Rattle.std.proofs.Math.Dec.ltb (position_or_len p xs) (length xs) ≡ b → n ≡ place_in p xs)
+pub place_found : {A : Type 0} (p : A → Bool) (xs : List A) (n : ℕ) → position p xs ≡ Some n → n ≡ first_position p xs
+place_found p xs n at = split (Rattle.std.proofs.Math.Dec.ltb (position_or_len p xs) (length xs)) (λ b. Rattle.std.proofs.Math.Dec.ltb (position_or_len p xs) (length xs) ≡ b → n ≡ first_position p xs)
     (λ t same. let e : Some (position_or_len p xs) ≡ Some n = ap (λ b. if b then Some (position_or_len p xs) else None) (sym same) ∙ at in let f : position_or_len p xs ≡ n = cc in sym f ∙ sym (same_place p xs))
     (λ t same. let e : None ≡ Some n = ap (λ b. if b then Some (position_or_len p xs) else None) (sym same) ∙ at in absurd (cc))
     refl
 
-pub place_missing : {A : Type 0} (p : A → Bool) (xs : List A) → position p xs ≡ None → length xs ≡ place_in p xs
-place_missing p xs at = split (Rattle.std.proofs.Math.Dec.ltb (position_or_len p xs) (length xs)) (λ b. Rattle.std.proofs.Math.Dec.ltb (position_or_len p xs) (length xs) ≡ b → length xs ≡ place_in p xs)
+pub place_missing : {A : Type 0} (p : A → Bool) (xs : List A) → position p xs ≡ None → length xs ≡ first_position p xs
+place_missing p xs at = split (Rattle.std.proofs.Math.Dec.ltb (position_or_len p xs) (length xs)) (λ b. Rattle.std.proofs.Math.Dec.ltb (position_or_len p xs) (length xs) ≡ b → length xs ≡ first_position p xs)
     (λ t same. let e : Some (position_or_len p xs) ≡ None = ap (λ b. if b then Some (position_or_len p xs) else None) (sym same) ∙ at in absurd (cc))
     (λ t same. let past = ltb-false (position_or_len p xs) (length xs) same in let low = place_within p xs in let one = same_place p xs in omega arith)
     refl
@@ -55,27 +55,27 @@ set_away words i j w v away at =
     slice_get-get_or (set words i w) j 0 (omega arith) ∙ ap (λ a. Some a) (get_or-set_other words i j w 0 away ∙ get_or_from_slice_get words j v 0 at)
 
 pub with_entry_size : (entries : List EntryKey) (numbers : List ℕ) (x : Listing) → length (with_entry entries numbers x) ≡ length numbers
-with_entry_size entries numbers x = split (is_first x.key.kind) (λ b. length (if b then set numbers x.key.function.index (place_in (same_key x.entry) entries) else numbers) ≡ length numbers) (λ t. length-set numbers x.key.function.index (place_in (same_key x.entry) entries)) (λ t. refl)
+with_entry_size entries numbers x = split (is_first x.key.kind) (λ b. length (if b then set numbers x.key.function.index (first_position (same_entry_key x.entry) entries) else numbers) ≡ length numbers) (λ t. length-set numbers x.key.function.index (first_position (same_entry_key x.entry) entries)) (λ t. refl)
 
 -- one more key
 numbers_more : (entries : List EntryKey) (xs : List Listing) (numbers : List ℕ) (x : Listing) → AreEntryNumbers entries xs numbers → x.key.function.index < length numbers
     → ((y : Listing) → Item xs y → is_first y.key.kind ≡ true → is_first x.key.kind ≡ true → y.key.function.index ≡ x.key.function.index → y.entry ≡ x.entry) → AreEntryNumbers entries (xs ++ x ∷ []) (with_entry entries numbers x)
-numbers_more entries xs numbers x are lt one = split (is_first x.key.kind) (λ b. is_first x.key.kind ≡ b → AreEntryNumbers entries (xs ++ x ∷ []) (if b then set numbers x.key.function.index (place_in (same_key x.entry) entries) else numbers))
+numbers_more entries xs numbers x are lt one = split (is_first x.key.kind) (λ b. is_first x.key.kind ≡ b → AreEntryNumbers entries (xs ++ x ∷ []) (if b then set numbers x.key.function.index (first_position (same_entry_key x.entry) entries) else numbers))
     (λ t kind. record {
       each = λ j y at first.
           let i = x.key.function.index in
-          let w = place_in (same_key x.entry) entries in
+          let w = first_position (same_entry_key x.entry) entries in
           ⊎_elim
           (λ (there : Item xs y).
           let old = are.each there.index y there.there first in
-          split (Rattle.std.proofs.Math.Dec.eqb y.key.function.index i) (λ b. Rattle.std.proofs.Math.Dec.eqb y.key.function.index i ≡ b → slice_get (set numbers i w) y.key.function.index ≡ Some (place_in (same_key y.entry) entries))
+          split (Rattle.std.proofs.Math.Dec.eqb y.key.function.index i) (λ b. Rattle.std.proofs.Math.Dec.eqb y.key.function.index i ≡ b → slice_get (set numbers i w) y.key.function.index ≡ Some (first_position (same_entry_key y.entry) entries))
           (λ u same.
           let e = eqb-true y.key.function.index i same in
           let entry = one y there first kind e in
-          ap (slice_get (set numbers i w)) e ∙ set_there numbers i w lt ∙ ap (λ k. Some (place_in (same_key k) entries)) (sym entry))
+          ap (slice_get (set numbers i w)) e ∙ set_there numbers i w lt ∙ ap (λ k. Some (first_position (same_entry_key k) entries)) (sym entry))
           (λ u same. set_away numbers i y.key.function.index w _ (λ e. let f = eq-eqb y.key.function.index i e in cc) old)
           refl)
-          (λ (last : Item (x ∷ []) y). ⊎_elim (λ (e : x ≡ y). subst (λ (z : Listing). slice_get (set numbers i w) z.key.function.index ≡ Some (place_in (same_key z.entry) entries)) e (set_there numbers i w lt)) (λ none. absurd (item_none y none)) (item_split x [] y last))
+          (λ (last : Item (x ∷ []) y). ⊎_elim (λ (e : x ≡ y). subst (λ (z : Listing). slice_get (set numbers i w) z.key.function.index ≡ Some (first_position (same_entry_key z.entry) entries)) e (set_there numbers i w lt)) (λ none. absurd (item_none y none)) (item_split x [] y last))
           (item_cases xs (x ∷ []) y (record { index = j; there = at }));
     })
     (λ t kind. record {

@@ -6,7 +6,7 @@ use Rattle.abi_sound.specs.Places.{Places}
 use Rattle.abi_slots.specs.declared.words.EntryKey.{EntryKey}
 use Rattle.abi_slots.specs.declared.entries.Listing.{Listing}
 use Rattle.abi_slots.specs.Listing.{shares, new_entries}
-use Rattle.abi_slots.specs.Rows.{listed, listed_all, own_part}
+use Rattle.abi_slots.specs.Rows.{listing_of_key, listed_all, own_part}
 use Rattle.abi_slots.proofs.Lists.{found_passes, none_found, any_item}
 use Rattle.abi_slots.proofs.Loops.{pushed_more}
 use Rattle.foundation.proofs.Places.{any_default}
@@ -25,7 +25,7 @@ pub entry_step : (h : Classes) (l : Places) (old keys : List EntryKey) (i : ℕ)
     done ++ new_entries h l old (drop i keys) ≡ all → new ++ new_entries h l old (drop (i + 1) keys) ≡ all
 entry_step h l old keys i d shared done new all lt is e inv = pushed_at (new_entries h l old) keys i d (own_part (get_or keys i d) shared) done new all lt (entry_opens h l old (get_or keys i d) (drop (i + 1) keys) shared (sym is)) e inv
 
-pub listed_step : (h : Classes) (l : Places) (old keys : List EntryKey) (i : ℕ) (d : EntryKey) (shared : Option EntryKey) (done new all : List Listing) → i < length keys → shared ≡ find (shares h l (get_or keys i d)) old → new ≡ done ++ listed (get_or keys i d) shared ∷ [] →
+pub listed_step : (h : Classes) (l : Places) (old keys : List EntryKey) (i : ℕ) (d : EntryKey) (shared : Option EntryKey) (done new all : List Listing) → i < length keys → shared ≡ find (shares h l (get_or keys i d)) old → new ≡ done ++ listing_of_key (get_or keys i d) shared ∷ [] →
     done ++ listed_all h l old (drop i keys) ≡ all → new ++ listed_all h l old (drop (i + 1) keys) ≡ all
 listed_step h l old keys i d shared done new all lt is e inv =
-    pushed_at (listed_all h l old) keys i d (listed (get_or keys i d) shared ∷ []) done new all lt (ap (λ s. listed (get_or keys i d) s ∷ listed_all h l old (drop (i + 1) keys)) (sym is)) e inv
+    pushed_at (listed_all h l old) keys i d (listing_of_key (get_or keys i d) shared ∷ []) done new all lt (ap (λ s. listing_of_key (get_or keys i d) s ∷ listed_all h l old (drop (i + 1) keys)) (sym is)) e inv

@@ -18,9 +18,9 @@ use Rattle.abi_sound.specs.Places.{Places}
 use Rattle.abi_slots.specs.declared.words.Table.{Table}
 use Rattle.abi_slots.specs.declared.words.Group.{Group}
 use Rattle.cxx_subobject.specs.VirtualBases.{virtual_bases}
-use Rattle.abi_slots.specs.Listing.{is_shared_root}
-use Rattle.abi_slots.specs.Views.{View, is_some, next, says_virtual, class_says, is_dynamic, is_dynamic_class, is_first, is_head, of_root, by_part, heads, walk, Serves}
-use Rattle.abi_slots.specs.Groups.{IsTable, view_of, IsGroup}
+use Rattle.abi_slots.specs.Listing.{is_virtual_root}
+use Rattle.abi_slots.specs.Views.{View, is_some, next, declares_virtual_function, class_says, is_dynamic, is_dynamic_class, is_first, is_head, of_root, by_part, heads, along_chain, Serves}
+use Rattle.abi_slots.specs.Groups.{IsTable, view_of_group, IsGroup}
 use Rattle.abi_slots.specs.Dispatch.{IsServedBy}
 use Rattle.abi_slots.proofs.Lists.{Item, item_left, item_right, item_flat, item_filter, any_item, item_any}
 use Rattle.abi_slots.proofs.Bases.{preorder_item, item_preorder, virtual_item}
@@ -34,7 +34,7 @@ use Rattle.abi_primary.proofs.KindLemmas.{base_dynamic}
 -- a subobject for which a class is dynamic
 record IsDynamicPart (h : Classes) (c : ClassId) (s : Subobject) : Type 0 where
   valid : IsSubobject h c s
-  says : (is_shared_root s.root || class_says h (class_of s)) ≡ true
+  says : (is_virtual_root s.root || class_says h (class_of s)) ≡ true
 
 in_base : (h : Classes) (c b : ClassId) → IsDirectBase h c false b → (s : Subobject) → IsDynamicPart h b s → IsDynamicPart h c (join (subobject Whole (c ∷ b ∷ [])) s)
 in_base h c b edge s part =
@@ -42,33 +42,33 @@ in_base h c b edge s part =
     let class = join_class h b (subobject Whole (c ∷ b ∷ [])) s refl part.valid in
     record { valid = join_valid h c b (subobject Whole (c ∷ b ∷ [])) s outer refl part.valid; says = by_valid s part.valid part.says class }
   where
-    by_valid : (s : Subobject) → IsSubobject h b s → (is_shared_root s.root || class_says h (class_of s)) ≡ true → class_of (join (subobject Whole (c ∷ b ∷ [])) s) ≡ class_of s → (is_shared_root (join (subobject Whole (c ∷ b ∷ [])) s).root || class_says h (class_of (join (subobject Whole (c ∷ b ∷ [])) s))) ≡ true
+    by_valid : (s : Subobject) → IsSubobject h b s → (is_virtual_root s.root || class_says h (class_of s)) ≡ true → class_of (join (subobject Whole (c ∷ b ∷ [])) s) ≡ class_of s → (is_virtual_root (join (subobject Whole (c ∷ b ∷ [])) s).root || class_says h (class_of (join (subobject Whole (c ∷ b ∷ [])) s))) ≡ true
     by_valid _ (whole path l) says class = subst (λ o. class_says h o ≡ true) (sym class) says
     by_valid _ (shared v path has l) says class = refl
 
 dynamic_part : (h : Classes) (c : ClassId) → IsDynamic h c → (s : Subobject) × IsDynamicPart h c s
-dynamic_part h _ (declares c class e says) = (whole_of c, record { valid = whole [] tt; says = subst (λ o. says_virtual o ≡ true) (sym e) says })
+dynamic_part h _ (declares c class e says) = (whole_of c, record { valid = whole [] tt; says = subst (λ o. declares_virtual_function o ≡ true) (sym e) says })
 dynamic_part h _ (shares c b edge) = (shared_base b, record { valid = shared b [] (direct c b edge) tt; says = refl })
 dynamic_part h _ (inherits c b true edge dyn) = (shared_base b, record { valid = shared b [] (direct c b edge) tt; says = refl })
 dynamic_part h _ (inherits c b false edge dyn) = let r = dynamic_part h b dyn in (join (subobject Whole (c ∷ b ∷ [])) r.0, in_base h c b edge r.0 r.1)
 
 pub dynamic_test : (h : Classes) → IsHierarchy h → (c : ClassId) → IsDynamic h c → is_dynamic h c ≡ true
-dynamic_test h keeps c dyn = let r = dynamic_part h c dyn in any_item (λ (s : Subobject). is_shared_root s.root || class_says h (class_of s)) (preorder h c) r.0 (preorder_item h keeps c r.0 r.1.valid) r.1.says
+dynamic_test h keeps c dyn = let r = dynamic_part h c dyn in any_item (λ (s : Subobject). is_virtual_root s.root || class_says h (class_of s)) (preorder h c) r.0 (preorder_item h keeps c r.0 r.1.valid) r.1.says
 
 said_class : (h : Classes) (o : Option ClassId) → class_says h o ≡ true → (d : ClassId) × (o ≡ Some d) × IsDynamic h d
 said_class h None e = cc
 said_class h (Some d) e = (d, refl, by_class (class_at h d) refl e)
   where
-    by_class : (o : Option Class) → class_at h d ≡ o → says_virtual o ≡ true → IsDynamic h d
+    by_class : (o : Option Class) → class_at h d ≡ o → declares_virtual_function o ≡ true → IsDynamic h d
     by_class None is f = cc
     by_class (Some class) is f = declares d class is f
 
 pub test_dynamic : (h : Classes) → IsHierarchy h → (c : ClassId) → is_dynamic h c ≡ true → IsDynamic h c
 test_dynamic h keeps c e =
-    let r = item_any (λ (s : Subobject). is_shared_root s.root || class_says h (class_of s)) (preorder h c) e in
+    let r = item_any (λ (s : Subobject). is_virtual_root s.root || class_says h (class_of s)) (preorder h c) e in
     by_valid r.0 (item_preorder h keeps c r.0 r.1) r.2
   where
-    by_valid : (s : Subobject) → IsSubobject h c s → (is_shared_root s.root || class_says h (class_of s)) ≡ true → IsDynamic h c
+    by_valid : (s : Subobject) → IsSubobject h c s → (is_virtual_root s.root || class_says h (class_of s)) ≡ true → IsDynamic h c
     by_valid _ (whole path l) says = let d = said_class h (class_of (subobject Whole (c ∷ path))) says in dynamic_whole h c d.0 (subobject Whole (c ∷ path)) (whole path l) d.1 d.2
     by_valid _ (shared v path has l) says = base_dynamic h c v has
 
@@ -81,14 +81,14 @@ part_item h keeps c s valid = by_valid s valid (preorder_item h keeps c s valid)
     by_valid _ (shared v path has l) i = item_right (of_root Whole (preorder h c)) (flat_map (λ u. of_root (Shared u) (preorder h c)) (virtual_bases h c)) _
         (item_flat (λ u. of_root (Shared u) (preorder h c)) (virtual_bases h c) v _ (virtual_item h keeps c v has) (item_filter (λ (t : Subobject). same_root (Shared v) t.root) (preorder h c) _ i (root_itself (Shared v))))
 
-walk_more : (go : Subobject → Option Subobject) (i : ℕ) (t u s : Subobject) → walk go i (Some t) ≡ Some u → go u ≡ Some s → walk go (suc i) (Some t) ≡ Some s
+walk_more : (go : Subobject → Option Subobject) (i : ℕ) (t u s : Subobject) → along_chain go i (Some t) ≡ Some u → go u ≡ Some s → along_chain go (suc i) (Some t) ≡ Some s
 walk_more go zero t u s e f = let same : t ≡ u = same_some t u e in subst (λ a. go a ≡ Some s) (sym same) f
 walk_more go (suc i) t u s e f = by_next (go t) e (λ v there. walk_more go i v u s there f)
   where
-    by_next : (o : Option Subobject) → walk go i o ≡ Some u → ((v : Subobject) → walk go i (Some v) ≡ Some u → walk go (suc i) (Some v) ≡ Some s) → walk go (suc i) o ≡ Some s
+    by_next : (o : Option Subobject) → along_chain go i o ≡ Some u → ((v : Subobject) → along_chain go i (Some v) ≡ Some u → along_chain go (suc i) (Some v) ≡ Some s) → along_chain go (suc i) o ≡ Some s
     by_next None there rest = absurd (none i there)
       where
-        none : (j : ℕ) → walk go j None ≡ Some u → ⊥
+        none : (j : ℕ) → along_chain go j None ≡ Some u → ⊥
         none zero g = cc
         none (suc j) g = cc
     by_next (Some v) there rest = rest v there
@@ -151,9 +151,9 @@ module _ (h : Classes) (l : Places) (x : View) (set : Setting h l x) where
   some_head s d valid e dyn = climb x.class.0 s d valid e dyn (omega arith)
 
 -- a table of the group serves it
-pub some_table : (h : Classes) (l : Places) (group : Group) (of : IsGroup h l group) (set : Setting h l (view_of group of.class)) (s : Subobject) (d : ClassId) → IsSubobject h of.class s → class_of s ≡ Some d → IsDynamic h d → (table : Table) × IsServedBy h l (view_of group of.class) group s table
+pub some_table : (h : Classes) (l : Places) (group : Group) (of : IsGroup h l group) (set : Setting h l (view_of_group group of.class)) (s : Subobject) (d : ClassId) → IsSubobject h of.class s → class_of s ≡ Some d → IsDynamic h d → (table : Table) × IsServedBy h l (view_of_group group of.class) group s table
 some_table h l group of set s d valid e dyn =
-    let x = view_of group of.class in
+    let x = view_of_group group of.class in
     let r = some_head h l x set s d valid e dyn in
     let listed = item_filter (is_head h l x) (by_part h of.class) r.0 (part_item h set.keeps of.class r.0 r.1.valid) r.1.head in
     let p = partner (IsTable h l x) (heads h l x) group.tables of.tables listed.index r.0 listed.there in

@@ -1,7 +1,7 @@
 -- What the readers of an image find of tables and type information.
 use Rattle.std.proofs.Common.{◌≡◌, ℕ, ◌+◌, true, Option, Some, None, List, length, sym, ℤ}
 use Rattle.byte_code.specs.Numbers.{IsInBytes, word_of}
-use Rattle.byte_code.specs.Records.{HasSigned, IsBaseAt, IsEntryAt, IsInfoAt, IsThunkAt, nothing, not_zero, runs as runs_at}
+use Rattle.byte_code.specs.Records.{HasSigned, HasBaseRecord, IsEntryAt, IsInfoAt, IsThunkAt, nothing, not_zero, runs as runs_at}
 use Rattle.byte_code.proofs.Words.{signed_of-low_of}
 use Rattle.cxx_hierarchy.specs.declared.records.ClassId.{ClassId}
 use Rattle.cxx_overrider.specs.declared.FunctionId.{FunctionId}
@@ -13,7 +13,7 @@ use Rattle.abi_slots.specs.declared.words.ReturnAdjust.{ReturnAdjust}
 use Rattle.abi_slots.specs.declared.words.ThisAdjust.{ThisAdjust}
 use Rattle.abi_slots.specs.declared.words.TypeInfo.{TypeInfo}
 use Rattle.abi_slots.specs.CodeRows.{block_kind, code_of}
-use Rattle.abi_slots.specs.Images.{HasBase, HasEntry, HasInfo, HasNumber, HasThunk, Image, IsThunk, info_bases, info_flags, pure, return_constant, return_vbase, runs, this_constant, this_vcall, unused}
+use Rattle.abi_slots.specs.Images.{HasBaseWords, HasEntry, HasInfo, HasNumber, HasThunk, Image, IsThunk, info_bases, info_flags, pure, return_constant, return_vbase, runs, this_constant, this_vcall, unused}
 
 -- the record that is read of an entry which runs code
 pub record ReadsCode (image : Image) (codes : List CodeRow) (at : ℕ) (f : FunctionId) (kind : CodeKind) (this : Option ThisAdjust) (result : Option ReturnAdjust) : Type 0 where
@@ -60,5 +60,5 @@ info_reads image info c type_info at has = record {
   first = has.at_first;
 }
 
-pub base_reads : (image : Image) (info : ClassId → ℕ) (base : InfoBase) (at : ℕ) → IsInBytes 8 true base.offset_flags → HasBase image info base at → IsBaseAt image at (record { info = info base.class; offset_flags = base.offset_flags })
+pub base_reads : (image : Image) (info : ClassId → ℕ) (base : InfoBase) (at : ℕ) → IsInBytes 8 true base.offset_flags → HasBaseWords image info base at → HasBaseRecord image at (record { info = info base.class; offset_flags = base.offset_flags })
 base_reads image info base at fits has = record { info = has.class; offset_flags = number_reads image (at + 8) base.offset_flags fits has.offset_flags }

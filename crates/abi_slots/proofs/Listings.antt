@@ -21,7 +21,7 @@ use Rattle.abi_slots.specs.declared.words.Offset.{Offset}
 use Rattle.abi_slots.specs.declared.words.Offset.TheVariants.{ToBase, ToOverrider}
 use Rattle.cxx_overrider.specs.Virtuals.{same_name, own}
 use Rattle.cxx_subobject.specs.VirtualBases.{virtual_bases}
-use Rattle.abi_slots.specs.Listing.{same_kind, needs_return, keys_of, shares, same_key, or_itself, listing, entry_number, vbase_number, is_base, same_offset, push_new, is_direct, primary_entries, new_entries, with_new, entries_in, entries, is_first_base, is_other_base, below_bases, call, calls_in, calls, with_calls, push_all, primary_offsets, offsets_in, offsets}
+use Rattle.abi_slots.specs.Listing.{same_kind, needs_return, keys_of, shares, same_entry_key, or_itself, listing, entry_number, vbase_number, is_base, same_offset, push_new, is_direct, primary_entries, new_entries, with_new_entries, entries_in, entries, is_nonvirtual_primary, is_secondary_base, below_bases, call, calls_in, calls, with_calls, push_all, primary_offsets, offsets_in, offsets}
 use Rattle.abi_slots.proofs.Lists.{Keeps, keeps_itself, keeps_through, keeps_front, Item, item_first, item_later, item_left, item_right, item_none, item_split, item_cases, item_map, item_filter, from_filter, any_item, item_any, any_right, at_place, found_passes, found_some, found_none, flat_same}
 use Rattle.abi_slots.proofs.Names.{kind_is, key_is, key_itself, base_is}
 use Rattle.abi_slots.proofs.Bases.{contains_item, virtual_item}
@@ -43,10 +43,10 @@ module _ (h : Classes) (l : Places) (keeps : IsHierarchy h) where
   calls_steps (suc n) zero path c a b = absurd (omega arith)
   calls_steps (suc n) (suc m) path c a b =
       let same = λ (more : List ClassId) (d : ClassId) (lt : d.0 < c.0). calls_steps n m more d (omega arith) (omega arith) in
-      let first = calls_below_same (calls_in h l n) (calls_in h l m) path (is_first_base (l.primary c)) c same in
-      let other = calls_below_same (calls_in h l n) (calls_in h l m) path (is_other_base (l.primary c)) c same in
-      ap (λ xs. xs ++ map (call path) (own h c) ++ below_bases (calls_in h l n) path (filter (is_other_base (l.primary c)) (bases_of h c))) first
-      ∙ ap (λ xs. below_bases (calls_in h l m) path (filter (is_first_base (l.primary c)) (bases_of h c)) ++ map (call path) (own h c) ++ xs) other
+      let first = calls_below_same (calls_in h l n) (calls_in h l m) path (is_nonvirtual_primary (l.primary c)) c same in
+      let other = calls_below_same (calls_in h l n) (calls_in h l m) path (is_secondary_base (l.primary c)) c same in
+      ap (λ xs. xs ++ map (call path) (own h c) ++ below_bases (calls_in h l n) path (filter (is_secondary_base (l.primary c)) (bases_of h c))) first
+      ∙ ap (λ xs. below_bases (calls_in h l m) path (filter (is_nonvirtual_primary (l.primary c)) (bases_of h c)) ++ map (call path) (own h c) ++ xs) other
 
 module _ (h : Classes) (l : Places) (keeps : IsHierarchy h) (are : ArePrimaries h l) where
   direct_before : (c b : ClassId) → c.0 < length h → l.primary c ≡ Direct b → b.0 < c.0
@@ -75,13 +75,13 @@ module _ (h : Classes) (l : Places) (keeps : IsHierarchy h) (are : ArePrimaries 
   entries_steps : (n m : ℕ) (c : ClassId) → c.0 < length h → c.0 < n → c.0 < m → entries_in h l n c ≡ entries_in h l m c
   entries_steps zero m c known a b = absurd (omega arith)
   entries_steps (suc n) zero c known a b = absurd (omega arith)
-  entries_steps (suc n) (suc m) c known a b = ap (with_new h l c) (entries_alike (entries_in h l n) (entries_in h l m) c known (λ d lt. entries_steps n m d (omega arith) (omega arith) (omega arith)))
+  entries_steps (suc n) (suc m) c known a b = ap (with_new_entries h l c) (entries_alike (entries_in h l n) (entries_in h l m) c known (λ d lt. entries_steps n m d (omega arith) (omega arith) (omega arith)))
 
   -- the entries of a class, by those of its primary base
-  pub entries_is : (c : ClassId) → c.0 < length h → entries h l c ≡ with_new h l c (primary_entries (entries h l) (l.primary c))
+  pub entries_is : (c : ClassId) → c.0 < length h → entries h l c ≡ with_new_entries h l c (primary_entries (entries h l) (l.primary c))
   entries_is c known =
       let e : c.0 + 1 ≡ suc c.0 = omega arith in
-      ap (λ n. entries_in h l n c) e ∙ ap (with_new h l c) (entries_alike (entries_in h l c.0) (entries h l) c known (λ d lt. entries_steps c.0 (d.0 + 1) d (omega arith) lt (omega arith)))
+      ap (λ n. entries_in h l n c) e ∙ ap (with_new_entries h l c) (entries_alike (entries_in h l c.0) (entries h l) c known (λ d lt. entries_steps c.0 (d.0 + 1) d (omega arith) lt (omega arith)))
 
   offsets_steps : (n m : ℕ) (is_shared : Bool) (c : ClassId) → c.0 < length h → c.0 < n → c.0 < m → offsets_in h l n is_shared c ≡ offsets_in h l m is_shared c
   offsets_steps zero m is_shared c known a b = absurd (omega arith)
@@ -156,10 +156,10 @@ not_true : (b : Bool) → not b ≡ true → b ≡ false
 not_true true e = cc
 not_true false e = refl
 
-pub first_plain : (p : Primary) (base : Base ClassId) → is_first_base p base ≡ true → base.is_virtual ≡ false
+pub first_plain : (p : Primary) (base : Base ClassId) → is_nonvirtual_primary p base ≡ true → base.is_virtual ≡ false
 first_plain p base e = not_true base.is_virtual (and_parts (not base.is_virtual) (is_direct p base.class) e).0
 
-pub other_plain : (p : Primary) (base : Base ClassId) → is_other_base p base ≡ true → base.is_virtual ≡ false
+pub other_plain : (p : Primary) (base : Base ClassId) → is_secondary_base p base ≡ true → base.is_virtual ≡ false
 other_plain p base e = not_true base.is_virtual (and_parts (not base.is_virtual) (not (is_direct p base.class)) e).0
 
 -- the entry of a function stands among the old ones or among the new ones
@@ -199,7 +199,7 @@ module _ (h : Classes) (l : Places) (keeps : IsHierarchy h) (are : ArePrimaries 
   entry_there k known i =
       let old = primary_entries (entries h l) (l.primary k.function.class) in
       let there = subst (λ xs. Item xs (listing h l k)) (sym (entries_is h l keeps are k.function.class known)) (listing_in h l k old (flat_map (keys_of h) (own h k.function.class)) i) in
-      let at = at_place (same_key (listing h l k)) (entries h l k.function.class) (any_item (same_key (listing h l k)) (entries h l k.function.class) (listing h l k) there (key_itself (listing h l k))) in
+      let at = at_place (same_entry_key (listing h l k)) (entries h l k.function.class) (any_item (same_entry_key (listing h l k)) (entries h l k.function.class) (listing h l k) there (key_itself (listing h l k))) in
       at.there ∙ ap (λ a. Some a) (sym (key_is (listing h l k) at.item at.passes))
 
   -- the offsets of a primary base stand first

@@ -3,7 +3,7 @@ use Rattle.std.proofs.Common.{◌≡◌, ℕ, zero, suc, ◌+◌, ◌⊎◌, inl
 use Rattle.std.specs.Prelude.{◌||◌, if◌then◌else◌, slice_get}
 use Rattle.std.specs.List.{list_any, find, filter, flat_map}
 use Rattle.std.proofs.lemmas.List.Folds.{list_any-append}
-use Rattle.abi_slots.specs.Listing.{place_in}
+use Rattle.abi_slots.specs.Listing.{first_position}
 use Rattle.foundation.proofs.Places.{get_front}
 use Rattle.foundation.proofs.Truth.{split}
 
@@ -111,7 +111,7 @@ any_left p xs ys e = list_any-append p xs ys ∙ or_left (list_any p xs) (list_a
 pub record StandsAt {A : Type 0} (p : A → Bool) (xs : List A) : Type 0 where
   pub item : A
   pub passes : p item ≡ true
-  pub there : slice_get xs (place_in p xs) ≡ Some item
+  pub there : slice_get xs (first_position p xs) ≡ Some item
 
 pub at_place : {A : Type 0} (p : A → Bool) (xs : List A) → list_any p xs ≡ true → StandsAt p xs
 at_place p [] e = cc

@@ -14,7 +14,7 @@ use Rattle.cxx_subobject.proofs.TreeLemmas.{same_itself}
 use Rattle.abi_primary.specs.declared.Primary.{Primary}
 use Rattle.abi_primary.specs.declared.Primary.TheVariants.{None as NoPrimary, Direct, Virtual}
 use Rattle.abi_sound.specs.Places.{Places}
-use Rattle.abi_slots.specs.Views.{View, seen, is_some, next_by, next_in, next, is_dynamic_class, is_first, is_head, walk, Serves}
+use Rattle.abi_slots.specs.Views.{View, seen, is_some, next_by, next_in, next, is_dynamic_class, is_first, is_head, along_chain, Serves}
 use Rattle.abi_slots.proofs.Lists.{any_item}
 use Rattle.abi_slots.proofs.Bases.{preorder_item}
 use Rattle.abi_slots.proofs.Chains.{Setting, is_held, same_some, walk_under}
@@ -38,20 +38,20 @@ held_if o r s v = split (is_some o r) (λ b. is_some o r ≡ b → (if b then So
 -- the end of a walk
 record IsLast (go : Subobject → Option Subobject) (n : ℕ) (t s : Subobject) : Type 0 where
   before : Subobject
-  leads : walk go n (Some t) ≡ Some before
+  leads : along_chain go n (Some t) ≡ Some before
   goes : go before ≡ Some s
 
-walk_none : (go : Subobject → Option Subobject) (n : ℕ) (s : Subobject) → walk go n None ≡ Some s → ⊥
+walk_none : (go : Subobject → Option Subobject) (n : ℕ) (s : Subobject) → along_chain go n None ≡ Some s → ⊥
 walk_none go zero s e = absurd (cc)
 walk_none go (suc n) s e = absurd (cc)
 
-last_step : (go : Subobject → Option Subobject) (n : ℕ) (t s : Subobject) → walk go (suc n) (Some t) ≡ Some s → IsLast go n t s
+last_step : (go : Subobject → Option Subobject) (n : ℕ) (t s : Subobject) → along_chain go (suc n) (Some t) ≡ Some s → IsLast go n t s
 last_step go zero t s e = record { before = t; leads = refl; goes = e }
 last_step go (suc n) t s e = by_next (go t) refl e (λ u there. last_step go n u s there)
   where
-    by_next : (o : Option Subobject) → go t ≡ o → walk go (suc n) o ≡ Some s → ((u : Subobject) → walk go (suc n) (Some u) ≡ Some s → IsLast go n u s) → IsLast go (suc n) t s
+    by_next : (o : Option Subobject) → go t ≡ o → along_chain go (suc n) o ≡ Some s → ((u : Subobject) → along_chain go (suc n) (Some u) ≡ Some s → IsLast go n u s) → IsLast go (suc n) t s
     by_next None is there rest = absurd (walk_none go (suc n) s there)
-    by_next (Some u) is there rest = let r = rest u there in record { before = r.before; leads = ap (walk go n) is ∙ r.leads; goes = r.goes }
+    by_next (Some u) is there rest = let r = rest u there in record { before = r.before; leads = ap (along_chain go n) is ∙ r.leads; goes = r.goes }
 
 module _ (h : Classes) (l : Places) (x : View) (set : Setting h l x) where
   -- two that one comes next to are one
@@ -95,10 +95,10 @@ module _ (h : Classes) (l : Places) (x : View) (set : Setting h l x) where
       let not_first : is_first h l x t ≡ false = ap not any in
       cc
 
-  walked : (n : ℕ) (t r : Subobject) → IsSubobject h x.class t → walk (next l x) n (Some t) ≡ Some r → IsSubobject h x.class r
+  walked : (n : ℕ) (t r : Subobject) → IsSubobject h x.class t → along_chain (next l x) n (Some t) ≡ Some r → IsSubobject h x.class r
   walked n t r valid leads = (walk_under h l x set n t r valid leads).under.valid_below
 
-  one_walk : (m n : ℕ) (t u s : Subobject) → IsSubobject h x.class t → IsSubobject h x.class u → is_head h l x t ≡ true → is_head h l x u ≡ true → walk (next l x) m (Some t) ≡ Some s → walk (next l x) n (Some u) ≡ Some s → t ≡ u
+  one_walk : (m n : ℕ) (t u s : Subobject) → IsSubobject h x.class t → IsSubobject h x.class u → is_head h l x t ≡ true → is_head h l x u ≡ true → along_chain (next l x) m (Some t) ≡ Some s → along_chain (next l x) n (Some u) ≡ Some s → t ≡ u
   one_walk zero zero t u s of_t of_u head also a b = same_some t s a ∙ sym (same_some u s b)
   one_walk zero (suc n) t u s of_t of_u head also a b =
       let r = last_step (next l x) n u s b in

@@ -19,7 +19,7 @@ use Rattle.abi_sound.specs.Chains.{primary_part, primary_of_class, primary_by, i
 use Rattle.abi_sound.specs.Places.{Places, places_of}
 use Rattle.abi_sound.specs.Sound.{IsSoundLayout}
 use Rattle.abi_slots.specs.Seen.{PlacedTables, IsPointOf, SharePointer}
-use Rattle.abi_slots.specs.Views.{View, IsView, seen, place, is_some, next_by, next_in, next, walk, Serves}
+use Rattle.abi_slots.specs.Views.{View, IsView, seen, place, is_some, next_by, next_in, next, along_chain, Serves}
 use Rattle.abi_slots.proofs.Chains.{Setting, same_some, seen_down, seen_valid, seen_class, next_under, walk_under}
 use Rattle.abi_slots.proofs.Heads.{some_head}
 use Rattle.abi_slots.proofs.OneHead.{one_head}
@@ -31,19 +31,19 @@ same_test None s = refl
 same_test (Some t) s = refl
 
 -- two walks, one after the other
-walk_on : (go : Subobject → Option Subobject) (m n : ℕ) (u s t : Subobject) → walk go m (Some u) ≡ Some s → walk go n (Some s) ≡ Some t → walk go (m + n) (Some u) ≡ Some t
+walk_on : (go : Subobject → Option Subobject) (m n : ℕ) (u s t : Subobject) → along_chain go m (Some u) ≡ Some s → along_chain go n (Some s) ≡ Some t → along_chain go (m + n) (Some u) ≡ Some t
 walk_on go zero n u s t a b =
     let here : u ≡ s = same_some u s a in
     let z : 0 + n ≡ n = omega arith in
-    subst (λ k. walk go k (Some u) ≡ Some t) (sym z) (subst (λ v. walk go n (Some v) ≡ Some t) (sym here) b)
+    subst (λ k. along_chain go k (Some u) ≡ Some t) (sym z) (subst (λ v. along_chain go n (Some v) ≡ Some t) (sym here) b)
 walk_on go (suc m) n u s t a b =
     let z : suc m + n ≡ suc (m + n) = omega arith in
-    subst (λ k. walk go k (Some u) ≡ Some t) (sym z) (by_next (go u) a (λ v there. walk_on go m n v s t there b))
+    subst (λ k. along_chain go k (Some u) ≡ Some t) (sym z) (by_next (go u) a (λ v there. walk_on go m n v s t there b))
   where
-    by_next : (o : Option Subobject) → walk go m o ≡ Some s → ((v : Subobject) → walk go m (Some v) ≡ Some s → walk go (m + n) (Some v) ≡ Some t) → walk go (m + n) o ≡ Some t
+    by_next : (o : Option Subobject) → along_chain go m o ≡ Some s → ((v : Subobject) → along_chain go m (Some v) ≡ Some s → along_chain go (m + n) (Some v) ≡ Some t) → along_chain go (m + n) o ≡ Some t
     by_next None there rest = absurd (none m there)
       where
-        none : (j : ℕ) → walk go j None ≡ Some s → ⊥
+        none : (j : ℕ) → along_chain go j None ≡ Some s → ⊥
         none zero g = cc
         none (suc j) g = cc
     by_next (Some v) there rest = rest v there
@@ -80,7 +80,7 @@ module _ (h : Classes) (l : Places) (x : View) (set : Setting h l x) where
   record IsWalkSeen (s r : Subobject) : Type 0 where
     steps : ℕ
     last : Subobject
-    leads : walk (next l x) steps (Some s) ≡ Some last
+    leads : along_chain (next l x) steps (Some s) ≡ Some last
     is : seen x last ≡ r
 
   walk_seen : (p r s : Subobject) → IsInChain l x.complete p r → p ≡ seen x s → IsSubobject h x.class s → IsWalkSeen s r
@@ -97,7 +97,7 @@ module _ (h : Classes) (l : Places) (x : View) (set : Setting h l x) where
       let w = walk_seen (seen x s) (seen x t) s there refl of_s in
       let under = (walk_under h l x set w.steps s w.last of_s w.leads).under in
       let same : w.last ≡ t = join_injective h set.keeps x.complete x.class x.at_sub w.last t set.view.valid set.view.of_class under.valid_below of_t w.is in
-      let leads : walk (next l x) w.steps (Some s) ≡ Some t = subst (λ a. walk (next l x) w.steps (Some s) ≡ Some a) same w.leads in
+      let leads : along_chain (next l x) w.steps (Some s) ≡ Some t = subst (λ a. along_chain (next l x) w.steps (Some s) ≡ Some a) same w.leads in
       let head = some_head h l x set s c of_s e dyn in
       record {
         same_place = subst (λ a. place l x s ≡ place l x a) same (sym under.same_place);

@@ -11,7 +11,7 @@ use Rattle.abi_slots.specs.declared.words.Offset.{Offset}
 use Rattle.abi_slots.specs.declared.words.Offset.TheVariants.{ToBase, ToOverrider}
 use Rattle.cxx_overrider.specs.Virtuals.{same_name}
 use Rattle.abi_slots.specs.Listing.{same_offset, push_new, push_all}
-use Rattle.abi_slots.specs.invariants.OffsetWords.{base_number, name_number, has_number, AreWords}
+use Rattle.abi_slots.specs.invariants.OffsetWords.{virtual_base_number, name_number, has_number, AreWords}
 use Rattle.abi_slots.proofs.Lists.{Keeps}
 use Rattle.abi_slots.proofs.Listings.{push_all_keeps}
 use Rattle.abi_slots.proofs.Loops.{rest_is}
@@ -24,7 +24,7 @@ any_same p q [] same = refl
 any_same p q (x ∷ xs) same = ap (λ b. b || list_any p xs) (same x) ∙ ap (λ b. q x || b) (any_same p q xs same)
 
 -- an offset has the number exactly where it leads to the same
-pub base_told : (h : Classes) (v : ClassId) → (y : Offset) → has_number v.0 (base_number y) ≡ same_offset h (ToBase v) y
+pub base_told : (h : Classes) (v : ClassId) → (y : Offset) → has_number v.0 (virtual_base_number y) ≡ same_offset h (ToBase v) y
 base_told h v (ToBase u) = refl
 base_told h v (ToOverrider path f) = refl
 

@@ -16,11 +16,11 @@ use Rattle.abi_slots.specs.declared.entries.Listing.{Listing}
 use Rattle.abi_slots.specs.declared.rows.SlotRow.{SlotRow}
 use Rattle.abi_slots.specs.declared.offset_tables.OffsetTable.{OffsetTable}
 use Rattle.cxx_overrider.specs.Virtuals.{own}
-use Rattle.abi_slots.specs.Listing.{key, kinds_in, keys_of, own_keys, same_key, place_in, listing, entries, offsets, entry_number}
-use Rattle.abi_slots.specs.Rows.{listing_of, listings_of, declared_in, is_first, AreEntryNumbers}
+use Rattle.abi_slots.specs.Listing.{entry_key, kinds_in, keys_of, own_keys, same_entry_key, first_position, listing, entries, offsets, entry_number}
+use Rattle.abi_slots.specs.Rows.{listing_of, listings_of, listed_function, is_first, AreEntryNumbers}
 use Rattle.abi_slots.specs.Slots.{first_kind, first_key, IsSlotRow}
-use Rattle.abi_slots.specs.invariants.OffsetWords.{base_number, name_number, AreWords}
-use Rattle.abi_slots.specs.invariants.SlotRows.{AreRows, ListsShared}
+use Rattle.abi_slots.specs.invariants.OffsetWords.{virtual_base_number, name_number, AreWords}
+use Rattle.abi_slots.specs.invariants.SlotRows.{AreSlotRows, ListsShared}
 use Rattle.abi_slots.proofs.Lists.{Item, item_map, item_flat}
 use Rattle.abi_slots.proofs.Bases.{item_contains}
 use Rattle.abi_slots.proofs.Owns.{own_class, own_virtual}
@@ -47,18 +47,18 @@ entry_kept h l keeps c f all listings numbers all_is listings_is are contains =
     let virtual = own_virtual h keeps c f declares in
     let k = first_key h f in
     let kind : Item (kinds_in (signature_of h f)) (first_kind (signature_of h f)) = subst (λ o. Item (kinds_in o) (first_kind o)) (sym virtual.is) (first_item virtual.signature) in
-    let in_keys : Item (own_keys h c) k = item_flat (keys_of h) (own h c) f k declares (item_map (key f) (kinds_in (signature_of h f)) (first_kind (signature_of h f)) kind) in
+    let in_keys : Item (own_keys h c) k = item_flat (keys_of h) (own h c) f k declares (item_map (entry_key f) (kinds_in (signature_of h f)) (first_kind (signature_of h f)) kind) in
     let in_list : Item listings (listing_of h l k) = subst (λ xs. Item xs (listing_of h l k)) (sym listings_is) (item_map (listing_of h l) (own_keys h c) k in_keys) in
     are.each in_list.index (listing_of h l k) in_list.there (first_is (signature_of h f))
-    ∙ ap (λ xs. Some (place_in (same_key (listing h l k)) xs)) all_is ∙ ap (λ d. Some (place_in (same_key (listing h l k)) (entries h l d))) (sym class)
+    ∙ ap (λ xs. Some (first_position (same_entry_key (listing h l k)) xs)) all_is ∙ ap (λ d. Some (first_position (same_entry_key (listing h l k)) (entries h l d))) (sym class)
 
 -- the row of a class
 pub row_is : (h : Classes) (l : Places) (keeps : IsHierarchy h) (are : ArePrimaries h l) (numbers : List (List ℕ)) (count : ℕ) → IsNumbering h numbers count → (c : ClassId) → c.0 < length h → (row : SlotRow) (listings : List Listing) → row.entries ≡ entries h l c → listings ≡ listings_of h l c
-    → row.declared ≡ map (declared_in listings) row.entries → AreEntryNumbers row.entries listings row.numbers → row.offsets ≡ offsets h l false c → length row.vbases ≡ c.0 → AreWords base_number row.offsets row.vbases → ListsShared h l numbers count c row.shared_offsets row.vcalls
+    → row.declared ≡ map (listed_function listings) row.entries → AreEntryNumbers row.entries listings row.numbers → row.offsets ≡ offsets h l false c → length row.vbases ≡ c.0 → AreWords virtual_base_number row.offsets row.vbases → ListsShared h l numbers count c row.shared_offsets row.vcalls
     → IsSlotRow h l numbers c row
 row_is h l keeps are numbers count numbering c known row listings all_is listings_is declared_is numbers_are plain_is size words shared = record {
   lists_entries = all_is;
-  declares = declared_is ∙ ap (λ xs. map (declared_in xs) row.entries) listings_is ∙ ap (map (declared_in (listings_of h l c))) all_is ∙ declared_are h l keeps are c;
+  declares = declared_is ∙ ap (λ xs. map (listed_function xs) row.entries) listings_is ∙ ap (map (listed_function (listings_of h l c))) all_is ∙ declared_are h l keeps are c;
   entry = λ f contains. entry_kept h l keeps c f row.entries listings row.numbers all_is listings_is numbers_are contains;
   lists_offsets = plain_is;
   vbase = λ v has. vbase_kept h l keeps are c v row.offsets row.vbases known words size plain_is has;
@@ -89,7 +89,7 @@ last_item [] x (suc i) y at le = absurd (cc)
 last_item (z ∷ xs) x zero y at le = absurd (omega arith)
 last_item (z ∷ xs) x (suc i) y at le = let r = last_item xs x i y at (omega arith) in (r.0, ap suc r.1)
 
-pub rows_more : (h : Classes) (l : Places) (numbers : List (List ℕ)) (rows new : List SlotRow) (row : SlotRow) (c : ClassId) → AreRows h l numbers rows → length rows ≡ c.0 → IsSlotRow h l numbers c row → new ≡ rows ++ row ∷ [] → AreRows h l numbers new
+pub rows_more : (h : Classes) (l : Places) (numbers : List (List ℕ)) (rows new : List SlotRow) (row : SlotRow) (c : ClassId) → AreSlotRows h l numbers rows → length rows ≡ c.0 → IsSlotRow h l numbers c row → new ≡ rows ++ row ∷ [] → AreSlotRows h l numbers new
 rows_more h l numbers rows new row c are size is grows = record {
   each = λ d x at.
       let there = ap (λ xs. slice_get xs d.0) (sym grows) ∙ at in

@@ -19,8 +19,8 @@ use Rattle.abi_slots.specs.declared.words.Table.{Table}
 use Rattle.abi_slots.specs.declared.words.Group.{Group}
 use Rattle.abi_slots.specs.Listing.{own_keys, entry_number, vbase_number}
 use Rattle.abi_slots.specs.Views.{View, heads}
-use Rattle.abi_slots.specs.Groups.{IsTable, view_of, IsGroup}
-use Rattle.abi_slots.specs.Dispatch.{IsServedBy, HasOffset, LeadsOn, ThisLeads, as_it_is, by_constant, by_base, Runs, runs_pure, runs_code}
+use Rattle.abi_slots.specs.Groups.{IsTable, view_of_group, IsGroup}
+use Rattle.abi_slots.specs.Dispatch.{IsServedBy, HasOffset, LeadsOn, ThisLeads, as_it_is, by_constant, by_base, RunsOverrider, runs_pure, runs_code}
 use Rattle.abi_slots.specs.Images.{Image, HasEntry, StandsAt, point_at}
 use Rattle.abi_slots.specs.Seen.{PlacedTables, IsPointOf, HasDistance, Adjusts, as_it_stands, by_number, by_word, Calls, calls_pure, calls_code, Sees, IsSeen}
 use Rattle.abi_slots.proofs.Bases.{item_contains}
@@ -32,9 +32,9 @@ use Rattle.abi_slots.proofs.ImageWords.{IsBefore, word_before, word_from}
 use Rattle.abi_slots.proofs.OneHead.{one_head}
 use Rattle.abi_slots.proofs.WordPlaces.{partner}
 
-module _ (h : Classes) (l : Places) (group : Group) (of : IsGroup h l group) (set : Setting h l (view_of group of.class)) (image : Image) (codes : List CodeRow) (info : ClassId → ℕ) (at : ℕ) (stands : StandsAt image codes info group at) where
+module _ (h : Classes) (l : Places) (group : Group) (of : IsGroup h l group) (set : Setting h l (view_of_group group of.class)) (image : Image) (codes : List CodeRow) (info : ClassId → ℕ) (at : ℕ) (stands : StandsAt image codes info group at) where
   abbrev here : View
-  here = view_of group of.class
+  here = view_of_group group of.class
 
   abbrev placed : PlacedTables
   placed = record { image = image; codes = codes; info = info; tables = group.tables; at = at }
@@ -44,7 +44,7 @@ module _ (h : Classes) (l : Places) (group : Group) (of : IsGroup h l group) (se
     number : ℕ
     table : Table
     there : slice_get group.tables number ≡ Some table
-    served : IsServedBy h l (view_of group of.class) group s table
+    served : IsServedBy h l (view_of_group group of.class) group s table
     is : point ≡ point_at at group.tables number
 
   table_at : (s : Subobject) (point : ℕ) → IsPointOf h l here placed s point → IsTableOf s point
@@ -72,7 +72,7 @@ module _ (h : Classes) (l : Places) (group : Group) (of : IsGroup h l group) (se
   adjusts s o _ (by_constant distance leads) = by_number distance leads
   adjusts s o _ (by_base v distance n has dyn leads on) = by_word v distance n has dyn leads (on_words v n o on)
 
-  calls : (s : Subobject) (k : EntryKey) (o : Overrider) (word : EntryWord) → Runs h l here group s k o word → Calls h l here placed s k o word
+  calls : (s : Subobject) (k : EntryKey) (o : Overrider) (word : EntryWord) → RunsOverrider h l here group s k o word → Calls h l here placed s k o word
   calls s k o _ (runs_pure pure) = calls_pure pure
   calls s k o _ (runs_code this code leads) = calls_code this code (adjusts s o.at this leads)
 

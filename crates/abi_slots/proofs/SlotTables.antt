@@ -16,7 +16,7 @@ use Rattle.cxx_search.proofs.Names.{name_signature}
 use Rattle.abi_sound.specs.Places.{Places}
 use Rattle.abi_slots.specs.declared.rows.SlotRow.{SlotRow}
 use Rattle.abi_slots.specs.declared.slots.Slots.{Slots}
-use Rattle.abi_slots.specs.Listing.{is_name, offsets, vcall_number}
+use Rattle.abi_slots.specs.Listing.{is_offset_of_name, offsets, vcall_number}
 use Rattle.abi_slots.specs.Slots.{word_number, IsVirtualBase, AreSlots}
 use Rattle.abi_slots.proofs.Lists.{item_any}
 use Rattle.abi_slots.proofs.Names.{named_is}
@@ -28,9 +28,9 @@ mapped_at f (x ∷ xs) zero = refl
 mapped_at f (x ∷ xs) (suc n) = mapped_at f xs n
 
 -- a function of a name that a class lists has a number
-pub listed_number : (h : Classes) (l : Places) (slots : Slots) → AreSlots h l slots → (v : ClassId) (f : FunctionId) → list_any (is_name h f) (offsets h l true v) ≡ true → (n : ℕ) × (number_of slots.numbering.rows.items f ≡ Some n)
+pub listed_number : (h : Classes) (l : Places) (slots : Slots) → AreSlots h l slots → (v : ClassId) (f : FunctionId) → list_any (is_offset_of_name h f) (offsets h l true v) ≡ true → (n : ℕ) × (number_of slots.numbering.rows.items f ≡ Some n)
 listed_number h l slots are v f e =
-    let r = item_any (is_name h f) (offsets h l true v) e in
+    let r = item_any (is_offset_of_name h f) (offsets h l true v) e in
     let named = named_is h f r.0 r.2 in
     let s = name_signature h f named.1 named.3 in
     are.numbering.numbered f s.0 s.1
@@ -52,7 +52,7 @@ pub virtual_known : (h : Classes) → IsHierarchy h → (v : ClassId) → IsVirt
 virtual_known h keeps v is = let below = virtual_below h keeps is.of v is.has in let known = base_known h is.of v is.has in omega arith
 
 -- the number of a vcall word, as it is kept
-pub kept_vcall : (h : Classes) (l : Places) (slots : Slots) → AreSlots h l slots → (v : ClassId) (f : FunctionId) (row : SlotRow) (n : ℕ) → Some row ≡ slice_get slots.rows.items v.0 → Some n ≡ number_of slots.numbering.rows.items f → IsVirtualBase h v → list_any (is_name h f) (offsets h l true v) ≡ true
+pub kept_vcall : (h : Classes) (l : Places) (slots : Slots) → AreSlots h l slots → (v : ClassId) (f : FunctionId) (row : SlotRow) (n : ℕ) → Some row ≡ slice_get slots.rows.items v.0 → Some n ≡ number_of slots.numbering.rows.items f → IsVirtualBase h v → list_any (is_offset_of_name h f) (offsets h l true v) ≡ true
     → get_or row.vcalls n (pos 0) ≡ word_number (vcall_number h l v f)
 kept_vcall h l slots are v f row n at number is listed = get_or_from_slice_get row.vcalls n _ (pos 0) ((are.each v row (sym at)).vcall is f n (sym number) listed)
 
@@ -60,5 +60,5 @@ kept_vcall h l slots are v f row n at number is listed = get_or_from_slice_get r
 pub no_row : (h : Classes) (l : Places) (slots : Slots) → AreSlots h l slots → (v : ClassId) → length slots.rows.items ≤ v.0 → IsVirtualBase h v → ⊥
 no_row h l slots are v past is = let known = virtual_known h are.keeps v is in let size = are.size in omega arith
 
-pub no_number : (h : Classes) (l : Places) (slots : Slots) → AreSlots h l slots → (v : ClassId) (f : FunctionId) → None ≡ number_of slots.numbering.rows.items f → list_any (is_name h f) (offsets h l true v) ≡ true → ⊥
+pub no_number : (h : Classes) (l : Places) (slots : Slots) → AreSlots h l slots → (v : ClassId) (f : FunctionId) → None ≡ number_of slots.numbering.rows.items f → list_any (is_offset_of_name h f) (offsets h l true v) ≡ true → ⊥
 no_number h l slots are v f none listed = let r = listed_number h l slots are v f listed in let e = r.1 in cc

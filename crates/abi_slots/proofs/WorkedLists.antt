@@ -20,7 +20,7 @@ use Rattle.abi_slots.specs.declared.words.CodeKind.TheVariants.{Plain, Complete,
 use Rattle.abi_slots.specs.declared.words.EntryWord.TheVariants.{Code}
 use Rattle.abi_slots.specs.declared.words.Offset.TheVariants.{ToBase, ToOverrider}
 use Rattle.cxx_overrider.specs.Virtuals.{function_at}
-use Rattle.abi_slots.specs.Listing.{key, entries, offsets, entry_number, vbase_number}
+use Rattle.abi_slots.specs.Listing.{entry_key, entries, offsets, entry_number, vbase_number}
 use Rattle.abi_slots.specs.Views.{View, heads}
 use Rattle.abi_slots.specs.Groups.{declarer, code_word}
 
@@ -69,27 +69,27 @@ abbrev d_end : FunctionId
 d_end = function_at d 1
 
 -- a destructor has two entries, and one vcall word
-v_entries : entries h (places_of h apart) v ≡ key vf Plain ∷ key v_end Complete ∷ key v_end Deleting ∷ []
+v_entries : entries h (places_of h apart) v ≡ entry_key vf Plain ∷ entry_key v_end Complete ∷ entry_key v_end Deleting ∷ []
 v_entries = refl
 
 v_offsets : offsets h (places_of h apart) true v ≡ ToOverrider (v ∷ []) vf ∷ ToOverrider (v ∷ []) v_end ∷ []
 v_offsets = refl
 
 -- without a primary base D lists entries of its own, the implicit destructor last
-d_entries : entries h (places_of h apart) d ≡ key df Plain ∷ key d_end Complete ∷ key d_end Deleting ∷ []
+d_entries : entries h (places_of h apart) d ≡ entry_key df Plain ∷ entry_key d_end Complete ∷ entry_key d_end Deleting ∷ []
 d_entries = refl
 
 d_offsets : offsets h (places_of h apart) false d ≡ ToBase v ∷ []
 d_offsets = refl
 
 -- with V as its primary base it shares those of V, and lists what V lists as a virtual base first
-joined_entries : entries h (places_of h joined) d ≡ key vf Plain ∷ key v_end Complete ∷ key v_end Deleting ∷ []
+joined_entries : entries h (places_of h joined) d ≡ entry_key vf Plain ∷ entry_key v_end Complete ∷ entry_key v_end Deleting ∷ []
 joined_entries = refl
 
 joined_offsets : offsets h (places_of h joined) false d ≡ ToOverrider (v ∷ []) vf ∷ ToOverrider (v ∷ []) v_end ∷ ToBase v ∷ []
 joined_offsets = refl
 
-joined_number : entry_number h (places_of h joined) (key d_end Deleting) ≡ 2
+joined_number : entry_number h (places_of h joined) (entry_key d_end Deleting) ≡ 2
 joined_number = refl
 
 joined_base : vbase_number h (places_of h joined) d v ≡ 2
@@ -106,9 +106,9 @@ one_head : heads h (places_of h joined) view ≡ whole_of d ∷ []
 one_head = refl
 
 -- the entry of f in the table of V runs D's f by a vcall word, 24 bytes below the address point
-thunk_word : code_word h (places_of h apart) view (key vf Plain) (shared_base v) (record { at = whole_of d; function = df }) ≡ Code df Plain (Some (record { constant = pos 0; vcall = Some (negsuc 23) })) None
+thunk_word : code_word h (places_of h apart) view (entry_key vf Plain) (shared_base v) (record { at = whole_of d; function = df }) ≡ Code df Plain (Some (record { constant = pos 0; vcall = Some (negsuc 23) })) None
 thunk_word = refl
 
 -- in the table of the whole the function of D is the first that the chain declares
-joined_declarer : declarer h (places_of h joined) view (whole_of d) (key vf Plain) ≡ Some (whole_of d)
+joined_declarer : declarer h (places_of h joined) view (whole_of d) (entry_key vf Plain) ≡ Some (whole_of d)
 joined_declarer = refl

@@ -31,5 +31,5 @@ block_kind Complete = EndComplete
 block_kind Deleting = EndDeleting
 
 -- no two rows have one function and one kind
-abbrev pub AreDistinct : List CodeRow → Type 0
-AreDistinct rows = (i j : ℕ) (a b : CodeRow) → slice_get rows i ≡ Some a → slice_get rows j ≡ Some b → is_row b.function b.kind a ≡ true → i ≡ j
+abbrev pub AreDistinctRows : List CodeRow → Type 0
+AreDistinctRows rows = (i j : ℕ) (a b : CodeRow) → slice_get rows i ≡ Some a → slice_get rows j ≡ Some b → is_row b.function b.kind a ≡ true → i ≡ j

@@ -32,8 +32,8 @@ pub record IsServedBy (h : Classes) (l : Places) (x : View) (group : Group) (s :
   pub serves : Serves h l x head s
 
 -- from the place of one subobject a distance leads to the place of another
-abbrev pub Leads : Places → View → Subobject → ℤ → Subobject → Type 0
-Leads l x s distance o = pos (place l x s) +ℤ distance ≡ pos (place l x o)
+abbrev pub LeadsByDistance : Places → View → Subobject → ℤ → Subobject → Type 0
+LeadsByDistance l x s distance o = pos (place l x s) +ℤ distance ≡ pos (place l x o)
 
 -- the n-th offset of the table, counted from 0 downwards from the third word before the address point
 pub record HasOffset (table : Table) (n : ℕ) (word : TableWord) : Type 0 where
@@ -44,21 +44,21 @@ pub record HasOffset (table : Table) (n : ℕ) (word : TableWord) : Type 0 where
 -- the vcall word of the table that serves a virtual base of the view leads from there to o
 pub record LeadsOn (h : Classes) (l : Places) (x : View) (group : Group) (v : ClassId) (n : ℕ) (o : Subobject) : Type 0 where
   pub distance : ℤ
-  pub leads : Leads l x (shared_base v) distance o
+  pub leads : LeadsByDistance l x (shared_base v) distance o
   pub each : (table : Table) → IsServedBy h l x group (shared_base v) table → (f : FunctionId) × HasOffset table n (Vcall distance f)
 
 -- the adjustment of `this` leads from s to o
 pub data ThisLeads (h : Classes) (l : Places) (x : View) (group : Group) (s o : Subobject) : Option ThisAdjust → Type 0 where
   as_it_is : place l x s ≡ place l x o → ThisLeads h l x group s o None
-  by_constant : (distance : ℤ) → Leads l x s distance o → ThisLeads h l x group s o (Some (record { constant = distance; vcall = None }))
-  by_base : (v : ClassId) (distance : ℤ) (n : ℕ) → HasVirtualBase h x.class v → IsDynamic h v → Leads l x s distance (shared_base v) → LeadsOn h l x group v n o →
+  by_constant : (distance : ℤ) → LeadsByDistance l x s distance o → ThisLeads h l x group s o (Some (record { constant = distance; vcall = None }))
+  by_base : (v : ClassId) (distance : ℤ) (n : ℕ) → HasVirtualBase h x.class v → IsDynamic h v → LeadsByDistance l x s distance (shared_base v) → LeadsOn h l x group v n o →
       ThisLeads h l x group s o (Some (record { constant = distance; vcall = Some (offset_bytes n) }))
 
 -- the word runs the overrider, with its subobject as `this` and its result as the entry's function returns it; or it is pure
-pub data Runs (h : Classes) (l : Places) (x : View) (group : Group) (s : Subobject) (k : EntryKey) (o : Overrider) : EntryWord → Type 0 where
-  runs_pure : is_pure h o.function ≡ true → Runs h l x group s k o (Pure o.function)
+pub data RunsOverrider (h : Classes) (l : Places) (x : View) (group : Group) (s : Subobject) (k : EntryKey) (o : Overrider) : EntryWord → Type 0 where
+  runs_pure : is_pure h o.function ≡ true → RunsOverrider h l x group s k o (Pure o.function)
   runs_code : (this : Option ThisAdjust) → is_pure h o.function ≡ false → ThisLeads h l x group s o.at this →
-      Runs h l x group s k o (Code o.function k.kind this (return_for h l o.function (listing h l k).function))
+      RunsOverrider h l x group s k o (Code o.function k.kind this (return_for h l o.function (listing h l k).function))
 
 -- the table has, at the entry of a function that the class of s declares, the final overrider of that function in the view
 pub record Dispatches (h : Classes) (l : Places) (x : View) (group : Group) (s : Subobject) (table : Table) (k : EntryKey) : Type 0 where
@@ -66,13 +66,13 @@ pub record Dispatches (h : Classes) (l : Places) (x : View) (group : Group) (s :
   pub final : IsFinalOverrider h x.class s k.function overrider
   pub word : EntryWord
   pub there : slice_get table.words (table.before + entry_number h l k) ≡ Some (Entry word)
-  pub runs : Runs h l x group s k overrider word
+  pub runs : RunsOverrider h l x group s k overrider word
 
 -- the table has, at the number of a virtual base of the class of s, how far it is from s to that base
-pub record Converts (h : Classes) (l : Places) (x : View) (s : Subobject) (c : ClassId) (table : Table) (v : ClassId) : Type 0 where
+pub record LeadsToVirtualBase (h : Classes) (l : Places) (x : View) (s : Subobject) (c : ClassId) (table : Table) (v : ClassId) : Type 0 where
   pub distance : ℤ
   pub there : HasOffset table (vbase_number h l c v) (Vbase distance v)
-  pub leads : Leads l x s distance (shared_base v)
+  pub leads : LeadsByDistance l x s distance (shared_base v)
 
 -- the two words before the address point: how far it is to the start of the view, and the class of the view
 pub record HasTop (l : Places) (x : View) (s : Subobject) (table : Table) : Type 0 where
@@ -80,5 +80,5 @@ pub record HasTop (l : Places) (x : View) (s : Subobject) (table : Table) : Type
   pub before : number + 2 ≡ table.before
   pub distance : ℤ
   pub top : slice_get table.words number ≡ Some (Top distance)
-  pub leads : Leads l x s distance (whole_of x.class)
+  pub leads : LeadsByDistance l x s distance (whole_of x.class)
   pub info : slice_get table.words (number + 1) ≡ Some (Info x.class)

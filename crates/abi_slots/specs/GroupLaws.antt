@@ -15,9 +15,9 @@ use Rattle.abi_slots.specs.declared.words.EntryKey.{EntryKey}
 use Rattle.abi_slots.specs.declared.words.Group.{Group}
 use Rattle.abi_slots.specs.declared.words.Table.{Table}
 use Rattle.abi_slots.specs.Listing.{own_keys}
-use Rattle.abi_slots.specs.Groups.{IsGroup, view_of}
+use Rattle.abi_slots.specs.Groups.{IsGroup, view_of_group}
 use Rattle.abi_slots.specs.Views.{View, IsView, place}
-use Rattle.abi_slots.specs.Dispatch.{IsServedBy, Dispatches, Converts, HasTop}
+use Rattle.abi_slots.specs.Dispatch.{IsServedBy, Dispatches, LeadsToVirtualBase, HasTop}
 use Rattle.abi_slots.specs.declared.code_numbers.CodeRow.{CodeRow}
 use Rattle.abi_slots.specs.Images.{Image, StandsAt}
 use Rattle.abi_slots.specs.Seen.{PlacedTables, IsPointOf, IsSeen, SharePointer}
@@ -26,30 +26,30 @@ use Rattle.abi_slots.specs.Seen.{PlacedTables, IsPointOf, IsSeen, SharePointer}
 abbrev pub SubobjectsAreServed : Classes → List ClassLayout → Group → Type 0
 SubobjectsAreServed h rows group = (s : Subobject) (c : ClassId) → IsHierarchy h → IsSoundLayout h rows → (of : IsGroup h (places_of h rows) group) →
     IsSubobject h of.class s → class_of s ≡ Some c → IsDynamic h c →
-    (table : Table) × IsServedBy h (places_of h rows) (view_of group of.class) group s table
+    (table : Table) × IsServedBy h (places_of h rows) (view_of_group group of.class) group s table
 
 -- the word of a function that the class of a served subobject declares runs its final overrider in the view
 abbrev pub EntriesDispatch : Classes → List ClassLayout → Group → Type 0
 EntriesDispatch h rows group = (s : Subobject) (c : ClassId) (k : EntryKey) (table : Table) → IsHierarchy h → HasNoFault h → IsSoundLayout h rows →
     (of : IsGroup h (places_of h rows) group) → IsSubobject h of.class s → class_of s ≡ Some c → Contains (own_keys h c) k →
-    IsServedBy h (places_of h rows) (view_of group of.class) group s table → Dispatches h (places_of h rows) (view_of group of.class) group s table k
+    IsServedBy h (places_of h rows) (view_of_group group of.class) group s table → Dispatches h (places_of h rows) (view_of_group group of.class) group s table k
 
 -- the word of a virtual base of the class of a served subobject leads to that base
 abbrev pub BaseWordsConvert : Classes → List ClassLayout → Group → Type 0
 BaseWordsConvert h rows group = (s : Subobject) (c v : ClassId) (table : Table) → IsHierarchy h → IsSoundLayout h rows →
     (of : IsGroup h (places_of h rows) group) → IsSubobject h of.class s → class_of s ≡ Some c → HasVirtualBase h c v →
-    IsServedBy h (places_of h rows) (view_of group of.class) group s table → Converts h (places_of h rows) (view_of group of.class) s c table v
+    IsServedBy h (places_of h rows) (view_of_group group of.class) group s table → LeadsToVirtualBase h (places_of h rows) (view_of_group group of.class) s c table v
 
 -- the words before the address point lead to the view and name its class
 abbrev pub TopWordsLead : Classes → List ClassLayout → Group → Type 0
 TopWordsLead h rows group = (s : Subobject) (table : Table) → IsHierarchy h → IsSoundLayout h rows → (of : IsGroup h (places_of h rows) group) →
-    IsServedBy h (places_of h rows) (view_of group of.class) group s table → HasTop (places_of h rows) (view_of group of.class) s table
+    IsServedBy h (places_of h rows) (view_of_group group of.class) group s table → HasTop (places_of h rows) (view_of_group group of.class) s table
 
 -- an image in which the tables of a group stand gives what the view of the group asks for
 abbrev pub ImagesAreSeen : Classes → List ClassLayout → Group → Type 0
 ImagesAreSeen h rows group = (image : Image) (codes : List CodeRow) (info : ClassId → ℕ) (at : ℕ) → IsHierarchy h → HasNoFault h →
     IsSoundLayout h rows → (of : IsGroup h (places_of h rows) group) → StandsAt image codes info group at →
-    IsSeen h (places_of h rows) (view_of group of.class) (record { image = image; codes = codes; info = info; tables = group.tables; at = at })
+    IsSeen h (places_of h rows) (view_of_group group of.class) (record { image = image; codes = codes; info = info; tables = group.tables; at = at })
 
 -- two dynamic subobjects of a view share a virtual pointer, or their virtual pointers have no byte in common
 abbrev pub SharePointersOrLieApart : Classes → List ClassLayout → View → Type 0

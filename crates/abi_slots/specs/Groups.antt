@@ -27,7 +27,7 @@ use Rattle.abi_slots.specs.declared.words.Table.{Table}
 use Rattle.abi_slots.specs.declared.words.Group.{Group}
 use Rattle.cxx_overrider.specs.Virtuals.{same_name, own}
 use Rattle.cxx_subobject.specs.VirtualBases.{shared_at}
-use Rattle.abi_slots.specs.Listing.{key, same_key, listing, entries, offsets, conversion, base_of, vbase_number, vcall_number}
+use Rattle.abi_slots.specs.Listing.{entry_key, same_entry_key, listing, entries, offsets, conversion, base_of_class, vbase_number, vcall_number}
 use Rattle.abi_slots.specs.Views.{View, IsView, seen, place, next, first_in, heads}
 
 -- two lists go along: the items at each place are related
@@ -89,7 +89,7 @@ adjust_to h l c (Some path) = return_adjust l c path (vbase_bytes h l c path.roo
 
 abbrev pub adjust_by : Classes → Places → Option Conversion → Option ReturnAdjust
 adjust_by h l None = None
-adjust_by h l (Some c) = adjust_to h l c.from (base_of h c.from c.to)
+adjust_by h l (Some c) = adjust_to h l c.from (base_of_class h c.from c.to)
 
 -- how the result of f is adjusted at an entry that was listed for g
 abbrev pub return_for : Classes → Places → FunctionId → FunctionId → Option ReturnAdjust
@@ -109,7 +109,7 @@ pub data IsOffsetWord (h : Classes) (l : Places) (x : View) (t : Subobject) : Of
 
 abbrev pub declares_in : Classes → Places → EntryKey → Option ClassId → Bool
 declares_in h l k None = false
-declares_in h l k (Some c) = list_any (λ f. same_name h f k.function && same_key (listing h l (key f k.kind)) k) (own h c)
+declares_in h l k (Some c) = list_any (λ f. same_name h f k.function && same_entry_key (listing h l (entry_key f k.kind)) k) (own h c)
 
 -- the class of s declares a function at this entry
 abbrev pub declares_at : Classes → Places → EntryKey → Subobject → Bool
@@ -149,11 +149,11 @@ pub record IsTable (h : Classes) (l : Places) (x : View) (t : Subobject) (table 
   pub words : table.words ≡ reverse offset_words ++ Top (between l x.complete (seen x t) (seen x (whole_of x.class))) ∷ Info x.class ∷ map Entry entry_words
   pub before : table.before ≡ length offset_words + 2
 
-abbrev pub view_of : Group → ClassId → View
-view_of group class = record { complete = group.name.complete; at_sub = group.name.view; class = class }
+abbrev pub view_of_group : Group → ClassId → View
+view_of_group group class = record { complete = group.name.complete; at_sub = group.name.view; class = class }
 
 -- the group of a view: the tables of its heads
 pub record IsGroup (h : Classes) (l : Places) (group : Group) : Type 0 where
   pub class : ClassId
-  pub view : IsView h (view_of group class)
-  pub tables : GoAlong (IsTable h l (view_of group class)) (heads h l (view_of group class)) group.tables
+  pub view : IsView h (view_of_group group class)
+  pub tables : GoAlong (IsTable h l (view_of_group group class)) (heads h l (view_of_group group class)) group.tables

@@ -117,14 +117,14 @@ info_bases (Single c) = (record { class = c; offset_flags = pos 2 }) ∷ []
 info_bases (Many flags bases) = bases
 
 -- the two words of a base in a record: the address of its class's record, and where it lies and what it is
-pub record HasBase (image : Image) (info : ClassId → ℕ) (base : InfoBase) (at : ℕ) : Type 0 where
+pub record HasBaseWords (image : Image) (info : ClassId → ℕ) (base : InfoBase) (at : ℕ) : Type 0 where
   pub class : image at ≡ Some (info base.class)
   pub offset_flags : HasNumber image (at + 8) base.offset_flags
 
 -- the bases stand one after the other from an address, which is 0 where there are none
 abbrev pub HasBases : Image → (info : ClassId → ℕ) → List InfoBase → ℕ → Type 0
 HasBases image info [] at = at ≡ 0
-HasBases image info (base ∷ bases) at = (0 < at) × ((i : ℕ) (b : InfoBase) → slice_get (base ∷ bases) i ≡ Some b → HasBase image info b (at + 16 * i))
+HasBases image info (base ∷ bases) at = (0 < at) × ((i : ℕ) (b : InfoBase) → slice_get (base ∷ bases) i ≡ Some b → HasBaseWords image info b (at + 16 * i))
 
 -- the four words of a class's record: its number, its flags, how many bases it has, each below 2 ^ 32, and where these stand, which is
 -- behind the record

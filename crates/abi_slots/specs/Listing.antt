@@ -28,13 +28,13 @@ use Rattle.cxx_overrider.specs.Virtuals.{same_name, own}
 
 -- conversions of results
 
-abbrev pub is_class : ClassId → Option ClassId → Bool
-is_class d None = false
-is_class d (Some c) = nat_eq c.0 d.0
+abbrev pub reaches_class : ClassId → Option ClassId → Bool
+reaches_class d None = false
+reaches_class d (Some c) = nat_eq c.0 d.0
 
 -- the base of class y that an object of class x has
-abbrev pub base_of : Classes → ClassId → ClassId → Option Subobject
-base_of h x y = find (λ s. is_class y (class_of s)) (preorder h x)
+abbrev pub base_of_class : Classes → ClassId → ClassId → Option Subobject
+base_of_class h x y = find (λ s. reaches_class y (class_of s)) (preorder h x)
 
 abbrev pub pointee : Option (ReturnType ClassId) → Option ClassId
 pointee None = None
@@ -51,17 +51,17 @@ between_classes (Some x) (Some y) = if nat_eq x.0 y.0 then None else Some (recor
 abbrev pub conversion : Classes → FunctionId → FunctionId → Option Conversion
 conversion h f g = between_classes (pointee (return_of h f)) (pointee (return_of h g))
 
-abbrev pub is_shared_root : Root → Bool
-is_shared_root Whole = false
-is_shared_root (Shared v) = true
+abbrev pub is_virtual_root : Root → Bool
+is_virtual_root Whole = false
+is_virtual_root (Shared v) = true
 
 abbrev pub is_away : Places → ClassId → Option Subobject → Bool
 is_away l x None = false
-is_away l x (Some s) = is_shared_root s.root || not (nat_eq (l.place x s) 0)
+is_away l x (Some s) = is_virtual_root s.root || not (nat_eq (l.place x s) 0)
 
 abbrev pub needs_in : Classes → Places → Option Conversion → Bool
 needs_in h l None = false
-needs_in h l (Some c) = is_away l c.from (base_of h c.from c.to)
+needs_in h l (Some c) = is_away l c.from (base_of_class h c.from c.to)
 
 -- the result of f has to be adjusted where g is called: it points to another class, and the base that g's result points
 -- to lies behind a virtual base or at another place than 0
@@ -76,14 +76,14 @@ same_kind Complete Complete = true
 same_kind Deleting Deleting = true
 same_kind j k = false
 
-abbrev pub key : FunctionId → CodeKind → EntryKey
-key f kind = record { function = f; kind = kind }
+abbrev pub entry_key : FunctionId → CodeKind → EntryKey
+entry_key f kind = record { function = f; kind = kind }
 
-abbrev pub same_function : FunctionId → FunctionId → Bool
-same_function f g = nat_eq f.class.0 g.class.0 && nat_eq f.index g.index
+abbrev pub same_function_id : FunctionId → FunctionId → Bool
+same_function_id f g = nat_eq f.class.0 g.class.0 && nat_eq f.index g.index
 
-abbrev pub same_key : EntryKey → EntryKey → Bool
-same_key a b = same_function a.function b.function && same_kind a.kind b.kind
+abbrev pub same_entry_key : EntryKey → EntryKey → Bool
+same_entry_key a b = same_function_id a.function b.function && same_kind a.kind b.kind
 
 abbrev pub kinds_in : Option Signature → List CodeKind
 kinds_in None = []
@@ -92,7 +92,7 @@ kinds_in (Some destructor) = Complete ∷ Deleting ∷ []
 
 -- the entries of its own that a function can have: one, or two for a destructor, the complete one first
 abbrev pub keys_of : Classes → FunctionId → List EntryKey
-keys_of h f = map (key f) (kinds_in (signature_of h f))
+keys_of h f = map (entry_key f) (kinds_in (signature_of h f))
 
 -- the keys of the virtual functions that a class declares
 abbrev pub own_keys : Classes → ClassId → List EntryKey
@@ -111,13 +111,13 @@ primary_entries entries (Virtual v) = entries v
 abbrev pub new_entries : Classes → Places → List EntryKey → List EntryKey → List EntryKey
 new_entries h l old keys = filter (λ k. not (list_any (shares h l k) old)) keys
 
-abbrev pub with_new : Classes → Places → ClassId → List EntryKey → List EntryKey
-with_new h l c old = old ++ new_entries h l old (own_keys h c)
+abbrev pub with_new_entries : Classes → Places → ClassId → List EntryKey → List EntryKey
+with_new_entries h l c old = old ++ new_entries h l old (own_keys h c)
 
 -- primary bases have smaller numbers than their class, so that as many steps are enough
 abbrev pub entries_in : Classes → Places → ℕ → ClassId → List EntryKey
 entries_in h l zero c = []
-entries_in h l (suc steps) c = with_new h l c (primary_entries (entries_in h l steps) (l.primary c))
+entries_in h l (suc steps) c = with_new_entries h l c (primary_entries (entries_in h l steps) (l.primary c))
 
 -- the entries of a class: those of its primary base, then those of its own virtual functions that share none of these
 abbrev pub entries : Classes → Places → ClassId → List EntryKey
@@ -133,9 +133,9 @@ listing h l k = or_itself k (find (shares h l k) (primary_entries (entries h l) 
 
 -- offsets
 
-abbrev pub is_name : Classes → FunctionId → Offset → Bool
-is_name h f (ToBase v) = false
-is_name h f (ToOverrider path g) = same_name h f g
+abbrev pub is_offset_of_name : Classes → FunctionId → Offset → Bool
+is_offset_of_name h f (ToBase v) = false
+is_offset_of_name h f (ToOverrider path g) = same_name h f g
 
 -- an offset that gives no word where the other one stands: it leads to the same base, or to the final overrider of a
 -- function of the same name
@@ -145,7 +145,7 @@ is_base v (ToOverrider path g) = false
 
 abbrev pub same_offset : Classes → Offset → Offset → Bool
 same_offset h (ToBase v) old = is_base v old
-same_offset h (ToOverrider path f) old = is_name h f old
+same_offset h (ToOverrider path f) old = is_offset_of_name h f old
 
 abbrev pub push_new : Classes → List Offset → Offset → List Offset
 push_new h old x = if list_any (same_offset h x) old then old else old ++ x ∷ []
@@ -164,11 +164,11 @@ abbrev pub call : List ClassId → FunctionId → Offset
 call path f = ToOverrider path f
 
 -- the base of its class, where this is not virtual and the primary one, or where it is no such base
-abbrev pub is_first_base : Primary → Base ClassId → Bool
-is_first_base p base = not base.is_virtual && is_direct p base.class
+abbrev pub is_nonvirtual_primary : Primary → Base ClassId → Bool
+is_nonvirtual_primary p base = not base.is_virtual && is_direct p base.class
 
-abbrev pub is_other_base : Primary → Base ClassId → Bool
-is_other_base p base = not base.is_virtual && not (is_direct p base.class)
+abbrev pub is_secondary_base : Primary → Base ClassId → Bool
+is_secondary_base p base = not base.is_virtual && not (is_direct p base.class)
 
 abbrev pub below_bases : (List ClassId → ClassId → List Offset) → List ClassId → List (Base ClassId) → List Offset
 below_bases calls path bases = flat_map (λ (base : Base ClassId). calls (path ++ base.class ∷ []) base.class) bases
@@ -178,9 +178,9 @@ below_bases calls path bases = flat_map (λ (base : Base ClassId). calls (path +
 abbrev pub calls_in : Classes → Places → ℕ → List ClassId → ClassId → List Offset
 calls_in h l zero path c = []
 calls_in h l (suc steps) path c =
-    below_bases (calls_in h l steps) path (filter (is_first_base (l.primary c)) (bases_of h c))
+    below_bases (calls_in h l steps) path (filter (is_nonvirtual_primary (l.primary c)) (bases_of h c))
     ++ map (call path) (own h c)
-    ++ below_bases (calls_in h l steps) path (filter (is_other_base (l.primary c)) (bases_of h c))
+    ++ below_bases (calls_in h l steps) path (filter (is_secondary_base (l.primary c)) (bases_of h c))
 
 abbrev pub calls : Classes → Places → ClassId → List Offset
 calls h l v = calls_in h l (v.0 + 1) (v ∷ []) v
@@ -205,18 +205,18 @@ offsets h l is_shared c = offsets_in h l (c.0 + 1) is_shared c
 
 -- numbers
 
-abbrev pub place_in : {A : Type 0} → (A → Bool) → List A → ℕ
-place_in p [] = 0
-place_in p (x ∷ xs) = if p x then 0 else suc (place_in p xs)
+abbrev pub first_position : {A : Type 0} → (A → Bool) → List A → ℕ
+first_position p [] = 0
+first_position p (x ∷ xs) = if p x then 0 else suc (first_position p xs)
 
 -- the number of a function's entry, from the address point upwards
 abbrev pub entry_number : Classes → Places → EntryKey → ℕ
-entry_number h l k = place_in (same_key (listing h l k)) (entries h l k.function.class)
+entry_number h l k = first_position (same_entry_key (listing h l k)) (entries h l k.function.class)
 
 -- the number of the offset to a virtual base, from 0 downwards: its word is the third before the address point and so on
 abbrev pub vbase_number : Classes → Places → ClassId → ClassId → ℕ
-vbase_number h l c v = place_in (is_base v) (offsets h l false c)
+vbase_number h l c v = first_position (is_base v) (offsets h l false c)
 
 -- the number of the offset to the final overrider of a function, in the tables of a virtual base
 abbrev pub vcall_number : Classes → Places → ClassId → FunctionId → ℕ
-vcall_number h l v f = place_in (is_name h f) (offsets h l true v)
+vcall_number h l v f = first_position (is_offset_of_name h f) (offsets h l true v)

@@ -12,16 +12,16 @@ use Rattle.abi_slots.specs.declared.words.Offset.{Offset}
 use Rattle.abi_slots.specs.declared.entries.Listing.{Listing}
 use Rattle.abi_slots.specs.declared.words.CodeKind.{CodeKind}
 use Rattle.abi_slots.specs.declared.words.CodeKind.TheVariants.{Plain, Complete, Deleting}
-use Rattle.abi_slots.specs.Listing.{same_key, place_in, own_keys, listing, shares, or_itself, is_first_base, is_other_base}
+use Rattle.abi_slots.specs.Listing.{same_entry_key, first_position, own_keys, listing, shares, or_itself, is_nonvirtual_primary, is_secondary_base}
 use Rattle.cxx_overrider.specs.Virtuals.{own}
 
 -- a key with the entry that it shares, or its own
-abbrev pub listed : EntryKey → Option EntryKey → Listing
-listed k shared = record { key = k; entry = or_itself k shared }
+abbrev pub listing_of_key : EntryKey → Option EntryKey → Listing
+listing_of_key k shared = record { key = k; entry = or_itself k shared }
 
 -- the keys with their entries, where these are the entries of the primary base
 abbrev pub listed_all : Classes → Places → List EntryKey → List EntryKey → List Listing
-listed_all h l old keys = map (λ k. listed k (find (shares h l k) old)) keys
+listed_all h l old keys = map (λ k. listing_of_key k (find (shares h l k) old)) keys
 
 -- what a key adds to the entries
 abbrev pub own_part : EntryKey → Option EntryKey → List EntryKey
@@ -30,8 +30,8 @@ own_part k (Some entry) = []
 
 -- a base that is the non-virtual primary one, or another non-virtual one
 abbrev pub is_chosen : Primary → Bool → Base ClassId → Bool
-is_chosen p true base = is_first_base p base
-is_chosen p false base = is_other_base p base
+is_chosen p true base = is_nonvirtual_primary p base
+is_chosen p false base = is_secondary_base p base
 
 abbrev pub class_of_base : Base ClassId → ClassId
 class_of_base base = base.class
@@ -47,14 +47,14 @@ below f path b = f (path ++ b ∷ []) b
 
 -- the entry is this one
 abbrev pub has_entry : EntryKey → Listing → Bool
-has_entry k listing = same_key listing.entry k
+has_entry k listing = same_entry_key listing.entry k
 
-abbrev pub function_of : Listing → FunctionId
-function_of listing = listing.key.function
+abbrev pub listing_function : Listing → FunctionId
+listing_function listing = listing.key.function
 
 -- the function of the first key that has the entry
-abbrev pub declared_in : List Listing → EntryKey → Option FunctionId
-declared_in listings k = option_map function_of (find (has_entry k) listings)
+abbrev pub listed_function : List Listing → EntryKey → Option FunctionId
+listed_function listings k = option_map listing_function (find (has_entry k) listings)
 
 -- it is the key by which a function's entry is numbered, and no destructor's second one
 abbrev pub is_first : CodeKind → Bool
@@ -64,11 +64,11 @@ is_first Deleting = false
 
 -- the numbers of entries, when that of one key more is kept
 abbrev pub with_entry : List EntryKey → List ℕ → Listing → List ℕ
-with_entry entries numbers listing = if is_first listing.key.kind then slice_set numbers listing.key.function.index (place_in (same_key listing.entry) entries) else numbers
+with_entry entries numbers listing = if is_first listing.key.kind then slice_set numbers listing.key.function.index (first_position (same_entry_key listing.entry) entries) else numbers
 
 -- under the index of each function stands the number of its entry
 pub record AreEntryNumbers (entries : List EntryKey) (listings : List Listing) (numbers : List ℕ) : Type 0 where
-  pub each : (j : ℕ) (x : Listing) → slice_get listings j ≡ Some x → is_first x.key.kind ≡ true → slice_get numbers x.key.function.index ≡ Some (place_in (same_key x.entry) entries)
+  pub each : (j : ℕ) (x : Listing) → slice_get listings j ≡ Some x → is_first x.key.kind ≡ true → slice_get numbers x.key.function.index ≡ Some (first_position (same_entry_key x.entry) entries)
 
 -- one index has one entry
 pub record HaveOneEntry (listings : List Listing) : Type 0 where

@@ -20,7 +20,7 @@ use Rattle.abi_slots.specs.declared.words.Table.{Table}
 use Rattle.abi_slots.specs.Listing.{listing, own_keys, entry_number, vbase_number}
 use Rattle.abi_slots.specs.Views.{View, place, heads, Serves}
 use Rattle.abi_slots.specs.Groups.{offset_bytes, return_for}
-use Rattle.abi_slots.specs.Dispatch.{Leads}
+use Rattle.abi_slots.specs.Dispatch.{LeadsByDistance}
 use Rattle.abi_slots.specs.Images.{Image, HasNumber, HasEntry, point_at}
 
 -- tables that stand in an image from an address on, with the numbers of code and the addresses of the records of classes
@@ -45,10 +45,10 @@ pub record HasDistance (l : Places) (x : View) (image : Image) (s o : Subobject)
   pub before : at + bytes ≡ point
   pub distance : ℤ
   pub there : HasNumber image at distance
-  pub leads : Leads l x s distance o
+  pub leads : LeadsByDistance l x s distance o
 
 -- 8 bytes before an address point stands the address of the record of class c
-pub record HasType (placed : PlacedTables) (c : ClassId) (point : ℕ) : Type 0 where
+pub record HasTypeInfo (placed : PlacedTables) (c : ClassId) (point : ℕ) : Type 0 where
   pub at : ℕ
   pub before : at + 8 ≡ point
   pub there : placed.image at ≡ Some (placed.info c)
@@ -57,8 +57,8 @@ pub record HasType (placed : PlacedTables) (c : ClassId) (point : ℕ) : Type 0 
 -- point of the table that serves this base
 pub data Adjusts (h : Classes) (l : Places) (x : View) (placed : PlacedTables) (s o : Subobject) : Option ThisAdjust → Type 0 where
   as_it_stands : place l x s ≡ place l x o → Adjusts h l x placed s o None
-  by_number : (distance : ℤ) → Leads l x s distance o → Adjusts h l x placed s o (Some (record { constant = distance; vcall = None }))
-  by_word : (v : ClassId) (distance : ℤ) (n : ℕ) → HasVirtualBase h x.class v → IsDynamic h v → Leads l x s distance (shared_base v) →
+  by_number : (distance : ℤ) → LeadsByDistance l x s distance o → Adjusts h l x placed s o (Some (record { constant = distance; vcall = None }))
+  by_word : (v : ClassId) (distance : ℤ) (n : ℕ) → HasVirtualBase h x.class v → IsDynamic h v → LeadsByDistance l x s distance (shared_base v) →
       ((point : ℕ) → IsPointOf h l x placed (shared_base v) point → HasDistance l x placed.image (shared_base v) o (8 * (n + 3)) point) →
       Adjusts h l x placed s o (Some (record { constant = distance; vcall = Some (offset_bytes n) }))
 
@@ -82,7 +82,7 @@ pub record Sees (h : Classes) (l : Places) (x : View) (placed : PlacedTables) (s
   pub calls : (k : EntryKey) → Contains (own_keys h c) k → HasCall h l x placed s k point
   pub converts : (v : ClassId) → HasVirtualBase h c v → HasDistance l x placed.image s (shared_base v) (8 * (vbase_number h l c v + 3)) point
   pub top : HasDistance l x placed.image s (whole_of x.class) 16 point
-  pub type_of : HasType placed x.class point
+  pub type_of : HasTypeInfo placed x.class point
 
 -- what the image gives for a view: each dynamic subobject has one address point, and from there sees what it needs
 pub record IsSeen (h : Classes) (l : Places) (x : View) (placed : PlacedTables) : Type 0 where

@@ -15,7 +15,7 @@ use Rattle.abi_slots.specs.declared.words.EntryKey.{EntryKey}
 use Rattle.abi_slots.specs.declared.rows.SlotRow.{SlotRow}
 use Rattle.abi_slots.specs.declared.slots.Slots.{Slots}
 use Rattle.cxx_overrider.specs.Virtuals.{same_name, own}
-use Rattle.abi_slots.specs.Listing.{key, same_key, listing, entries, offsets, is_name, entry_number, vbase_number, vcall_number}
+use Rattle.abi_slots.specs.Listing.{entry_key, same_entry_key, listing, entries, offsets, is_offset_of_name, entry_number, vbase_number, vcall_number}
 
 -- the number of a word from the address point, where offsets are counted from the third word before it downwards
 abbrev pub word_number : ℕ → ℤ
@@ -28,7 +28,7 @@ first_kind (Some destructor) = Complete
 
 -- the key of a function's entry; of a destructor the complete one's
 abbrev pub first_key : Classes → FunctionId → EntryKey
-first_key h f = key f (first_kind (signature_of h f))
+first_key h f = entry_key f (first_kind (signature_of h f))
 
 -- some class has it as a virtual base
 pub record IsVirtualBase (h : Classes) (v : ClassId) : Type 0 where
@@ -37,7 +37,7 @@ pub record IsVirtualBase (h : Classes) (v : ClassId) : Type 0 where
 
 -- the first virtual function that class c declares which has this entry in the tables of c
 abbrev pub declared_at : Classes → Places → ClassId → EntryKey → Option FunctionId
-declared_at h l c k = find (λ f. same_name h f k.function && same_key (listing h l (key f k.kind)) k) (own h c)
+declared_at h l c k = find (λ f. same_name h f k.function && same_entry_key (listing h l (entry_key f k.kind)) k) (own h c)
 
 -- what is kept of class c, where rows number the functions by their signatures
 pub record IsSlotRow (h : Classes) (l : Places) (rows : List (List ℕ)) (c : ClassId) (row : SlotRow) : Type 0 where
@@ -47,7 +47,7 @@ pub record IsSlotRow (h : Classes) (l : Places) (rows : List (List ℕ)) (c : Cl
   pub lists_offsets : row.offsets ≡ offsets h l false c
   pub vbase : (v : ClassId) → HasVirtualBase h c v → slice_get row.vbases v.0 ≡ Some (word_number (vbase_number h l c v))
   pub lists_shared : IsVirtualBase h c → row.shared_offsets ≡ offsets h l true c
-  pub vcall : IsVirtualBase h c → (f : FunctionId) (n : ℕ) → number_of rows f ≡ Some n → list_any (is_name h f) (offsets h l true c) ≡ true → slice_get row.vcalls n ≡ Some (word_number (vcall_number h l c f))
+  pub vcall : IsVirtualBase h c → (f : FunctionId) (n : ℕ) → number_of rows f ≡ Some n → list_any (is_offset_of_name h f) (offsets h l true c) ≡ true → slice_get row.vcalls n ≡ Some (word_number (vcall_number h l c f))
 
 -- what is kept of the classes of a hierarchy, over places
 pub record AreSlots (h : Classes) (l : Places) (slots : Slots) : Type 0 where

@@ -14,7 +14,7 @@ use Rattle.abi_primary.specs.Kinds.{IsDynamic}
 use Rattle.cxx_hierarchy.specs.Declarations.{has_virtual_function}
 use Rattle.abi_sound.specs.Places.{Places}
 use Rattle.cxx_subobject.specs.VirtualBases.{virtual_bases}
-use Rattle.abi_slots.specs.Listing.{is_shared_root}
+use Rattle.abi_slots.specs.Listing.{is_virtual_root}
 
 -- a subobject of a complete object as the view of a group: its class, and where it is. The subobjects of the view are those
 -- of its class
@@ -54,17 +54,17 @@ next_in l x s (Some c) = next_by l x s (l.primary c)
 abbrev pub next : Places → View → Subobject → Option Subobject
 next l x s = next_in l x s (class_of s)
 
-abbrev pub says_virtual : Option Class → Bool
-says_virtual None = false
-says_virtual (Some class) = has_virtual_function class
+abbrev pub declares_virtual_function : Option Class → Bool
+declares_virtual_function None = false
+declares_virtual_function (Some class) = has_virtual_function class
 
 abbrev pub class_says : Classes → Option ClassId → Bool
 class_says h None = false
-class_says h (Some c) = says_virtual (class_at h c)
+class_says h (Some c) = declares_virtual_function (class_at h c)
 
 -- a class is dynamic where it has a virtual base, or it or a base declares a virtual function
 abbrev pub is_dynamic : Classes → ClassId → Bool
-is_dynamic h c = list_any (λ s. is_shared_root s.root || class_says h (class_of s)) (preorder h c)
+is_dynamic h c = list_any (λ s. is_virtual_root s.root || class_says h (class_of s)) (preorder h c)
 
 abbrev pub is_dynamic_class : Classes → Option ClassId → Bool
 is_dynamic_class h None = false
@@ -91,10 +91,10 @@ abbrev pub heads : Classes → Places → View → List Subobject
 heads h l x = filter (is_head h l x) (by_part h x.class)
 
 -- the subobject so far down a chain
-abbrev pub walk : (Subobject → Option Subobject) → ℕ → Option Subobject → Option Subobject
-walk next zero s = s
-walk next (suc n) None = None
-walk next (suc n) (Some s) = walk next n (next s)
+abbrev pub along_chain : (Subobject → Option Subobject) → ℕ → Option Subobject → Option Subobject
+along_chain next zero s = s
+along_chain next (suc n) None = None
+along_chain next (suc n) (Some s) = along_chain next n (next s)
 
 -- the first of a chain that passes a test
 abbrev pub first_in : (Subobject → Bool) → (Subobject → Option Subobject) → ℕ → Option Subobject → Option Subobject
@@ -107,4 +107,4 @@ pub record Serves (h : Classes) (l : Places) (x : View) (t s : Subobject) : Type
   pub valid : IsSubobject h x.class t
   pub head : is_head h l x t ≡ true
   pub steps : ℕ
-  pub leads : walk (next l x) steps (Some t) ≡ Some s
+  pub leads : along_chain (next l x) steps (Some t) ≡ Some s

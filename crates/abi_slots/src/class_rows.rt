@@ -9,9 +9,9 @@ ghost use Rattle.abi_slots.specs.Limits.{most_offsets};
 ghost use Rattle.abi_slots.specs.Listing.{entries, offsets, primary_entries, primary_offsets};
 ghost use Rattle.abi_slots.specs.Rows.{listings_of, AreOwn};
 ghost use Rattle.abi_slots.specs.Slots.{IsVirtualBase, IsSlotRow};
-ghost use Rattle.abi_slots.specs.invariants.OffsetWords.{base_number, name_number, AreWords};
+ghost use Rattle.abi_slots.specs.invariants.OffsetWords.{virtual_base_number, name_number, AreWords};
 ghost use Rattle.abi_slots.specs.invariants.RowSites.{row_numbers, row_places, IsRowSite};
-ghost use Rattle.abi_slots.specs.invariants.SlotRows.{AreRows, IsBefore, IsShared, ListsShared};
+ghost use Rattle.abi_slots.specs.invariants.SlotRows.{AreSlotRows, IsPrimaryBefore, IsShared, ListsShared};
 
 use crate::entries::{Entries, entries_of};
 use crate::entry_tables::{declared_of, numbers_of};
@@ -32,8 +32,8 @@ use std::alloc::Global;
 
 /// The entries of a primary base.
 fn old_entries(rows: &[SlotRow], primary: Primary) -> &[EntryKey]
-    requires { IsBefore (length rows.now) primary }
-    ensures { (h : Classes) (l : Places) (numbers : List (List ℕ)) → AreRows h l numbers rows.now → result.now ≡ primary_entries (entries h l) primary }
+    requires { IsPrimaryBefore (length rows.now) primary }
+    ensures { (h : Classes) (l : Places) (numbers : List (List ℕ)) → AreSlotRows h l numbers rows.now → result.now ≡ primary_entries (entries h l) primary }
 {
     match primary {
         Primary::None => &[],
@@ -44,9 +44,9 @@ fn old_entries(rows: &[SlotRow], primary: Primary) -> &[EntryKey]
 
 /// The offsets of a primary base.
 fn old_offsets(rows: &[SlotRow], primary: Primary) -> &[Offset]
-    requires { IsBefore (length rows.now) primary }
+    requires { IsPrimaryBefore (length rows.now) primary }
     ensures few { length result.now ≤ most_offsets }
-    ensures offsets { (h : Classes) (l : Places) (numbers : List (List ℕ)) → AreRows h l numbers rows.now → IsShared h primary → result.now ≡ primary_offsets (offsets h l) primary }
+    ensures offsets { (h : Classes) (l : Places) (numbers : List (List ℕ)) → AreSlotRows h l numbers rows.now → IsShared h primary → result.now ≡ primary_offsets (offsets h l) primary }
 {
     match primary {
         Primary::None => &[],
@@ -67,7 +67,7 @@ fn class_entries<L: SoundLayout>(
     requires site { IsRowSite L.lays_out site.now }
     requires known { c.0 < length site.now.h.now }
     requires size { length rows.now ≡ c.0 }
-    requires rows { AreRows site.now.h.now (row_places L.rows site.now) (row_numbers site.now) rows.now }
+    requires rows { AreSlotRows site.now.h.now (row_places L.rows site.now) (row_numbers site.now) rows.now }
     requires own { mine.now ≡ own site.now.h.now c }
     ensures entries { IfOk result (λ all. all.entries.items ≡ entries site.now.h.now (row_places L.rows site.now) c) }
     ensures listings { IfOk result (λ all. all.listings.items ≡ listings_of site.now.h.now (row_places L.rows site.now) c) }
@@ -97,10 +97,10 @@ fn class_offsets<L: SoundLayout>(
     requires site { IsRowSite L.lays_out site.now }
     requires known { c.0 < length site.now.h.now }
     requires size { length rows.now ≡ c.0 }
-    requires rows { AreRows site.now.h.now (row_places L.rows site.now) (row_numbers site.now) rows.now }
+    requires rows { AreSlotRows site.now.h.now (row_places L.rows site.now) (row_numbers site.now) rows.now }
     ensures offsets { IfOk result (λ table. table.offsets.items ≡ offsets site.now.h.now (row_places L.rows site.now) false c) }
     ensures size { IfOk result (λ table. length table.words.items ≡ c.0) }
-    ensures words { IfOk result (λ table. AreWords base_number table.offsets.items table.words.items) }
+    ensures words { IfOk result (λ table. AreWords virtual_base_number table.offsets.items table.words.items) }
 {
     site.h.keeps();
     let row = site.layout.layout(c);
@@ -186,7 +186,7 @@ fn slot_row<L: SoundLayout>(
     requires site { IsRowSite L.lays_out site.now }
     requires known { c.0 < length site.now.h.now }
     requires size { length rows.now ≡ c.0 }
-    requires rows { AreRows site.now.h.now (row_places L.rows site.now) (row_numbers site.now) rows.now }
+    requires rows { AreSlotRows site.now.h.now (row_places L.rows site.now) (row_numbers site.now) rows.now }
     ensures { IfOk result (IsSlotRow site.now.h.now (row_places L.rows site.now) (row_numbers site.now) c) }
 {
     site.h.keeps();
@@ -238,7 +238,7 @@ pub fn own_of_each(
 pub(crate) fn rows_of_each<L: SoundLayout>(site: &RowSite<L>) -> Result<Vec<SlotRow>, NoMemory>
     requires site { IsRowSite L.lays_out site.now }
     ensures size { IfOk result (λ rows. length rows.items ≡ length site.now.h.now) }
-    ensures rows { IfOk result (λ rows. AreRows site.now.h.now (row_places L.rows site.now) (row_numbers site.now) rows.items) }
+    ensures rows { IfOk result (λ rows. AreSlotRows site.now.h.now (row_places L.rows site.now) (row_numbers site.now) rows.items) }
 {
     let mut rows = Vec::new(site.alloc);
     for number in 0..site.h.len() {

@@ -3,8 +3,8 @@
 ghost use Rattle.std.specs.Prelude.{◌≡◌, IfOk};
 ghost use Rattle.cxx_overrider.specs.declared.FunctionId.{FunctionId};
 ghost use Rattle.abi_slots.specs.declared.code_numbers.BlockKind.{BlockKind};
-ghost use Rattle.abi_slots.specs.CodeRows.{AreDistinct, code_of};
-ghost use Rattle.abi_slots.specs.invariants.CodeTables.{code_in, key};
+ghost use Rattle.abi_slots.specs.CodeRows.{AreDistinctRows, code_of};
+ghost use Rattle.abi_slots.specs.invariants.CodeTables.{code_in, code_key};
 
 use crate::code_table::{CodeTable, key_of};
 use cxx_overrider::FunctionId;
@@ -47,18 +47,18 @@ impl Model for CodeNumbers {
     ghost use Rattle.abi_slots.specs.declared.code_numbers.BlockKind.{BlockKind};
     ghost use Rattle.abi_slots.specs.declared.code_numbers.CodeRow.{CodeRow};
     ghost use Rattle.abi_slots.specs.CodeRows.{code_of};
-    ghost use Rattle.abi_slots.specs.invariants.CodeTables.{code_in, key};
+    ghost use Rattle.abi_slots.specs.invariants.CodeTables.{code_in, code_key};
 
     ghost Value = { List CodeRow };
 
     ghost view = { λ codes. codes.rows };
 
-    ghost invariant = { λ codes. (f : FunctionId) (kind : BlockKind) → code_in codes.table (key f kind) ≡ code_of codes.rows f kind };
+    ghost invariant = { λ codes. (f : FunctionId) (kind : BlockKind) → code_in codes.table (code_key f kind) ≡ code_of codes.rows f kind };
 }
 
 /// The table of rows. It is filled from the last row to the first, so that the first row with a key stays.
 fn table_of(alloc: Global, rows: &[CodeRow]) -> Result<CodeTable, NoMemory>
-    ensures { IfOk result (λ table. (f : FunctionId) (kind : BlockKind) → code_in table (key f kind) ≡ code_of rows.now f kind) }
+    ensures { IfOk result (λ table. (f : FunctionId) (kind : BlockKind) → code_in table (code_key f kind) ≡ code_of rows.now f kind) }
 {
     let mut table = CodeTable::new(alloc);
     let mut left = rows.len();
@@ -75,7 +75,7 @@ impl CodeNumbers {
     ///
     /// Errors: want of memory.
     pub fn new(alloc: Global, rows: CodeRowList) -> Result<CodeNumbers, NoMemory>
-        requires { AreDistinct rows }
+        requires { AreDistinctRows rows }
         ensures { IfOk result (λ codes. codes ≡ rows) }
     {
         let table = table_of(alloc, rows.as_slice())?;

@@ -3,7 +3,7 @@
 ghost use Rattle.std.specs.Prelude.{◌≡◌, OnOk, OnErr, None, Some, if◌then◌else◌};
 ghost use Rattle.abi_slots.specs.CodeRows.{kind_number};
 ghost use Rattle.abi_slots.specs.declared.code_table.CodeKey.{CodeKey};
-ghost use Rattle.abi_slots.specs.invariants.CodeTables.{code_in, key, same_key};
+ghost use Rattle.abi_slots.specs.invariants.CodeTables.{code_in, code_key, same_code_key};
 
 use crate::code_numbers::BlockKind;
 use cxx_overrider::FunctionId;
@@ -34,7 +34,7 @@ fn kind_number(kind: BlockKind) -> u32
 
 /// The key of a form of a function.
 pub fn key_of(f: FunctionId, kind: BlockKind) -> CodeKey
-    ensures { result ≡ key f kind }
+    ensures { result ≡ code_key f kind }
 {
     CodeKey {
         class: f.class.0,
@@ -68,7 +68,7 @@ impl CodeTable {
 
     /// Puts a number under a key. Where memory is wanting nothing is put.
     pub fn put(&mut self, key: CodeKey, code: u32) -> Result<(), NoMemory>
-        ensures put { OnOk result ((q : CodeKey) → code_in self.new q ≡ (if same_key q key then Some code else code_in self.old q)) }
+        ensures put { OnOk result ((q : CodeKey) → code_in self.new q ≡ (if same_code_key q key then Some code else code_in self.old q)) }
         ensures err { OnErr result ((q : CodeKey) → code_in self.new q ≡ code_in self.old q) }
     {
         self.codes.insert(key, code)?;

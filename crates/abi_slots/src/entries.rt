@@ -7,7 +7,7 @@ ghost use Rattle.cxx_overrider.specs.invariants.Numbers.{IsNumbering};
 ghost use Rattle.abi_sound.specs.Places.{places_of};
 ghost use Rattle.abi_slots.specs.declared.words.EntryKey.{EntryKey};
 ghost use Rattle.abi_slots.specs.Listing.{shares, or_itself, new_entries};
-ghost use Rattle.abi_slots.specs.Rows.{listed, listed_all, own_part};
+ghost use Rattle.abi_slots.specs.Rows.{listing_of_key, listed_all, own_part};
 
 use crate::keys::shared_entry;
 use crate::words::EntryKey;
@@ -34,7 +34,7 @@ pub struct Entries {
 /// Puts the entry of a key behind the others: the one that it shares, or a new one.
 fn push_entry(all: &mut Entries, key: EntryKey, shared: Option<EntryKey>) -> Result<(), NoMemory>
     ensures entries { OnOk result (all.new.entries.items ≡ all.old.entries.items ++ own_part key shared) }
-    ensures listings { OnOk result (all.new.listings.items ≡ all.old.listings.items ++ listed key shared ∷ []) }
+    ensures listings { OnOk result (all.new.listings.items ≡ all.old.listings.items ++ listing_of_key key shared ∷ []) }
 {
     match shared {
         Some(entry) => all.listings.push(Listing { key, entry })?,

@@ -3,8 +3,8 @@
 ghost use Rattle.std.specs.Prelude.{◌≡◌, ◌<◌, ◌≤◌, IfOk, IfSome, All, length, map, position};
 ghost use Rattle.abi_slots.specs.declared.entries.Listing.{Listing};
 ghost use Rattle.abi_slots.specs.Limits.{most_entries};
-ghost use Rattle.abi_slots.specs.Listing.{same_key, place_in};
-ghost use Rattle.abi_slots.specs.Rows.{declared_in, with_entry, AreEntryNumbers, HaveOneEntry};
+ghost use Rattle.abi_slots.specs.Listing.{same_entry_key, first_position};
+ghost use Rattle.abi_slots.specs.Rows.{listed_function, with_entry, AreEntryNumbers, HaveOneEntry};
 
 use crate::entries::Listing;
 use crate::keys::is_same_key;
@@ -16,7 +16,7 @@ use std::alloc::Global;
 
 /// The function of a class's own that has an entry.
 fn declared_in(listings: &[Listing], entry: EntryKey) -> Option<FunctionId>
-    ensures { result ≡ declared_in listings.now entry }
+    ensures { result ≡ listed_function listings.now entry }
 {
     for listing in listings {
         if is_same_key(listing.entry, entry) {
@@ -34,7 +34,7 @@ pub fn declared_of(
     listings: &[Listing],
     entries: &[EntryKey],
 ) -> Result<DeclaredList, NoMemory>
-    ensures { IfOk result (λ list. list ≡ map (declared_in listings.now) entries.now) }
+    ensures { IfOk result (λ list. list ≡ map (listed_function listings.now) entries.now) }
 {
     let mut list = Sequence::new(alloc);
     for entry in entries {
@@ -45,7 +45,7 @@ pub fn declared_of(
 
 /// The place of an entry among others.
 fn position_of(entries: &[EntryKey], entry: EntryKey) -> Option<usize>
-    ensures place { result ≡ position (same_key entry) entries.now }
+    ensures place { result ≡ position (same_entry_key entry) entries.now }
     ensures within { IfSome result (λ place. place < length entries.now) }
 {
     entries.iter().position(|other| is_same_key(entry, *other))
@@ -53,7 +53,7 @@ fn position_of(entries: &[EntryKey], entry: EntryKey) -> Option<usize>
 
 /// The place of an entry among others, and how many there are where it is none of these.
 fn place_in(entries: &[EntryKey], entry: EntryKey) -> usize
-    ensures place { result ≡ place_in (same_key entry) entries.now }
+    ensures place { result ≡ first_position (same_entry_key entry) entries.now }
     ensures within { result ≤ length entries.now }
 {
     match position_of(entries, entry) {

@@ -11,7 +11,7 @@ ghost use Rattle.cxx_overrider.specs.Functions.{return_of};
 ghost use Rattle.cxx_overrider.specs.invariants.Numbers.{IsNumbering};
 ghost use Rattle.cxx_overrider.specs.Overriders.{AreOverriders};
 ghost use Rattle.cxx_overrider.specs.Virtuals.{function_at, index_of, declared, same_name, is_virtual, own};
-ghost use Rattle.abi_slots.specs.Listing.{pointee, conversion, is_class, base_of};
+ghost use Rattle.abi_slots.specs.Listing.{pointee, conversion, reaches_class, base_of_class};
 
 use crate::words::Conversion;
 use cxx_hierarchy::{
@@ -165,7 +165,7 @@ pub fn conversion(h: &Hierarchy, f: FunctionId, g: FunctionId) -> Option<Convers
 }
 
 fn is_of_class(s: &Subobject, d: ClassId) -> bool
-    ensures { result ≡ is_class d (class_of s.now) }
+    ensures { result ≡ reaches_class d (class_of s.now) }
 {
     match class_of(s) {
         Some(c) => c.0 == d.0,
@@ -175,7 +175,7 @@ fn is_of_class(s: &Subobject, d: ClassId) -> bool
 
 /// The number of the first subobject that is of a class.
 fn number_of_class(list: &[Subobject], d: ClassId) -> Option<usize>
-    ensures { result ≡ position (λ (s : Subobject). is_class d (class_of s)) list.now }
+    ensures { result ≡ position (λ (s : Subobject). reaches_class d (class_of s)) list.now }
 {
     list.iter().position(|s| is_of_class(s, d))
 }
@@ -190,7 +190,7 @@ pub fn base_of(
     y: ClassId,
 ) -> Result<Option<Subobject>, NoMemory>
     requires { x.0 < length h.now }
-    ensures base { IfOk result (λ base. base ≡ base_of h.now x y) }
+    ensures base { IfOk result (λ base. base ≡ base_of_class h.now x y) }
     ensures valid { IfOk result (λ base. IfSome base (IsSubobject h.now x)) }
 {
     let list = list_subobjects(alloc, h, x)?;

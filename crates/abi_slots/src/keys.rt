@@ -8,7 +8,7 @@ ghost use Rattle.cxx_overrider.specs.Functions.{signature_of};
 ghost use Rattle.cxx_overrider.specs.invariants.Numbers.{IsNumbering};
 ghost use Rattle.abi_sound.specs.Places.{places_of};
 ghost use Rattle.abi_slots.specs.declared.words.EntryKey.{EntryKey};
-ghost use Rattle.abi_slots.specs.Listing.{same_kind, same_function, same_key, keys_of, needs_return, shares};
+ghost use Rattle.abi_slots.specs.Listing.{same_kind, same_function_id, same_entry_key, keys_of, needs_return, shares};
 
 use crate::functions::{base_of, conversion, is_same_name};
 use crate::words::{CodeKind, EntryKey};
@@ -43,14 +43,14 @@ fn is_same_kind(a: CodeKind, b: CodeKind) -> bool
 }
 
 fn is_same_function(f: FunctionId, g: FunctionId) -> bool
-    ensures { result ≡ same_function f g }
+    ensures { result ≡ same_function_id f g }
 {
     f.class.0 == g.class.0 && f.index == g.index
 }
 
 /// Whether two keys are one.
 pub fn is_same_key(a: EntryKey, b: EntryKey) -> bool
-    ensures { result ≡ same_key a b }
+    ensures { result ≡ same_entry_key a b }
 {
     is_same_function(a.function, b.function) && is_same_kind(a.kind, b.kind)
 }

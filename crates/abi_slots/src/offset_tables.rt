@@ -5,7 +5,7 @@ ghost use Rattle.cxx_overrider.specs.invariants.Numbers.{IsNumbering};
 ghost use Rattle.abi_slots.specs.declared.words.Offset.{Offset};
 ghost use Rattle.abi_slots.specs.Limits.{most_offsets};
 ghost use Rattle.abi_slots.specs.Slots.{word_number};
-ghost use Rattle.abi_slots.specs.invariants.OffsetWords.{base_number, name_number, first_word, with_word, AreWords};
+ghost use Rattle.abi_slots.specs.invariants.OffsetWords.{virtual_base_number, name_number, first_word, with_offset_word, AreWords};
 
 use crate::words::Offset;
 use cxx_overrider::signatures::{Numbering, number_of};
@@ -54,7 +54,7 @@ pub fn push_offset(
     requires few { length table.old.offsets.items < most_offsets }
     requires within { IfSome number (λ n. n < length table.old.words.items) }
     ensures offsets { OnOk result (table.new.offsets.items ≡ table.old.offsets.items ++ offset ∷ []) }
-    ensures words { OnOk result (table.new.words.items ≡ with_word (length table.old.offsets.items) number table.old.words.items) }
+    ensures words { OnOk result (table.new.words.items ≡ with_offset_word (length table.old.offsets.items) number table.old.words.items) }
 {
     let place = table.offsets.len();
     table.offsets.push(offset)?;
@@ -67,7 +67,7 @@ pub fn push_offset(
 
 /// The number of the virtual base to which an offset leads.
 fn base_number(offset: &Offset) -> Option<usize>
-    ensures { result ≡ base_number offset.now }
+    ensures { result ≡ virtual_base_number offset.now }
 {
     match offset {
         Offset::ToBase(v) => Some(v.0 as usize),
@@ -101,10 +101,10 @@ fn copied(alloc: Global, offset: &Offset) -> Result<Offset, NoMemory>
 /// Errors: want of memory.
 pub fn base_table(alloc: Global, old: &[Offset], count: usize) -> Result<OffsetTable, NoMemory>
     requires few { length old.now ≤ most_offsets }
-    requires within { All (λ (x : Offset). IfSome (base_number x) (λ n. n < count)) old.now }
+    requires within { All (λ (x : Offset). IfSome (virtual_base_number x) (λ n. n < count)) old.now }
     ensures offsets { IfOk result (λ table. table.offsets.items ≡ old.now) }
     ensures size { IfOk result (λ table. length table.words.items ≡ count) }
-    ensures words { IfOk result (λ table. AreWords base_number table.offsets.items table.words.items) }
+    ensures words { IfOk result (λ table. AreWords virtual_base_number table.offsets.items table.words.items) }
 {
     let mut table = OffsetTable {
         offsets: Vec::new(alloc),

@@ -7,7 +7,7 @@ ghost use Rattle.cxx_overrider.specs.invariants.Numbers.{IsNumbering};
 ghost use Rattle.abi_slots.specs.declared.words.Offset.TheVariants.{ToBase, ToOverrider};
 ghost use Rattle.abi_slots.specs.Limits.{most_offsets};
 ghost use Rattle.abi_slots.specs.Listing.{push_new, push_all};
-ghost use Rattle.abi_slots.specs.invariants.OffsetWords.{base_number, name_number, AreWords};
+ghost use Rattle.abi_slots.specs.invariants.OffsetWords.{virtual_base_number, name_number, AreWords};
 
 use crate::offset_tables::{OffsetTable, has_word, push_offset};
 use crate::words::Offset;
@@ -21,11 +21,11 @@ use std::alloc::Global;
 /// Puts the offset to a virtual base behind the others, where it is not there yet.
 fn push_base(table: &mut OffsetTable, h: &Hierarchy, v: ClassId) -> Result<(), NoMemory>
     requires within { v.0 < length table.old.words.items }
-    requires words { AreWords base_number table.old.offsets.items table.old.words.items }
+    requires words { AreWords virtual_base_number table.old.offsets.items table.old.words.items }
     requires few { length (push_new h.now table.old.offsets.items (ToBase v)) ≤ most_offsets }
     ensures offsets { OnOk result (table.new.offsets.items ≡ push_new h.now table.old.offsets.items (ToBase v)) }
     ensures size { OnOk result (length table.new.words.items ≡ length table.old.words.items) }
-    ensures words { OnOk result (AreWords base_number table.new.offsets.items table.new.words.items) }
+    ensures words { OnOk result (AreWords virtual_base_number table.new.offsets.items table.new.words.items) }
 {
     let _h = h;
     if !has_word(table, v.0 as usize) {
@@ -39,11 +39,11 @@ fn push_base(table: &mut OffsetTable, h: &Hierarchy, v: ClassId) -> Result<(), N
 /// Errors: want of memory.
 pub fn push_bases(table: &mut OffsetTable, h: &Hierarchy, bases: &[ClassId]) -> Result<(), NoMemory>
     requires within { All (λ (v : ClassId). v.0 < length table.old.words.items) bases.now }
-    requires words { AreWords base_number table.old.offsets.items table.old.words.items }
+    requires words { AreWords virtual_base_number table.old.offsets.items table.old.words.items }
     requires few { length (push_all h.now table.old.offsets.items (map ToBase bases.now)) ≤ most_offsets }
     ensures offsets { OnOk result (table.new.offsets.items ≡ push_all h.now table.old.offsets.items (map ToBase bases.now)) }
     ensures size { OnOk result (length table.new.words.items ≡ length table.old.words.items) }
-    ensures words { OnOk result (AreWords base_number table.new.offsets.items table.new.words.items) }
+    ensures words { OnOk result (AreWords virtual_base_number table.new.offsets.items table.new.words.items) }
 {
     for v in bases {
         push_base(table, h, *v)?;

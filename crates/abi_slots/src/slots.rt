@@ -9,7 +9,7 @@ ghost use Rattle.cxx_overrider.specs.Overriders.{AreOverriders};
 ghost use Rattle.abi_sound.specs.Places.{Places, places_of};
 ghost use Rattle.cxx_overrider.specs.Virtuals.{own};
 ghost use Rattle.abi_slots.specs.Limits.{most_entries, most_offsets};
-ghost use Rattle.abi_slots.specs.Listing.{is_name, entries, offsets, entry_number, vbase_number, vcall_number};
+ghost use Rattle.abi_slots.specs.Listing.{is_offset_of_name, entries, offsets, entry_number, vbase_number, vcall_number};
 ghost use Rattle.abi_slots.specs.Slots.{word_number, first_key, declared_at, IsVirtualBase, AreSlots};
 
 use crate::class_rows::{own_of_each, rows_of_each};
@@ -113,7 +113,7 @@ impl Slots {
     /// The number of the word that leads from a virtual base to the final overrider of a function, from the address point: -3
     /// and below. It takes no memory.
     pub fn vcall(&self, v: ClassId, f: FunctionId) -> i32
-        ensures { (h : Classes) (l : Places) → AreSlots h l self.now → IsVirtualBase h v → list_any (is_name h f) (offsets h l true v) ≡ true → result ≡ word_number (vcall_number h l v f) }
+        ensures { (h : Classes) (l : Places) → AreSlots h l self.now → IsVirtualBase h v → list_any (is_offset_of_name h f) (offsets h l true v) ≡ true → result ≡ word_number (vcall_number h l v f) }
     {
         match self.rows.get(v.0 as usize) {
             Some(row) => match number_of(&self.numbering.rows, f) {

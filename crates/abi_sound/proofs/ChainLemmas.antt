@@ -23,7 +23,7 @@ use Rattle.abi_primary.specs.declared.Primary.TheVariants.{Direct}
 use Rattle.abi_primary.specs.Kinds.{IsDynamic}
 use Rattle.abi_sound.specs.declared.class_layout.ClassLayout.{ClassLayout}
 use Rattle.abi_sound.specs.Places.{Places, places_of}
-use Rattle.abi_sound.specs.Chains.{is_subobject_in, primary_part, IsInChain, itself, further, ShareChain, downwards, upwards, in_element, chain_behind, chain_within, chain, but_last, only_above, kept_above, above, climbed, head_after, head}
+use Rattle.abi_sound.specs.Chains.{is_subobject_in, primary_part, IsInChain, itself, further, ShareChain, downwards, upwards, in_element, chain_behind, chain_within, chain, but_last, only_above, kept_above, above, climbed, head_after, chain_head}
 use Rattle.abi_sound.specs.Sound.{is_primary_of, IsSoundLayout}
 use Rattle.abi_sound.proofs.PlaceLemmas.{place_at_base}
 use Rattle.abi_sound.proofs.PrimaryParts.{IsPrimaryPart, by_direct, by_holder, is_in, in_itself, primary_cases, primary_is, primary_base, primary_valid}
@@ -208,7 +208,7 @@ chain_after l within (suc n) c s = by_option (above l c s) refl (chain_after l w
     by_option None e next = itself s
     by_option (Some t) e next = by_test t (within t) e (next t)
 
-pub head_chain : (l : Places) (within : Subobject → Bool) (c : ClassId) (s : Subobject) → IsInChain l c (head l within c s) s
+pub head_chain : (l : Places) (within : Subobject → Bool) (c : ClassId) (s : Subobject) → IsInChain l c (chain_head l within c s) s
 head_chain l within c s = chain_after l within (c.0 + 1) c s
 
 -- a head is picked where the subobject is
@@ -224,7 +224,7 @@ picked_after l within (suc n) c s picked = by_option (above l c s) (picked_after
     by_option None next = picked
     by_option (Some t) next = by_test t (within t) refl (next t)
 
-pub head_picked : (l : Places) (within : Subobject → Bool) (c : ClassId) (s : Subobject) → within s ≡ true → within (head l within c s) ≡ true
+pub head_picked : (l : Places) (within : Subobject → Bool) (c : ClassId) (s : Subobject) → within s ≡ true → within (chain_head l within c s) ≡ true
 head_picked l within c s picked = picked_after l within (c.0 + 1) c s picked
 
 valid_after : (h : Classes) (rows : List ClassLayout) → IsSoundLayout h rows → (within : Subobject → Bool) (n : ℕ) (c : ClassId) (s : Subobject) → c.0 < length h → IsSubobject h c s → IsSubobject h c (head_after (places_of h rows) within n c s)
@@ -240,7 +240,7 @@ valid_after h rows sound within (suc n) c s lt valid = by_option (above (places_
     by_option (Some t) e next = by_test t (within t) (next t (above_valid h rows sound c s t lt valid e))
 
 -- a head is a subobject
-pub head_valid : (h : Classes) (rows : List ClassLayout) → IsSoundLayout h rows → (within : Subobject → Bool) (c : ClassId) (s : Subobject) → c.0 < length h → IsSubobject h c s → IsSubobject h c (head (places_of h rows) within c s)
+pub head_valid : (h : Classes) (rows : List ClassLayout) → IsSoundLayout h rows → (within : Subobject → Bool) (c : ClassId) (s : Subobject) → c.0 < length h → IsSubobject h c s → IsSubobject h c (chain_head (places_of h rows) within c s)
 head_valid h rows sound within c s lt valid = valid_after h rows sound within (c.0 + 1) c s lt valid
 
 -- what is above a subobject is of a later class, up to the class of the object
@@ -274,7 +274,7 @@ top_after h rows keeps sound within (suc n) c d s lt valid class few =
         by_test t (within t) refl e (next t up.0 is up.1 (omega (arith, more, few)))
 
 -- nothing that is picked stands above a head
-pub head_top : (h : Classes) (rows : List ClassLayout) → IsHierarchy h → IsSoundLayout h rows → (within : Subobject → Bool) (c : ClassId) (s : Subobject) → c.0 < length h → IsSubobject h c s → IsTop (places_of h rows) within c (head (places_of h rows) within c s)
+pub head_top : (h : Classes) (rows : List ClassLayout) → IsHierarchy h → IsSoundLayout h rows → (within : Subobject → Bool) (c : ClassId) (s : Subobject) → c.0 < length h → IsSubobject h c s → IsTop (places_of h rows) within c (chain_head (places_of h rows) within c s)
 head_top h rows keeps sound within c s lt valid = let k = class_there h c s valid in top_after h rows keeps sound within (c.0 + 1) c k.0 s lt valid k.1 (omega arith)
 
 picked_along : (h : Classes) (rows : List ClassLayout) → IsHierarchy h → IsSoundLayout h rows → (within : Subobject → Bool) (c : ClassId) (s t : Subobject) → c.0 < length h → IsSubobject h c s → within s ≡ true → IsClosed h (places_of h rows) within c → IsInChain (places_of h rows) c s t → within t ≡ true
@@ -316,23 +316,23 @@ one_after h rows keeps sound within (suc n) c d s t lt valid picked closed top c
 
 -- a picked subobject above which nothing is picked is the head of all that is in its chain
 pub one_head : (h : Classes) (rows : List ClassLayout) → IsHierarchy h → IsSoundLayout h rows → (within : Subobject → Bool) (c : ClassId) (s t : Subobject) → c.0 < length h → IsSubobject h c t → within t ≡ true → IsClosed h (places_of h rows) within c → IsTop (places_of h rows) within c t
-    → IsInChain (places_of h rows) c t s → t ≡ head (places_of h rows) within c s
+    → IsInChain (places_of h rows) c t s → t ≡ chain_head (places_of h rows) within c s
 one_head h rows keeps sound within c s t lt valid picked closed top chain =
     let k = class_there h c s (chain_valid h rows keeps sound c t s lt valid chain) in
     one_after h rows keeps sound within (c.0 + 1) c k.0 s t lt valid picked closed top chain k.1 (omega arith)
 
 -- a subobject and what is in its chain have one head
 pub heads_same : (h : Classes) (rows : List ClassLayout) → IsHierarchy h → IsSoundLayout h rows → (within : Subobject → Bool) (c : ClassId) (s t : Subobject) → c.0 < length h → IsSubobject h c s → within s ≡ true → IsClosed h (places_of h rows) within c → IsInChain (places_of h rows) c s t
-    → head (places_of h rows) within c s ≡ head (places_of h rows) within c t
+    → chain_head (places_of h rows) within c s ≡ chain_head (places_of h rows) within c t
 heads_same h rows keeps sound within c s t lt valid picked closed chain =
     let l = places_of h rows in
-    one_head h rows keeps sound within c t (head l within c s) lt (head_valid h rows sound within c s lt valid) (head_picked l within c s picked) closed (head_top h rows keeps sound within c s lt valid)
-    (chain_joined l c (head l within c s) s t (head_chain l within c s) chain)
+    one_head h rows keeps sound within c t (chain_head l within c s) lt (head_valid h rows sound within c s lt valid) (head_picked l within c s picked) closed (head_top h rows keeps sound within c s lt valid)
+    (chain_joined l c (chain_head l within c s) s t (head_chain l within c s) chain)
 
 -- a head lies where the subobject does
-pub head_place : (h : Classes) (rows : List ClassLayout) → IsHierarchy h → IsSoundLayout h rows → (within : Subobject → Bool) (c : ClassId) (s : Subobject) → c.0 < length h → IsSubobject h c s → (places_of h rows).place c (head (places_of h rows) within c s) ≡ (places_of h rows).place c s
+pub head_place : (h : Classes) (rows : List ClassLayout) → IsHierarchy h → IsSoundLayout h rows → (within : Subobject → Bool) (c : ClassId) (s : Subobject) → c.0 < length h → IsSubobject h c s → (places_of h rows).place c (chain_head (places_of h rows) within c s) ≡ (places_of h rows).place c s
 head_place h rows keeps sound within c s lt valid =
-    sym (chain_place h rows keeps sound c (head (places_of h rows) within c s) s lt (head_valid h rows sound within c s lt valid) (head_chain (places_of h rows) within c s))
+    sym (chain_place h rows keeps sound c (chain_head (places_of h rows) within c s) s lt (head_valid h rows sound within c s lt valid) (head_chain (places_of h rows) within c s))
 
 -- what two subobjects of one object share is a chain of theirs
 share_cases : (h : Classes) (l : Places) (c : ClassId) (s t : Subobject) (hops others : List Hop) → ShareChain h l c hops others → hops ≡ Inherit s ∷ [] → others ≡ Inherit t ∷ [] → IsInChain l c s t ⊎ IsInChain l c t s
@@ -348,7 +348,7 @@ share_cases h l _ s t _ _ (in_element c d k x m i hops others class element rest
 
 -- the virtual pointers of two dynamic subobjects whose heads differ have no byte in common
 pub heads_apart : (h : Classes) (rows : List ClassLayout) → IsHierarchy h → IsSoundLayout h rows → (within : Subobject → Bool) (c d e : ClassId) (s t : Subobject) → c.0 < length h → IsClosed h (places_of h rows) within c → IsSubobject h c s → IsSubobject h c t → within s ≡ true → within t ≡ true
-    → class_of s ≡ Some d → class_of t ≡ Some e → IsDynamic h d → IsDynamic h e → (head (places_of h rows) within c s ≡ head (places_of h rows) within c t → ⊥)
+    → class_of s ≡ Some d → class_of t ≡ Some e → IsDynamic h d → IsDynamic h e → (chain_head (places_of h rows) within c s ≡ chain_head (places_of h rows) within c t → ⊥)
     → ((places_of h rows).place c s + 8 ≤ (places_of h rows).place c t) ⊎ ((places_of h rows).place c t + 8 ≤ (places_of h rows).place c s)
 heads_apart h rows keeps sound within c d e s t lt closed valid other picked also class class_other moves moves_other differ =
     let l = places_of h rows in

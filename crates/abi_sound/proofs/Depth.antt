@@ -9,7 +9,7 @@ use Rattle.cxx_subobject.specs.declared.locations.Hop.{Hop}
 use Rattle.cxx_subobject.specs.declared.locations.Hop.TheVariants.{Inherit, Member as MemberHop}
 use Rattle.cxx_subobject.specs.Locations.{to_subobject}
 use Rattle.abi_sound.specs.Places.{places_of}
-use Rattle.abi_sound.specs.Locations.{place_at}
+use Rattle.abi_sound.specs.Locations.{place_along_hops}
 use Rattle.abi_sound.specs.Sound.{IsSoundLayout}
 use Rattle.abi_sound.proofs.PlaceLemmas.{place_at_base}
 
@@ -37,7 +37,7 @@ below h rows sound c s lt is =
 pub distinct : (h : Classes) (rows : List ClassLayout) → IsSoundLayout h rows → (c d : ClassId) (s t : Subobject) → c.0 < length h → IsSubobject h c s → IsSubobject h c t → class_of s ≡ Some d → class_of t ≡ Some d → (places_of h rows).place c s ≡ (places_of h rows).place c t → s ≡ t
 distinct h rows sound c d s t lt x y e f same =
     let l = places_of h rows in
-    let at : place_at h l c (Inherit s ∷ []) ≡ place_at h l c (Inherit t ∷ []) = place_at_base h l c s ∙ (same ∙ sym (place_at_base h l c t)) in
+    let at : place_along_hops h l c (Inherit s ∷ []) ≡ place_along_hops h l c (Inherit t ∷ []) = place_at_base h l c s ∙ (same ∙ sym (place_at_base h l c t)) in
     let hops = (sound.each c lt).distinct d (Inherit s ∷ []) (Inherit t ∷ []) (to_subobject c d s x e) (to_subobject c d t y f) at in
     let a : Some s ≡ Some t = ap first_base hops in
     cc

@@ -18,7 +18,7 @@ use Rattle.cxx_subobject.specs.declared.locations.Hop.{Hop}
 use Rattle.cxx_subobject.specs.declared.locations.Hop.TheVariants.{Inherit, Member as MemberHop}
 use Rattle.cxx_subobject.specs.Locations.{IsElement}
 use Rattle.abi_sound.specs.Places.{Places, size_of_value}
-use Rattle.abi_sound.specs.Locations.{place_at, last_member, Span, bits_of_value, bits_of_type, bits_of_member, span_of, leaf_span}
+use Rattle.abi_sound.specs.Locations.{place_along_hops, last_member, Span, bits_of_value, bits_of_type, bits_of_member, span_of, leaf_span}
 use Rattle.abi_sound.proofs.PlaceLemmas.{element_class_is}
 
 -- the hops to an element end in its member
@@ -68,10 +68,10 @@ pub record EndsIn (h : Classes) (c : ClassId) (hops : List Hop) (type : ValueTyp
   pub element : IsElement h class member index (Value type)
 
 -- the bits of a leaf, by the member in which its hops end
-pub span_is : (h : Classes) (l : Places) (c : ClassId) (hops : List Hop) (type : ValueType ClassId) (x : EndsIn h c hops type) → leaf_span h l c hops ≡ value_span h l x.class x.member type (place_at h l c hops)
+pub span_is : (h : Classes) (l : Places) (c : ClassId) (hops : List Hop) (type : ValueType ClassId) (x : EndsIn h c hops type) → leaf_span h l c hops ≡ value_span h l x.class x.member type (place_along_hops h l c hops)
 span_is h l c hops type x =
-    ap (span_of h l (place_at h l c hops)) x.last
-    ∙ ap (λ n. let s : Span = record { start = 8 * place_at h l c hops + l.first x.class x.member; length = n } in s) (bits_of_element h x.class x.member x.index type x.element)
+    ap (span_of h l (place_along_hops h l c hops)) x.last
+    ∙ ap (λ n. let s : Span = record { start = 8 * place_along_hops h l c hops + l.first x.class x.member; length = n } in s) (bits_of_element h x.class x.member x.index type x.element)
 
 size_positive : (type : ValueType ClassId) → 1 ≤ size_of_value type
 size_positive (Pointer c) = omega arith

@@ -25,7 +25,7 @@ use Rattle.abi_primary.specs.Kinds.{IsDynamic, declares, shares, inherits}
 use Rattle.abi_sound.specs.declared.class_layout.Bits.{Bits}
 use Rattle.abi_sound.specs.declared.class_layout.ClassLayout.{ClassLayout}
 use Rattle.abi_sound.specs.Places.{Places, places_of}
-use Rattle.abi_sound.specs.Locations.{place_at, last_member, Span, AreDisjoint, leaf_span}
+use Rattle.abi_sound.specs.Locations.{place_along_hops, last_member, Span, AreDisjoint, leaf_span}
 use Rattle.abi_sound.specs.Chains.{primary_part}
 use Rattle.abi_sound.specs.Sound.{Divides, IsAligned, IsFullRow, IsSoundLayout}
 use Rattle.abi_sound.proofs.LeafSpans.{one_member}
@@ -232,15 +232,15 @@ char_aligned n m place e k none first same =
     (subst (λ j. IsAligned (width_of_member e_f (id n) j) (Number Char) place (l.first (id n) j)) same.1
     (subst (λ (w : Option ℕ). IsAligned w (Number Char) place (l.first (id n) m)) (sym none) (record { times = place; is = omega arith }, first)))
 
-leaf_aligned : (c : ClassId) (hops : List Hop) (n : ℕ) (e : ClassId) (k : ℕ) → IsLeafAt c hops n → last_member e_f (Some c) hops ≡ Some (e, k) → IsAligned (width_of_member e_f e k) (Number Char) (place_at e_f l c hops) (l.first e k)
+leaf_aligned : (c : ClassId) (hops : List Hop) (n : ℕ) (e : ClassId) (k : ℕ) → IsLeafAt c hops n → last_member e_f (Some c) hops ≡ Some (e, k) → IsAligned (width_of_member e_f e k) (Number Char) (place_along_hops e_f l c hops) (l.first e k)
 leaf_aligned c hops n e k leaf last = by_leaf c hops n leaf last
   where
-    by_leaf : (c : ClassId) (hops : List Hop) (n : ℕ) → IsLeafAt c hops n → last_member e_f (Some c) hops ≡ Some (e, k) → IsAligned (width_of_member e_f e k) (Number Char) (place_at e_f l c hops) (l.first e k)
-    by_leaf c hops _ c_in_e last = char_aligned 0 0 (place_at e_f l c hops) e k refl refl (one_member (last_member e_f (Some c) hops) (id 0) e 0 k refl last)
-    by_leaf c hops _ a_in_f last = char_aligned 1 0 (place_at e_f l c hops) e k refl refl (one_member (last_member e_f (Some c) hops) (id 1) e 0 k refl last)
-    by_leaf c hops _ c_in_f last = char_aligned 0 0 (place_at e_f l c hops) e k refl refl (one_member (last_member e_f (Some c) hops) (id 0) e 0 k refl last)
+    by_leaf : (c : ClassId) (hops : List Hop) (n : ℕ) → IsLeafAt c hops n → last_member e_f (Some c) hops ≡ Some (e, k) → IsAligned (width_of_member e_f e k) (Number Char) (place_along_hops e_f l c hops) (l.first e k)
+    by_leaf c hops _ c_in_e last = char_aligned 0 0 (place_along_hops e_f l c hops) e k refl refl (one_member (last_member e_f (Some c) hops) (id 0) e 0 k refl last)
+    by_leaf c hops _ a_in_f last = char_aligned 1 0 (place_along_hops e_f l c hops) e k refl refl (one_member (last_member e_f (Some c) hops) (id 1) e 0 k refl last)
+    by_leaf c hops _ c_in_f last = char_aligned 0 0 (place_along_hops e_f l c hops) e k refl refl (one_member (last_member e_f (Some c) hops) (id 0) e 0 k refl last)
 
-object_place : (c d : ClassId) (hops : List Hop) (n : ℕ) → IsObjectAt c d hops n → place_at e_f l c hops ≡ n
+object_place : (c d : ClassId) (hops : List Hop) (n : ℕ) → IsObjectAt c d hops n → place_along_hops e_f l c hops ≡ n
 object_place _ _ _ _ whole_e = refl
 object_place _ _ _ _ whole_f = refl
 object_place _ _ _ _ e_in_f = refl
@@ -315,7 +315,7 @@ member_at_one = record {
     one_place = λ s t valid e. absurd (each_class (λ (c : ClassId). primary_part l c (whole_of c) ≡ Some t → ⊥) (λ f. cc) (λ f. cc) c lt (ap (primary_part l c) (sym (only_whole c s valid)) ∙ e));
     aligned = λ type hops d m leads last.
         let x = leaves c hops (Value type) type leads refl in
-        subst (λ (t : ValueType ClassId). IsAligned (width_of_member e_f d m) t (place_at e_f l c hops) (l.first d m)) (sym x.type_is) (leaf_aligned c hops x.place d m x.is last);
+        subst (λ (t : ValueType ClassId). IsAligned (width_of_member e_f d m) t (place_along_hops e_f l c hops) (l.first d m)) (sym x.type_is) (leaf_aligned c hops x.place d m x.is last);
     base_multiple = λ d front s leads proper. let x = objects c d (front ++ Inherit s ∷ []) (Object d) lt leads refl in absurd (proper (no_base c d front s x.place x.is));
     object_multiple = λ d front leads.
         let x = objects c d (front ++ Inherit (whole_of d) ∷ []) (Object d) lt leads refl in

@@ -29,7 +29,7 @@ use Rattle.abi_primary.specs.Kinds.{IsDynamic, declares, shares, inherits}
 use Rattle.abi_sound.specs.declared.class_layout.Bits.{Bits}
 use Rattle.abi_sound.specs.declared.class_layout.ClassLayout.{ClassLayout}
 use Rattle.abi_sound.specs.Places.{places_of, size_of_value}
-use Rattle.abi_sound.specs.Locations.{place_at, last_member, Span, AreDisjoint, leaf_span}
+use Rattle.abi_sound.specs.Locations.{place_along_hops, last_member, Span, AreDisjoint, leaf_span}
 use Rattle.abi_sound.specs.Chains.{primary_part, itself, ShareChain, downwards}
 use Rattle.abi_sound.specs.Sound.{Divides, IsAligned, IsFullRow, IsSoundLayout}
 use Rattle.abi_sound.proofs.LeafSpans.{last_element, one_member}
@@ -140,7 +140,7 @@ class_is _ _ _ _ whole_d = refl
 class_is _ _ _ _ n_in_d = refl
 class_is _ _ _ _ v_in_d = refl
 
-spot_place : (c : ClassId) (s : Subobject) (d : ClassId) (n : ℕ) → IsSpot c s d n → place_at n_v_d (places_of n_v_d packed) c (Inherit s ∷ []) ≡ n
+spot_place : (c : ClassId) (s : Subobject) (d : ClassId) (n : ℕ) → IsSpot c s d n → place_along_hops n_v_d (places_of n_v_d packed) c (Inherit s ∷ []) ≡ n
 spot_place _ _ _ _ whole_n = refl
 spot_place _ _ _ _ whole_v = refl
 spot_place _ _ _ _ whole_d = refl
@@ -230,7 +230,7 @@ abbrev int_offset : ℕ → ℕ
 int_offset zero = 0
 int_offset (suc n) = 8
 
-leaf_place_is : (c : ClassId) (s : Subobject) (d : ClassId) (n : ℕ) → IsSpot c s d n → d.0 < 2 → place_at n_v_d (places_of n_v_d packed) c (Inherit s ∷ MemberHop 0 0 ∷ []) ≡ n + int_offset d.0
+leaf_place_is : (c : ClassId) (s : Subobject) (d : ClassId) (n : ℕ) → IsSpot c s d n → d.0 < 2 → place_along_hops n_v_d (places_of n_v_d packed) c (Inherit s ∷ MemberHop 0 0 ∷ []) ≡ n + int_offset d.0
 leaf_place_is _ _ _ _ whole_n lt = refl
 leaf_place_is _ _ _ _ whole_v lt = refl
 leaf_place_is _ _ _ _ whole_d lt = absurd (omega arith)
@@ -339,7 +339,7 @@ each_class P a b d c lt = by_number c.0 lt
     by_number (suc (suc (suc n))) lt = absurd (omega arith)
 
 abbrev at : ClassId → List Hop → ℕ
-at c hops = place_at n_v_d (places_of n_v_d packed) c hops
+at c hops = place_along_hops n_v_d (places_of n_v_d packed) c hops
 
 leaf_at : (c : ClassId) (hops : List Hop) (type : ValueType ClassId) (x : IsLeafAt c hops type) → at c hops ≡ x.place + int_offset x.class.0
 leaf_at c hops type x = ap (at c) x.hops_are ∙ leaf_place_is c x.at x.class x.place x.spot x.small

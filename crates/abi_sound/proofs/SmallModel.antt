@@ -25,7 +25,7 @@ use Rattle.abi_primary.specs.Kinds.{IsDynamic, declares, shares, inherits}
 use Rattle.abi_sound.specs.declared.class_layout.Bits.{Bits}
 use Rattle.abi_sound.specs.declared.class_layout.ClassLayout.{ClassLayout}
 use Rattle.abi_sound.specs.Places.{Places, places_of}
-use Rattle.abi_sound.specs.Locations.{place_at, last_member, Span, AreDisjoint, bits_of_value, leaf_span}
+use Rattle.abi_sound.specs.Locations.{place_along_hops, last_member, Span, AreDisjoint, bits_of_value, leaf_span}
 use Rattle.abi_sound.specs.Chains.{primary_part}
 use Rattle.abi_sound.specs.Sound.{IsAligned, IsFullRow, IsSoundClass, IsSoundLayout}
 use Rattle.abi_sound.proofs.LeafSpans.{last_element, one_member}
@@ -172,7 +172,7 @@ module _ (size : ℕ) (x y : Field) where
 
   -- where the numbers lie
   abbrev LiesAt : ClassId → ℕ → Field → Type 0
-  LiesAt c m z = (place_at h l c (hops_to c m) ≡ z.place) × (leaf_span h l c (hops_to c m) ≡ span_of_field z)
+  LiesAt c m z = (place_along_hops h l c (hops_to c m) ≡ z.place) × (leaf_span h l c (hops_to c m) ≡ span_of_field z)
 
   lie_first : LiesAt the_class 0 x
   lie_first = (omega arith, ap (λ n. let s : Span = record { start = n; length = bits_of_value x.width x.type } in s) (omega arith))
@@ -180,8 +180,8 @@ module _ (size : ℕ) (x y : Field) where
   lie_second : LiesAt the_class 1 y
   lie_second = (omega arith, ap (λ n. let s : Span = record { start = n; length = bits_of_value y.width y.type } in s) (omega arith))
 
-  place_of_leaf : (c : ClassId) (hops : List Hop) (type : ValueType ClassId) (m : ℕ) (z : Field) → IsLeafAt c hops type m z → LiesAt c m z → place_at h l c hops ≡ z.place
-  place_of_leaf c hops type m z k at = ap (place_at h l c) k.hops_are ∙ at.0
+  place_of_leaf : (c : ClassId) (hops : List Hop) (type : ValueType ClassId) (m : ℕ) (z : Field) → IsLeafAt c hops type m z → LiesAt c m z → place_along_hops h l c hops ≡ z.place
+  place_of_leaf c hops type m z k at = ap (place_along_hops h l c) k.hops_are ∙ at.0
 
   span_of_leaf : (c : ClassId) (hops : List Hop) (type : ValueType ClassId) (m : ℕ) (z : Field) → IsLeafAt c hops type m z → LiesAt c m z → leaf_span h l c hops ≡ span_of_field z
   span_of_leaf c hops type m z k at = ap (leaf_span h l c) k.hops_are ∙ at.1
@@ -192,15 +192,15 @@ module _ (size : ℕ) (x y : Field) where
   turned : (a b : Span) → AreDisjoint a b → AreDisjoint b a
   turned a b apart = ⊎_elim inr inl apart
 
-  place_whole : (c : ClassId) (d : ClassId) (hops : List Hop) → c.0 < 1 → LeadsTo h c hops (Object d) → place_at h l c hops ≡ 0
+  place_whole : (c : ClassId) (d : ClassId) (hops : List Hop) → c.0 < 1 → LeadsTo h c hops (Object d) → place_along_hops h l c hops ≡ 0
   place_whole c d hops lt leads =
-      ap (place_at h l c) (objects c d hops (Object d) leads refl).0
-      ∙ first_class (λ (k : ClassId). place_at h l k (Inherit (whole_of k) ∷ []) ≡ 0) refl c lt
+      ap (place_along_hops h l c) (objects c d hops (Object d) leads refl).0
+      ∙ first_class (λ (k : ClassId). place_along_hops h l k (Inherit (whole_of k) ∷ []) ≡ 0) refl c lt
 
-  width_of : (c : ClassId) (hops : List Hop) (type : ValueType ClassId) (n : ℕ) (z : Field) → IsLeafAt c hops type n z → LiesAt c n z → IsInPlace size z → (w : Option ℕ) (first : ℕ) → w ≡ z.width → first ≡ z.first → IsAligned w type (place_at h l c hops) first
+  width_of : (c : ClassId) (hops : List Hop) (type : ValueType ClassId) (n : ℕ) (z : Field) → IsLeafAt c hops type n z → LiesAt c n z → IsInPlace size z → (w : Option ℕ) (first : ℕ) → w ≡ z.width → first ≡ z.first → IsAligned w type (place_along_hops h l c hops) first
   width_of c hops type n z k at is w first e f =
-      subst (λ (v : Option ℕ). IsAligned v type (place_at h l c hops) first) (sym e)
-      (subst (λ (t : ValueType ClassId). IsAligned z.width t (place_at h l c hops) first) (sym k.type_is)
+      subst (λ (v : Option ℕ). IsAligned v type (place_along_hops h l c hops) first) (sym e)
+      (subst (λ (t : ValueType ClassId). IsAligned z.width t (place_along_hops h l c hops) first) (sym k.type_is)
       (subst (λ (p : ℕ). IsAligned z.width z.type p first) (sym (place_of_leaf c hops type n z k at))
       (subst (λ (b : ℕ). IsAligned z.width z.type z.place b) (sym f) is.aligned)))
 
@@ -243,7 +243,7 @@ module _ (size : ℕ) (x y : Field) where
   }
     where
       of_number : (d : ClassId) (m : ℕ) (type : ValueType ClassId) (hops : List Hop) (n : ℕ) (z : Field) (k : IsLeafAt the_class hops type n z) → LiesAt the_class n z → IsInPlace size z → (d ≡ the_class) × (m ≡ n)
-          → width_of_member h the_class n ≡ z.width → l.first the_class n ≡ z.first → IsAligned (width_of_member h d m) type (place_at h l the_class hops) (l.first d m)
+          → width_of_member h the_class n ≡ z.width → l.first the_class n ≡ z.first → IsAligned (width_of_member h d m) type (place_along_hops h l the_class hops) (l.first d m)
       of_number d m type hops n z k at is same w f =
           let class : d ≡ the_class = same.0 in
           let number : m ≡ n = same.1 in

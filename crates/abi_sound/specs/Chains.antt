@@ -86,5 +86,5 @@ head_after l within zero c s = s
 head_after l within (suc steps) c s = climbed within (head_after l within steps c) s (above l c s)
 
 -- the head of the chain of a subobject among those that the test picks: one climbs while the next one above is picked
-abbrev pub head : Places → (Subobject → Bool) → ClassId → Subobject → Subobject
-head l within c s = head_after l within (c.0 + 1) c s
+abbrev pub chain_head : Places → (Subobject → Bool) → ClassId → Subobject → Subobject
+chain_head l within c s = head_after l within (c.0 + 1) c s

@@ -32,14 +32,14 @@ abbrev pub class_of_type : FieldType ClassId → Option ClassId
 class_of_type (Value type) = None
 class_of_type (Object e) = Some e
 
-abbrev pub class_in : Option (Member ClassId) → Option ClassId
-class_in None = None
-class_in (Some member) = class_of_type member.ty
+abbrev pub class_of_member : Option (Member ClassId) → Option ClassId
+class_of_member None = None
+class_of_member (Some member) = class_of_type member.ty
 
 -- the class of which a member's elements are objects, where they are
 abbrev pub element_class : Classes → Option ClassId → ℕ → Option ClassId
 element_class h None m = None
-element_class h (Some d) m = class_in (slice_get (members_of h d) m)
+element_class h (Some d) m = class_of_member (slice_get (members_of h d) m)
 
 abbrev pub base_place_in : Places → Option ClassId → Subobject → ℕ
 base_place_in l None s = 0
@@ -53,8 +53,8 @@ place_behind h l c (Inherit s ∷ hops) = base_place_in l c s + place_behind h l
 place_behind h l c (MemberHop m i ∷ hops) = element_place h l c m i + place_behind h l (element_class h c m) hops
 
 -- the place of a location in an object of class c
-abbrev pub place_at : Classes → Places → ClassId → List Hop → ℕ
-place_at h l c hops = place_behind h l (Some c) hops
+abbrev pub place_along_hops : Classes → Places → ClassId → List Hop → ℕ
+place_along_hops h l c hops = place_behind h l (Some c) hops
 
 -- the member in which hops end that begin in what is of class c: the class that declares it, and its number there
 abbrev pub last_member : Classes → Option ClassId → List Hop → Option (ClassId × ℕ)
@@ -96,18 +96,18 @@ span_of h l place (Some member) = member_span h l member.0 member.1 place
 
 -- the bits of the number or pointer to which hops lead from an object of class c
 abbrev pub leaf_span : Classes → Places → ClassId → List Hop → Span
-leaf_span h l c hops = span_of h l (place_at h l c hops) (last_member h (Some c) hops)
+leaf_span h l c hops = span_of h l (place_along_hops h l c hops) (last_member h (Some c) hops)
 
 -- the bits of a virtual pointer at a place
 abbrev pub pointer_span : ℕ → Span
 pointer_span place = record { start = 8 * place; length = 64 }
 
 -- the class of the complete object that the steps, innermost first, lead to in an object of class c
-abbrev pub owner_class : Classes → ClassId → List Step → Option ClassId
-owner_class h c [] = Some c
-owner_class h c (step ∷ rest) = element_class h (class_of step.base) step.member
+abbrev pub class_at_steps : Classes → ClassId → List Step → Option ClassId
+class_at_steps h c [] = Some c
+class_at_steps h c (step ∷ rest) = element_class h (class_of step.base) step.member
 
 -- the place of that complete object
 abbrev pub owner_place : Classes → Places → ClassId → List Step → ℕ
 owner_place h l c [] = 0
-owner_place h l c (step ∷ rest) = owner_place h l c rest + (base_place_in l (owner_class h c rest) step.base + element_place h l (class_of step.base) step.member step.index)
+owner_place h l c (step ∷ rest) = owner_place h l c rest + (base_place_in l (class_at_steps h c rest) step.base + element_place h l (class_of step.base) step.member step.index)

@@ -33,13 +33,13 @@ abbrev pub size_of_value : ValueType ClassId → ℕ
 size_of_value (Number t) = size_of t
 size_of_value (Pointer c) = 8
 
-abbrev pub number_in : Option ℕ → ℕ
-number_in None = 0
-number_in (Some n) = n
+abbrev pub place_or_zero : Option ℕ → ℕ
+place_or_zero None = 0
+place_or_zero (Some n) = n
 
-abbrev pub size_in : Option ClassLayout → ℕ
-size_in None = 0
-size_in (Some row) = row.size
+abbrev pub size_in_row : Option ClassLayout → ℕ
+size_in_row None = 0
+size_in_row (Some row) = row.size
 
 abbrev pub align_in : Option ClassLayout → ℕ
 align_in None = 1
@@ -49,26 +49,26 @@ abbrev pub nvalign_in : Option ClassLayout → ℕ
 nvalign_in None = 1
 nvalign_in (Some row) = row.nvalign
 
-abbrev pub bases_in : Option ClassLayout → List ℕ
-bases_in None = []
-bases_in (Some row) = row.base_places
+abbrev pub base_places_in : Option ClassLayout → List ℕ
+base_places_in None = []
+base_places_in (Some row) = row.base_places
 
-abbrev pub members_in : Option ClassLayout → List ℕ
-members_in None = []
-members_in (Some row) = row.member_places
+abbrev pub member_places_in : Option ClassLayout → List ℕ
+member_places_in None = []
+member_places_in (Some row) = row.member_places
 
 abbrev pub nth_place : List ℕ → Option ℕ → ℕ
 nth_place places None = 0
-nth_place places (Some n) = number_in (slice_get places n)
+nth_place places (Some n) = place_or_zero (slice_get places n)
 
 -- the place of a direct non-virtual base in its class
-abbrev pub base_place : Classes → List ClassLayout → ClassId → ClassId → ℕ
-base_place h rows c b = nth_place (bases_in (slice_get rows c.0)) (position (λ (base : Base ClassId). nat_eq base.class.0 b.0) (filter is_plain_base (bases_of h c)))
+abbrev pub direct_base_place : Classes → List ClassLayout → ClassId → ClassId → ℕ
+direct_base_place h rows c b = nth_place (base_places_in (slice_get rows c.0)) (position (λ (base : Base ClassId). nat_eq base.class.0 b.0) (filter is_plain_base (bases_of h c)))
 
 -- the sum of the places along a path
 abbrev pub place_along : Classes → List ClassLayout → ClassId → List ClassId → ℕ
 place_along h rows c [] = 0
-place_along h rows c (b ∷ path) = base_place h rows c b + place_along h rows b path
+place_along h rows c (b ∷ path) = direct_base_place h rows c b + place_along h rows b path
 
 abbrev pub primary_in : Option ClassLayout → Primary
 primary_in None = NoPrimary
@@ -109,32 +109,32 @@ abbrev pub root_place : List ClassLayout → ClassId → Root → ℕ
 root_place rows c root = root_place_in (slice_get rows c.0) root
 
 -- the place of a subobject in an object of class c: where its root lies, and the places along its path
-abbrev pub place_of : Classes → List ClassLayout → ClassId → Subobject → ℕ
-place_of h rows c s = root_place rows c s.root + place_from h rows s.path
+abbrev pub place_in_class : Classes → List ClassLayout → ClassId → Subobject → ℕ
+place_in_class h rows c s = root_place rows c s.root + place_from h rows s.path
 
 -- the place of a member in an object of the class that declares it
 abbrev pub member_place : List ClassLayout → ClassId → ℕ → ℕ
-member_place rows d m = number_in (slice_get (members_in (slice_get rows d.0)) m)
+member_place rows d m = place_or_zero (slice_get (member_places_in (slice_get rows d.0)) m)
 
-abbrev pub bits_in : Option ClassLayout → List Bits
-bits_in None = []
-bits_in (Some row) = row.member_bits
+abbrev pub member_bits_in : Option ClassLayout → List Bits
+member_bits_in None = []
+member_bits_in (Some row) = row.member_bits
 
-abbrev pub first_in : Option Bits → ℕ
-first_in None = 0
-first_in (Some bits) = bits.first
+abbrev pub first_bit_in : Option Bits → ℕ
+first_bit_in None = 0
+first_bit_in (Some bits) = bits.first
 
 -- the first bit of the value of a member, in the byte at its place
 abbrev pub first_bit : List ClassLayout → ClassId → ℕ → ℕ
-first_bit rows d m = first_in (slice_get (bits_in (slice_get rows d.0)) m)
+first_bit rows d m = first_bit_in (slice_get (member_bits_in (slice_get rows d.0)) m)
 
 -- the places that rows give
 abbrev pub places_of : Classes → List ClassLayout → Places
 places_of h rows = record {
-  size = λ c. size_in (slice_get rows c.0);
+  size = λ c. size_in_row (slice_get rows c.0);
   align = λ c. align_in (slice_get rows c.0);
   base_align = λ c. nvalign_in (slice_get rows c.0);
-  place = λ c s. place_of h rows c s;
+  place = λ c s. place_in_class h rows c s;
   member = λ d m. member_place rows d m;
   first = λ d m. first_bit rows d m;
   primary = λ c. primary_in (slice_get rows c.0);

@@ -19,7 +19,7 @@ use Rattle.cxx_subobject.specs.VirtualBases.{virtual_bases}
 use Rattle.cxx_subobject.specs.Locations.{LeadsTo}
 use Rattle.cxx_hierarchy.specs.Declarations.{is_plain_base}
 use Rattle.abi_sound.specs.Places.{Places, places_of, size_of_value}
-use Rattle.abi_sound.specs.Locations.{place_at, last_member, leaf_span, pointer_span, AreDisjoint}
+use Rattle.abi_sound.specs.Locations.{place_along_hops, last_member, leaf_span, pointer_span, AreDisjoint}
 use Rattle.abi_sound.specs.Chains.{primary_part, ShareChain}
 
 -- n is a multiple of d
@@ -66,20 +66,20 @@ pub record IsSoundClass (h : Classes) (l : Places) (c : ClassId) : Type 0 where
   pub one_place : (s t : Subobject) → IsSubobject h c s → primary_part l c s ≡ Some t → l.place c t ≡ l.place c s
   -- a number or a pointer is aligned, a base lies at a multiple of its class's alignment as a base, and a member or an element at one
   -- of its class's alignment
-  pub aligned : (type : ValueType ClassId) (hops : List Hop) (d : ClassId) (m : ℕ) → LeadsTo h c hops (Value type) → last_member h (Some c) hops ≡ Some (d, m) → IsAligned (width_of_member h d m) type (place_at h l c hops) (l.first d m)
-  pub base_multiple : (d : ClassId) (front : List Hop) (s : Subobject) → LeadsTo h c (front ++ Inherit s ∷ []) (Object d) → (s ≡ whole_of d → ⊥) → Divides (l.base_align d) (place_at h l c (front ++ Inherit s ∷ []))
-  pub object_multiple : (d : ClassId) (front : List Hop) → LeadsTo h c (front ++ Inherit (whole_of d) ∷ []) (Object d) → Divides (l.align d) (place_at h l c (front ++ Inherit (whole_of d) ∷ []))
+  pub aligned : (type : ValueType ClassId) (hops : List Hop) (d : ClassId) (m : ℕ) → LeadsTo h c hops (Value type) → last_member h (Some c) hops ≡ Some (d, m) → IsAligned (width_of_member h d m) type (place_along_hops h l c hops) (l.first d m)
+  pub base_multiple : (d : ClassId) (front : List Hop) (s : Subobject) → LeadsTo h c (front ++ Inherit s ∷ []) (Object d) → (s ≡ whole_of d → ⊥) → Divides (l.base_align d) (place_along_hops h l c (front ++ Inherit s ∷ []))
+  pub object_multiple : (d : ClassId) (front : List Hop) → LeadsTo h c (front ++ Inherit (whole_of d) ∷ []) (Object d) → Divides (l.align d) (place_along_hops h l c (front ++ Inherit (whole_of d) ∷ []))
   -- numbers, pointers and the 8 bytes of virtual pointers lie inside, and a class subobject begins inside
   pub leaf_inside : (type : ValueType ClassId) (hops : List Hop) → LeadsTo h c hops (Value type) → (leaf_span h l c hops).start + (leaf_span h l c hops).length ≤ 8 * l.size c
-  pub pointer_inside : (d : ClassId) (hops : List Hop) → IsDynamic h d → LeadsTo h c hops (Object d) → place_at h l c hops + 8 ≤ l.size c
-  pub begins_inside : (d : ClassId) (hops : List Hop) → LeadsTo h c hops (Object d) → place_at h l c hops < l.size c
+  pub pointer_inside : (d : ClassId) (hops : List Hop) → IsDynamic h d → LeadsTo h c hops (Object d) → place_along_hops h l c hops + 8 ≤ l.size c
+  pub begins_inside : (d : ClassId) (hops : List Hop) → LeadsTo h c hops (Object d) → place_along_hops h l c hops < l.size c
   -- two numbers or pointers have no bit in common, nor have such a one and a virtual pointer, nor those of two chains
   pub leaves_apart : (type other : ValueType ClassId) (hops others : List Hop) → LeadsTo h c hops (Value type) → LeadsTo h c others (Value other) → (hops ≡ others → ⊥) → AreDisjoint (leaf_span h l c hops) (leaf_span h l c others)
-  pub leaf_and_pointer : (d : ClassId) (type : ValueType ClassId) (hops others : List Hop) → IsDynamic h d → LeadsTo h c hops (Object d) → LeadsTo h c others (Value type) → AreDisjoint (pointer_span (place_at h l c hops)) (leaf_span h l c others)
+  pub leaf_and_pointer : (d : ClassId) (type : ValueType ClassId) (hops others : List Hop) → IsDynamic h d → LeadsTo h c hops (Object d) → LeadsTo h c others (Value type) → AreDisjoint (pointer_span (place_along_hops h l c hops)) (leaf_span h l c others)
   pub pointers_apart : (d e : ClassId) (hops others : List Hop) → IsDynamic h d → IsDynamic h e → LeadsTo h c hops (Object d) → LeadsTo h c others (Object e) →
-      ShareChain h l c hops others ⊎ AreDisjoint (pointer_span (place_at h l c hops)) (pointer_span (place_at h l c others))
+      ShareChain h l c hops others ⊎ AreDisjoint (pointer_span (place_along_hops h l c hops)) (pointer_span (place_along_hops h l c others))
   -- two subobjects of one class begin at different places
-  pub distinct : (d : ClassId) (hops others : List Hop) → LeadsTo h c hops (Object d) → LeadsTo h c others (Object d) → place_at h l c hops ≡ place_at h l c others → hops ≡ others
+  pub distinct : (d : ClassId) (hops others : List Hop) → LeadsTo h c hops (Object d) → LeadsTo h c others (Object d) → place_along_hops h l c hops ≡ place_along_hops h l c others → hops ≡ others
 
 -- the rows are a sound layout of the hierarchy
 pub record IsSoundLayout (h : Classes) (rows : List ClassLayout) : Type 0 where

@@ -5,7 +5,7 @@ ghost use Rattle.std.specs.Option.{option_copied};
 ghost use Rattle.cxx_hierarchy.specs.declared.records.Base.{Base};
 ghost use Rattle.cxx_hierarchy.specs.declared.records.ClassId.{ClassId};
 ghost use Rattle.cxx_hierarchy.specs.Declarations.{is_plain_base};
-ghost use Rattle.abi_sound.specs.Places.{base_place, number_in, place_along, nth_place, place_from, nth_holder, holder_in, root_place_in, virtual_place_in, member_place, first_in, first_bit};
+ghost use Rattle.abi_sound.specs.Places.{direct_base_place, place_or_zero, place_along, nth_place, place_from, nth_holder, holder_in, root_place_in, virtual_place_in, member_place, first_bit_in, first_bit};
 
 use crate::class_layout::{Bits, ClassLayout};
 use crate::sound_layout::SoundLayout;
@@ -24,7 +24,7 @@ pub fn number_of_base(bases: &[Base<ClassId>], b: ClassId) -> Option<usize>
 
 /// The place of a number, 0 past the last one.
 fn place_at(places: &[u32], n: usize) -> u32
-    ensures { result ≡ number_in (slice_get places.now n) }
+    ensures { result ≡ place_or_zero (slice_get places.now n) }
 {
     match places.get(n) {
         Some(place) => *place,
@@ -34,7 +34,7 @@ fn place_at(places: &[u32], n: usize) -> u32
 
 /// The first bit of a number, 0 past the last one.
 fn first_at(bits: &[Bits], n: usize) -> u8
-    ensures { result ≡ first_in (slice_get bits.now n) }
+    ensures { result ≡ first_bit_in (slice_get bits.now n) }
 {
     match bits.get(n) {
         Some(bits) => bits.first,
@@ -101,7 +101,7 @@ pub(crate) fn holder_of_row(row: &ClassLayout, v: ClassId) -> Option<&Subobject>
 /// The place of a direct non-virtual base in its class, in bytes; 0 where it is none.
 fn base_place<L: SoundLayout>(layout: &L, h: &Hierarchy, c: ClassId, b: ClassId) -> u32
     requires { L.lays_out layout.now h.now }
-    ensures { result ≡ base_place h.now (L.rows layout.now) c b }
+    ensures { result ≡ direct_base_place h.now (L.rows layout.now) c b }
 {
     if c.0 >= h.len() {
         return 0;

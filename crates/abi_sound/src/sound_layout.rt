@@ -5,7 +5,7 @@ ghost use Rattle.std.specs.Option.{option_copied};
 ghost use Rattle.cxx_hierarchy.specs.Classes.{Classes};
 ghost use Rattle.cxx_subobject.specs.Subobjects.{IsSubobject};
 ghost use Rattle.abi_sound.specs.declared.class_layout.ClassLayout.{ClassLayout};
-ghost use Rattle.abi_sound.specs.Places.{place_of, holder_in};
+ghost use Rattle.abi_sound.specs.Places.{place_in_class, holder_in};
 ghost use Rattle.abi_sound.specs.Sound.{IsSoundLayout};
 
 use crate::class_layout::ClassLayout;
@@ -35,7 +35,7 @@ pub trait SoundLayout {
         requires layout { lays_out self.now h.now }
         requires known { c.0 < length h.now }
         requires subobject { IsSubobject h.now c s.now }
-        ensures { result ≡ place_of h.now (rows self.now) c s.now }
+        ensures { result ≡ place_in_class h.now (rows self.now) c s.now }
     {
         root_place(self.layout(c), s.root) + sum_of_path(self, h, s.path.as_slice())
     }

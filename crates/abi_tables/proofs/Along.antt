@@ -5,7 +5,7 @@ use Rattle.std.proofs.lemmas.List.{append-nil, map-append, take_more, take_all}
 use Rattle.abi_slots.specs.Groups.{GoAlong}
 use Rattle.abi_slots.proofs.Lists.{Item, item_first, item_later}
 use Rattle.abi_vtt.proofs.WordSteps.{along_more}
-use Rattle.abi_tables.specs.invariants.Growing.{Grows}
+use Rattle.abi_tables.specs.invariants.Growing.{GrowsByEach}
 
 pub along_none : {A : Type 0} {B : Type 0} (R : A → B → Type 0) → GoAlong R [] []
 along_none R = record { size = refl; each = λ i a b e f. cc }
@@ -43,19 +43,19 @@ one_along R (x ∷ xs) (y ∷ ys) (z ∷ zs) one a b =
 
 -- growing
 
-pub grows_none : {A : Type 0} {B : Type 0} (R : A → B → Type 0) (old : List B) → Grows R [] old old
+pub grows_none : {A : Type 0} {B : Type 0} (R : A → B → Type 0) (old : List B) → GrowsByEach R [] old old
 grows_none R old = record { along = λ before go. subst (λ xs. GoAlong R xs old) (sym (append-nil before)) go }
 
-grows_one : {A : Type 0} {B : Type 0} (R : A → B → Type 0) (more : List A) (a : A) (b : B) (old now new : List B) → R a b → new ≡ now ++ b ∷ [] → Grows R more old now → Grows R (more ++ a ∷ []) old new
+grows_one : {A : Type 0} {B : Type 0} (R : A → B → Type 0) (more : List A) (a : A) (b : B) (old now new : List B) → R a b → new ≡ now ++ b ∷ [] → GrowsByEach R more old now → GrowsByEach R (more ++ a ∷ []) old new
 grows_one R more a b old now new holds e grows = record {
   along = λ before go. subst (λ ws. GoAlong R (before ++ (more ++ a ∷ [])) ws) (sym e) (subst (λ xs. GoAlong R xs (now ++ b ∷ [])) (append_assoc before more (a ∷ [])) (along_more R (before ++ more) now a b (grows.along before go) holds));
 }
 
 -- what is for the items of a list, so far and one item more
-pub grows_more : {S : Type 0} {A : Type 0} {B : Type 0} (R : A → B → Type 0) (f : S → A) (list : List S) (i : ℕ) (s : S) (b : B) (old now new : List B) → i < length list → s ≡ get_or list i s → R (f s) b → new ≡ now ++ b ∷ [] → Grows R (map f (take i list)) old now → Grows R (map f (take (i + 1) list)) old new
+pub grows_more : {S : Type 0} {A : Type 0} {B : Type 0} (R : A → B → Type 0) (f : S → A) (list : List S) (i : ℕ) (s : S) (b : B) (old now new : List B) → i < length list → s ≡ get_or list i s → R (f s) b → new ≡ now ++ b ∷ [] → GrowsByEach R (map f (take i list)) old now → GrowsByEach R (map f (take (i + 1) list)) old new
 grows_more R f list i s b old now new lt is holds pushed grows =
     let front : map f (take (i + 1) list) ≡ map f (take i list) ++ f s ∷ [] = ap (map f) (take_more list i s lt) ∙ map-append f (take i list) (get_or list i s ∷ []) ∙ ap (λ x. map f (take i list) ++ f x ∷ []) (sym is) in
-    subst (λ xs. Grows R xs old new) (sym front) (grows_one R (map f (take i list)) (f s) b old now new holds pushed grows)
+    subst (λ xs. GrowsByEach R xs old new) (sym front) (grows_one R (map f (take i list)) (f s) b old now new holds pushed grows)
 
-pub grows_all : {S : Type 0} {A : Type 0} {B : Type 0} (R : A → B → Type 0) (f : S → A) (list : List S) (i : ℕ) (old new : List B) → length list ≤ i → Grows R (map f (take i list)) old new → Grows R (map f list) old new
-grows_all R f list i old new le grows = subst (λ xs. Grows R (map f xs) old new) (take_all i list le) grows
+pub grows_all : {S : Type 0} {A : Type 0} {B : Type 0} (R : A → B → Type 0) (f : S → A) (list : List S) (i : ℕ) (old new : List B) → length list ≤ i → GrowsByEach R (map f (take i list)) old new → GrowsByEach R (map f list) old new
+grows_all R f list i old new le grows = subst (λ xs. GrowsByEach R (map f xs) old new) (take_all i list le) grows

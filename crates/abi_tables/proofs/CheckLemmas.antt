@@ -15,12 +15,12 @@ use Rattle.abi_sound.specs.Places.{Places}
 use Rattle.abi_slots.specs.Views.{is_dynamic}
 use Rattle.abi_slots.proofs.Chains.{same_some}
 use Rattle.abi_slots.proofs.Heads.{test_dynamic}
-use Rattle.abi_vtt.specs.Vtts.{has_virtual, HasDynamicClass}
-use Rattle.abi_tables.specs.Counts.{class_words, group_views, most_words, vtt_words, words_of_view, words_to}
+use Rattle.abi_vtt.specs.Vtts.{has_vtt, HasDynamicClass}
+use Rattle.abi_tables.specs.Counts.{class_words, group_views, most_words, vtt_words, words_of_view, words_before_class}
 use Rattle.abi_tables.specs.invariants.Weights.{cut}
 use Rattle.abi_tables.proofs.VttSums.{first_of}
 
-pub virtual_dynamic : (h : Classes) (c : ClassId) → has_virtual h c ≡ true → IsDynamic h c
+pub virtual_dynamic : (h : Classes) (c : ClassId) → has_vtt h c ≡ true → IsDynamic h c
 virtual_dynamic h c e = let r = first_of (virtual_bases h c) e in base_dynamic h c r.0 (virtual_has h c r.0 r.1)
 
 pub one_all : {X : Type 0} (P : X → Type 0) (x : X) → P x → All P (x ∷ [])
@@ -37,15 +37,15 @@ whole_dynamic h keeps c e d class = subst (λ b. IsDynamic h b) (same_some c d c
 pub all_at : {X : Type 0} (P : X → Type 0) (xs : List X) (i : ℕ) (x : X) → All P xs → i < length xs → x ≡ get_or xs i x → P x
 all_at P xs i x all lt is = subst P (sym is) (all i x lt)
 
-pub one_class_more : (h : Classes) (l : Places) (n : ℕ) → cut (words_to h l n + class_words h l (record { 0 = n })) ≡ cut (words_to h l (n + 1))
-one_class_more h l n = ap (λ k. cut (words_to h l k)) (sym (add-one n))
+pub one_class_more : (h : Classes) (l : Places) (n : ℕ) → cut (words_before_class h l n + class_words h l (record { 0 = n })) ≡ cut (words_before_class h l (n + 1))
+one_class_more h l n = ap (λ k. cut (words_before_class h l k)) (sym (add-one n))
 
 -- the VTTs of one class more have no more words than all that it has
-pub vtt_within : (h : Classes) (l : Places) (n sum len new : ℕ) → sum ≤ words_to h l n → len ≡ min (vtt_words h l (record { 0 = n })) (most_words + 1) → new ≡ cut (sum + len) → new ≤ words_to h l (n + 1)
+pub vtt_within : (h : Classes) (l : Places) (n sum len new : ℕ) → sum ≤ words_before_class h l n → len ≡ min (vtt_words h l (record { 0 = n })) (most_words + 1) → new ≡ cut (sum + len) → new ≤ words_before_class h l (n + 1)
 vtt_within h l n sum len new before is made =
     let c : ClassId = record { 0 = n } in
     let here : vtt_words h l c ≤ class_words h l c = at_end (sum_by (λ (x : Subobject). words_of_view h l c x (class_of x)) (group_views h c)) (vtt_words h l c) in
-    let more : words_to h l (n + 1) ≡ words_to h l n + class_words h l c = ap (words_to h l) (add-one n) in
+    let more : words_before_class h l (n + 1) ≡ words_before_class h l n + class_words h l c = ap (words_before_class h l) (add-one n) in
     omega (arith, before, is, made, here, more)
   where
     at_end : (a b : ℕ) → b ≤ a + b

@@ -16,13 +16,13 @@ use Rattle.cxx_subobject.proofs.TestLemmas.{class_below}
 use Rattle.abi_primary.specs.Kinds.{IsDynamic}
 use Rattle.abi_primary.proofs.KindLemmas.{base_dynamic}
 use Rattle.abi_sound.specs.Places.{Places}
-use Rattle.abi_slots.specs.Listing.{is_shared_root}
+use Rattle.abi_slots.specs.Listing.{is_virtual_root}
 use Rattle.abi_slots.specs.Views.{IsView, is_dynamic, is_dynamic_class}
 use Rattle.abi_slots.proofs.Lists.{Item, item_none, item_split, item_cases, from_map, from_filter, from_flat}
 use Rattle.abi_slots.proofs.Bases.{item_preorder, item_virtual}
 use Rattle.abi_slots.proofs.Chains.{same_some, down_valid}
 use Rattle.abi_slots.proofs.Heads.{test_dynamic}
-use Rattle.abi_vtt.specs.Vtts.{Item as VttItem, item, has_virtual, class_has_virtual, is_built_base, built_bases, is_proper_at, ends_in_primary, needs_word, words_of_bases, below, sub_items, shared_items, items, sub_views, shared_views, views}
+use Rattle.abi_vtt.specs.Vtts.{VttEntry as VttItem, item, has_vtt, class_has_virtual, is_built_base, bases_with_tables, is_proper_at, ends_in_primary, needs_word, words_of_bases, extended_by, sub_items, shared_items, vtt_items, sub_views, shared_views, views}
 use Rattle.abi_tables.specs.Counts.{group_views}
 use Rattle.abi_tables.specs.Tables.{class_items}
 use Rattle.abi_vtt.proofs.MarkLemmas.{some_has}
@@ -47,7 +47,7 @@ pub record IsItemOf (h : Classes) (c : ClassId) (i : VttItem) : Type 0 where
   pub view : IsDynamicPart h c i.view
   pub served : IsDynamicPart h view.class i.served
 
-virtual_dynamic : (h : Classes) → IsHierarchy h → (c : ClassId) → has_virtual h c ≡ true → IsDynamic h c
+virtual_dynamic : (h : Classes) → IsHierarchy h → (c : ClassId) → has_vtt h c ≡ true → IsDynamic h c
 virtual_dynamic h keeps c test = let r = some_has h keeps c test in base_dynamic h c r.0 r.1
 
 -- a class as a part of itself
@@ -55,7 +55,7 @@ whole_part : (h : Classes) (c : ClassId) → IsDynamic h c → IsDynamicPart h c
 whole_part h c dyn = record { class = c; valid = whole [] tt; of_class = refl; dynamic = dyn }
 
 -- a base of a part, and a virtual base, where they have virtual bases
-base_part : (h : Classes) → IsHierarchy h → (c d : ClassId) (x : Subobject) (base : Base ClassId) → IsSubobject h c x → class_of x ≡ Some d → Item (built_bases h d) base → IsDynamicPart h c (below x base.class) × (has_virtual h base.class ≡ true)
+base_part : (h : Classes) → IsHierarchy h → (c d : ClassId) (x : Subobject) (base : Base ClassId) → IsSubobject h c x → class_of x ≡ Some d → Item (bases_with_tables h d) base → IsDynamicPart h c (extended_by x base.class) × (has_vtt h base.class ≡ true)
 base_part h keeps c d x base valid e i =
     let b = from_filter (is_built_base h) (bases_of h d) base i in
     let test = built_virtual h base b.1 in (
@@ -68,9 +68,9 @@ base_part h keeps c d x base valid e i =
       test,
     )
 
-shared_part : (h : Classes) → IsHierarchy h → (c v : ClassId) → Item (filter (has_virtual h) (virtual_bases h c)) v → IsDynamicPart h c (shared_base v) × (has_virtual h v ≡ true)
+shared_part : (h : Classes) → IsHierarchy h → (c v : ClassId) → Item (filter (has_vtt h) (virtual_bases h c)) v → IsDynamicPart h c (shared_base v) × (has_vtt h v ≡ true)
 shared_part h keeps c v i =
-    let b = from_filter (has_virtual h) (virtual_bases h c) v i in
+    let b = from_filter (has_vtt h) (virtual_bases h c) v i in
     (record { class = v; valid = shared v [] (item_virtual h keeps c v b.0) tt; of_class = refl; dynamic = virtual_dynamic h keeps v b.1 }, b.1)
 
 -- views
@@ -80,23 +80,23 @@ sub_part h keeps c zero x d part e s i = absurd (item_none s i)
 sub_part h keeps c (suc n) x d part e s i = ⊎_elim
     (λ same. subst (λ a. IsDynamicPart h c a) same part)
     (λ rest.
-    let r = from_flat (λ (base : Base ClassId). sub_views h n (below x base.class) base.class) (built_bases h d) s rest in
+    let r = from_flat (λ (base : Base ClassId). sub_views h n (extended_by x base.class) base.class) (bases_with_tables h d) s rest in
     let base = r.0 in
     let b = base_part h keeps c d x base part.valid e r.1 in
-    sub_part h keeps c n (below x base.class) base.class b.0 (class_below x.path d base.class e) s r.2)
+    sub_part h keeps c n (extended_by x base.class) base.class b.0 (class_below x.path d base.class e) s r.2)
     (item_split x _ s i)
 
-view_part : (h : Classes) → IsHierarchy h → (c : ClassId) → has_virtual h c ≡ true → (s : Subobject) → Item (views h c) s → IsDynamicPart h c s
+view_part : (h : Classes) → IsHierarchy h → (c : ClassId) → has_vtt h c ≡ true → (s : Subobject) → Item (views h c) s → IsDynamicPart h c s
 view_part h keeps c test s i = ⊎_elim
     (λ first. sub_part h keeps c (c.0 + 1) (whole_of c) c (whole_part h c (virtual_dynamic h keeps c test)) refl s first)
     (λ rest.
-    let r = from_flat (shared_views h) (filter (has_virtual h) (virtual_bases h c)) s rest in
+    let r = from_flat (shared_views h) (filter (has_vtt h) (virtual_bases h c)) s rest in
     sub_part h keeps c (r.0.0 + 1) (shared_base r.0) r.0 (shared_part h keeps c r.0 r.1).0 refl s r.2)
     (item_cases (sub_views h (c.0 + 1) (whole_of c) c) _ s i)
 
 -- the view of a group
 pub group_part : (h : Classes) → IsHierarchy h → (c : ClassId) (s : Subobject) → Item (group_views h c) s → IsDynamicPart h c s
-group_part h keeps c s i = split (has_virtual h c) (λ b. has_virtual h c ≡ b → Item (if b then views h c else (if is_dynamic h c then whole_of c ∷ [] else [])) s → IsDynamicPart h c s)
+group_part h keeps c s i = split (has_vtt h c) (λ b. has_vtt h c ≡ b → Item (if b then views h c else (if is_dynamic h c then whole_of c ∷ [] else [])) s → IsDynamicPart h c s)
     (λ t test j. view_part h keeps c test s j)
     (λ t test j. split (is_dynamic h c) (λ b. is_dynamic h c ≡ b → Item (if b then whole_of c ∷ [] else []) s → IsDynamicPart h c s)
     (λ u dyn k. ⊎_elim (λ same. subst (λ a. IsDynamicPart h c a) same (whole_part h c (test_dynamic h keeps c dyn))) (λ none. absurd (item_none s none)) (item_split (whole_of c) [] s k))
@@ -113,8 +113,8 @@ dynamic_class h keeps (Some d) e = (d, refl, test_dynamic h keeps d e)
 served_part : (h : Classes) → IsHierarchy h → (l : Places) (d : ClassId) (s : Subobject) → Item (filter (needs_word h l) (preorder h d)) s → IsDynamicPart h d s
 served_part h keeps l d s i =
     let r = from_filter (needs_word h l) (preorder h d) s i in
-    let inner = and_parts (is_proper_at s.root s.path) (is_dynamic_class h (class_of s) && ((class_has_virtual h (class_of s) || is_shared_root s.root) && not (ends_in_primary l s.path))) r.1 in
-    let dyn = and_parts (is_dynamic_class h (class_of s)) ((class_has_virtual h (class_of s) || is_shared_root s.root) && not (ends_in_primary l s.path)) inner.1 in
+    let inner = and_parts (is_proper_at s.root s.path) (is_dynamic_class h (class_of s) && ((class_has_virtual h (class_of s) || is_virtual_root s.root) && not (ends_in_primary l s.path))) r.1 in
+    let dyn = and_parts (is_dynamic_class h (class_of s)) ((class_has_virtual h (class_of s) || is_virtual_root s.root) && not (ends_in_primary l s.path)) inner.1 in
     let k = dynamic_class h keeps (class_of s) dyn.0 in
     record { class = k.0; valid = item_preorder h keeps d s r.0; of_class = k.1; dynamic = k.2 }
 
@@ -127,26 +127,26 @@ sub_item h keeps l c (suc n) x d part e i there = ⊎_elim
     (λ same. subst (λ a. IsItemOf h c a) same (item_of h c d x (whole_of d) part e (whole_part h d (part_class h c x d part e))))
     (λ rest. ⊎_elim
     (λ bases.
-    let r = from_flat (λ (base : Base ClassId). sub_items h l n (below x base.class) base.class) (built_bases h d) i bases in
+    let r = from_flat (λ (base : Base ClassId). sub_items h l n (extended_by x base.class) base.class) (bases_with_tables h d) i bases in
     let b = base_part h keeps c d x r.0 part.valid e r.1 in
-    sub_item h keeps l c n (below x r.0.class) r.0.class b.0 (class_below x.path d r.0.class e) i r.2)
+    sub_item h keeps l c n (extended_by x r.0.class) r.0.class b.0 (class_below x.path d r.0.class e) i r.2)
     (λ words.
     let r = from_map (item x) (filter (needs_word h l) (preorder h d)) i words in
     subst (λ a. IsItemOf h c a) r.2 (item_of h c d x r.0 part e (served_part h keeps l d r.0 r.1)))
-    (item_cases (flat_map (λ (base : Base ClassId). sub_items h l n (below x base.class) base.class) (built_bases h d)) (words_of_bases h l x d) i rest))
+    (item_cases (flat_map (λ (base : Base ClassId). sub_items h l n (extended_by x base.class) base.class) (bases_with_tables h d)) (words_of_bases h l x d) i rest))
     (item_split (item x (whole_of d)) _ i there)
 
-some_item : (h : Classes) → IsHierarchy h → (l : Places) (c : ClassId) → has_virtual h c ≡ true → (i : VttItem) → Item (items h l c) i → IsItemOf h c i
+some_item : (h : Classes) → IsHierarchy h → (l : Places) (c : ClassId) → has_vtt h c ≡ true → (i : VttItem) → Item (vtt_items h l c) i → IsItemOf h c i
 some_item h keeps l c test i there = ⊎_elim
     (λ first. sub_item h keeps l c (c.0 + 1) (whole_of c) c (whole_part h c (virtual_dynamic h keeps c test)) refl i first)
     (λ rest.
-    let r = from_flat (shared_items h l) (filter (has_virtual h) (virtual_bases h c)) i rest in
+    let r = from_flat (shared_items h l) (filter (has_vtt h) (virtual_bases h c)) i rest in
     sub_item h keeps l c (r.0.0 + 1) (shared_base r.0) r.0 (shared_part h keeps c r.0 r.1).0 refl i r.2)
     (item_cases (sub_items h l (c.0 + 1) (whole_of c) c) _ i there)
 
 -- the item of a VTT
 pub class_item : (h : Classes) → IsHierarchy h → (l : Places) (c : ClassId) (i : VttItem) → Item (class_items h l c) i → IsItemOf h c i
-class_item h keeps l c i there = split (has_virtual h c) (λ b. has_virtual h c ≡ b → Item (if b then items h l c else []) i → IsItemOf h c i)
+class_item h keeps l c i there = split (has_vtt h c) (λ b. has_vtt h c ≡ b → Item (if b then vtt_items h l c else []) i → IsItemOf h c i)
     (λ t test j. some_item h keeps l c test i j)
     (λ t test j. absurd (item_none i j))
     refl there

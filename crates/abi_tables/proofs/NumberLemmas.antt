@@ -20,8 +20,8 @@ use Rattle.foundation.proofs.Members.{Has, contains_from_has}
 use Rattle.abi_sound.specs.Places.{Places}
 use Rattle.abi_slots.specs.Listing.{is_direct}
 use Rattle.abi_tables.specs.Counts.{vtt_words, AreVttLengths}
-use Rattle.abi_vtt.specs.Vtts.{is_filled, has_virtual}
-use Rattle.abi_tables.specs.invariants.Weights.{side, sides, AreNumbersTo, AreNumbers, number_of, cut, base_words, sub_words}
+use Rattle.abi_vtt.specs.Vtts.{is_filled, has_vtt}
+use Rattle.abi_tables.specs.invariants.Weights.{side, sides, AreNumbersTo, AreNumbers, number_by_class, cut, base_words, sub_words}
 
 pub cut_sum : (a b x y : ℕ) → x ≡ cut a → y ≡ cut b → cut (x + y) ≡ cut (a + b)
 cut_sum a b x y p q = omega arith
@@ -68,34 +68,34 @@ pub numbers_end : (h : Classes) (n end : ℕ) (f : ClassId → ℕ) (numbers : L
 numbers_end h n end f numbers a b is are = subst (λ k. AreNumbersTo k f numbers) (let e : n ≡ length h = omega arith in e) are
 
 -- what the bases of a class weigh
-pub side_cut : (h : Classes) → IsHierarchy h → (l : Places) (f : ClassId → ℕ) (heads : List ℕ) (k : ClassId) (bases : List (Base ClassId)) → AreNumbers h f heads → k.0 < length h → bases ≡ bases_of h k → cut (sum_by (side l (number_of heads) k) bases) ≡ cut (sides h l f k)
+pub side_cut : (h : Classes) → IsHierarchy h → (l : Places) (f : ClassId → ℕ) (heads : List ℕ) (k : ClassId) (bases : List (Base ClassId)) → AreNumbers h f heads → k.0 < length h → bases ≡ bases_of h k → cut (sum_by (side l (number_by_class heads) k) bases) ≡ cut (sides h l f k)
 side_cut h keeps l f heads k bases are known is =
-    ap (λ bs. cut (sum_by (side l (number_of heads) k) bs)) is
-    ∙ cut_same (side l (number_of heads) k) (side l f k) (bases_of h k) (λ base has.
+    ap (λ bs. cut (sum_by (side l (number_by_class heads) k) bs)) is
+    ∙ cut_same (side l (number_by_class heads) k) (side l f k) (bases_of h k) (λ base has.
     let less = keeps.bases k base (contains_from_has (bases_of h k) base has) in
-    let here : number_of heads base.class ≡ cut (f base.class) = are.each base.class (omega arith) in
-    split (base.is_virtual || is_direct (l.primary k) base.class) (λ b. cut (if b then 0 else number_of heads base.class) ≡ cut (if b then 0 else f base.class)) (λ e. refl) (λ e. omega arith))
+    let here : number_by_class heads base.class ≡ cut (f base.class) = are.each base.class (omega arith) in
+    split (base.is_virtual || is_direct (l.primary k) base.class) (λ b. cut (if b then 0 else number_by_class heads base.class) ≡ cut (if b then 0 else f base.class)) (λ e. refl) (λ e. omega arith))
 
 pub own_cut : (h : Classes) → IsHierarchy h → (f : ClassId → ℕ) (weights sums : List ℕ) (c : ClassId) (bases : List (Base ClassId)) (below value : ℕ) → AreNumbers h f weights → AreNumbersTo c.0 (own_of f h) sums → c.0 < length h → bases ≡ bases_of h c →
-    below ≡ cut (own_bases (number_of sums) bases) → value ≡ cut (number_of weights c + below) → value ≡ cut (own_of f h c)
+    below ≡ cut (own_bases (number_by_class sums) bases) → value ≡ cut (number_by_class weights c + below) → value ≡ cut (own_of f h c)
 own_cut h keeps f weights sums c bases below value are old known is below_is value_is =
     let opened = own_opened h keeps f c in
     let here = are.each c known in
-    let there : cut (own_bases (number_of sums) (bases_of h c)) ≡ cut (own_bases (own_of f h) (bases_of h c)) = cut_same _ _ (bases_of h c) (λ base has.
+    let there : cut (own_bases (number_by_class sums) (bases_of h c)) ≡ cut (own_bases (own_of f h) (bases_of h c)) = cut_same _ _ (bases_of h c) (λ base has.
     let less = keeps.bases c base (contains_from_has (bases_of h c) base has) in
-    let inner : number_of sums base.class ≡ cut (own_of f h base.class) = old.each base.class (omega arith) in
-    split base.is_virtual (λ b. cut (if b then 0 else number_of sums base.class) ≡ cut (if b then 0 else own_of f h base.class)) (λ e. refl) (λ e. omega arith)) in
-    let told : below ≡ cut (own_bases (own_of f h) (bases_of h c)) = below_is ∙ ap (λ bs. cut (own_bases (number_of sums) bs)) is ∙ there in
-    value_is ∙ cut_sum (f c) (own_bases (own_of f h) (bases_of h c)) (number_of weights c) below here told ∙ ap cut (sym opened)
+    let inner : number_by_class sums base.class ≡ cut (own_of f h base.class) = old.each base.class (omega arith) in
+    split base.is_virtual (λ b. cut (if b then 0 else number_by_class sums base.class) ≡ cut (if b then 0 else own_of f h base.class)) (λ e. refl) (λ e. omega arith)) in
+    let told : below ≡ cut (own_bases (own_of f h) (bases_of h c)) = below_is ∙ ap (λ bs. cut (own_bases (number_by_class sums) bs)) is ∙ there in
+    value_is ∙ cut_sum (f c) (own_bases (own_of f h) (bases_of h c)) (number_by_class weights c) below here told ∙ ap cut (sym opened)
 
 pub shared_cut : (h : Classes) → IsHierarchy h → (f g : ClassId → ℕ) (own shared : List ℕ) (c : ClassId) (list : List ClassId) (below value : ℕ) → AreNumbers h f own → AreNumbers h g shared → c.0 < length h → list ≡ virtual_bases h c →
-    below ≡ cut (sum_by (number_of shared) list) → value ≡ cut (number_of own c + below) → value ≡ cut (f c + sum_by g (virtual_bases h c))
+    below ≡ cut (sum_by (number_by_class shared) list) → value ≡ cut (number_by_class own c + below) → value ≡ cut (f c + sum_by g (virtual_bases h c))
 shared_cut h keeps f g own shared c list below value are also known is below_is value_is =
-    let told : below ≡ cut (sum_by g (virtual_bases h c)) = below_is ∙ ap (λ vs. cut (sum_by (number_of shared) vs)) is ∙ cut_same (number_of shared) g (virtual_bases h c) (λ v has.
+    let told : below ≡ cut (sum_by g (virtual_bases h c)) = below_is ∙ ap (λ vs. cut (sum_by (number_by_class shared) vs)) is ∙ cut_same (number_by_class shared) g (virtual_bases h c) (λ v has.
     let less = listed_below h keeps c v (contains_from_has (virtual_bases h c) v has) in
-    let inner : number_of shared v ≡ cut (g v) = also.each v (omega arith) in
+    let inner : number_by_class shared v ≡ cut (g v) = also.each v (omega arith) in
     omega arith) in
-    value_is ∙ cut_sum (f c) (sum_by g (virtual_bases h c)) (number_of own c) below (are.each c known) told
+    value_is ∙ cut_sum (f c) (sum_by g (virtual_bases h c)) (number_by_class own c) below (are.each c known) told
 
 pub numbers_same : (h : Classes) (f g : ClassId → ℕ) (numbers : List ℕ) → ((c : ClassId) → f c ≡ g c) → AreNumbers h f numbers → AreNumbers h g numbers
 numbers_same h f g numbers same are = record { size = are.size; each = λ c lt. are.each c lt ∙ ap cut (same c) }
@@ -109,10 +109,10 @@ word_cut true = refl
 word_cut false = refl
 
 -- the words of a sub-VTT
-pub sub_none : (h : Classes) (l : Places) (c : ClassId) → has_virtual h c ≡ false → 0 ≡ cut (sub_words h l c)
+pub sub_none : (h : Classes) (l : Places) (c : ClassId) → has_vtt h c ≡ false → 0 ≡ cut (sub_words h l c)
 sub_none h l c e = ap (λ b. cut (if b then 1 + base_words h l c else 0)) (sym e)
 
-pub sub_some : (h : Classes) (l : Places) (c : ClassId) (n sum : ℕ) → has_virtual h c ≡ true → n ≡ cut (base_words h l c) → sum ≡ cut (1 + n) → sum ≡ cut (sub_words h l c)
+pub sub_some : (h : Classes) (l : Places) (c : ClassId) (n sum : ℕ) → has_vtt h c ≡ true → n ≡ cut (base_words h l c) → sum ≡ cut (1 + n) → sum ≡ cut (sub_words h l c)
 sub_some h l c n sum e is sum_is =
     let all : cut (1 + n) ≡ cut (1 + base_words h l c) = omega arith in
     sum_is ∙ all ∙ ap (λ b. cut (if b then 1 + base_words h l c else 0)) (sym e)

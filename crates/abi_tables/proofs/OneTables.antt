@@ -17,9 +17,9 @@ use Rattle.abi_slots.proofs.Chains.{same_some}
 use Rattle.abi_slots.proofs.OneHead.{one_head}
 use Rattle.abi_slots.proofs.Settings.{setting_of}
 use Rattle.abi_vtable.proofs.OneGroup.{groups_same}
-use Rattle.abi_vtt.specs.Vtts.{Item as VttItem, IsVttWord}
+use Rattle.abi_vtt.specs.Vtts.{VttEntry as VttItem, IsVttWord}
 use Rattle.abi_tables.specs.declared.tables.ClassTables.{ClassTables}
-use Rattle.abi_tables.specs.Tables.{IsNamed, names_of, class_items, AreClassTables}
+use Rattle.abi_tables.specs.Tables.{IsNamed, group_names, class_items, AreClassTables}
 use Rattle.abi_tables.proofs.Along.{one_along}
 use Rattle.abi_tables.proofs.GroupViews.{IsItemOf, view_of_part, class_item}
 use Rattle.abi_slots.proofs.HeadsOnce.{one_number}
@@ -56,7 +56,7 @@ word_one h rows keeps sound c known i of a b m n =
 pub tables_same : (h : Classes) (rows : List ClassLayout) (c : ClassId) (a b : ClassTables) → IsHierarchy h → IsSoundLayout h rows → c.0 < length h → AreClassTables h (places_of h rows) c a → AreClassTables h (places_of h rows) c b → a ≡ b
 tables_same h rows c a b keeps sound known m n =
     let l = places_of h rows in
-    let groups : a.groups ≡ b.groups = one_along (IsNamed h l) (names_of h c) a.groups b.groups (λ name i p q. named_one h l name p q) m.groups n.groups in
+    let groups : a.groups ≡ b.groups = one_along (IsNamed h l) (group_names h c) a.groups b.groups (λ name i p q. named_one h l name p q) m.groups n.groups in
     let vtt : a.vtt ≡ b.vtt = one_along (IsVttWord h l c) (class_items h l c) a.vtt b.vtt (λ i there p q. word_one h rows keeps sound c known i (class_item h keeps l c i there) p q) m.vtt n.vtt in
     let info : a.info ≡ b.info = m.info ∙ sym n.info in
     let make : List Group → List VttWord → TypeInfo → ClassTables = λ gs ws t. record { groups = gs; vtt = ws; info = t } in

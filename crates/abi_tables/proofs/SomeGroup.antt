@@ -23,13 +23,13 @@ use Rattle.abi_slots.specs.declared.words.Table.{Table}
 use Rattle.abi_slots.specs.declared.words.TableWord.{TableWord}
 use Rattle.abi_slots.specs.declared.words.TableWord.TheVariants.{Vcall, Vbase, Top, Info, Entry}
 use Rattle.cxx_overrider.specs.Virtuals.{same_name, own}
-use Rattle.abi_slots.specs.Listing.{key, same_key, listing, entries, offsets}
-use Rattle.abi_slots.specs.Views.{View, seen, place, next, walk, first_in, heads}
+use Rattle.abi_slots.specs.Listing.{entry_key, same_entry_key, listing, entries, offsets}
+use Rattle.abi_slots.specs.Views.{View, seen, place, next, along_chain, first_in, heads}
 use Rattle.abi_slots.specs.Groups.{GoAlong, between, named_in, IsOffsetWord, to_base, to_overrider, declares_in, declares_at, declarer, code_word, IsEntryWord, nothing, runs, is_shared_base, IsTable}
 use Rattle.abi_slots.proofs.Lists.{Item, item_any}
 use Rattle.abi_slots.proofs.Owns.{own_class, own_virtual}
 use Rattle.abi_slots.proofs.Chains.{Setting, walk_under}
-use Rattle.abi_vtable.specs.invariants.Words.{IsNamed as IsNamedOffset}
+use Rattle.abi_vtable.specs.invariants.Words.{NamesVirtual as IsNamedOffset}
 use Rattle.abi_vtable.proofs.Offsets.{offset_named}
 use Rattle.abi_vtable.proofs.Over.{other_name}
 use Rattle.abi_tables.specs.Tables.{IsNamed, group_name}
@@ -40,7 +40,7 @@ use Rattle.abi_tables.proofs.GroupViews.{IsDynamicPart, view_of_part}
 -- what is found down a chain stands in it, and passes
 record IsFoundDown (p : Subobject → Bool) (go : Subobject → Option Subobject) (t s : Subobject) : Type 0 where
   steps : ℕ
-  leads : walk go steps (Some t) ≡ Some s
+  leads : along_chain go steps (Some t) ≡ Some s
   passes : p s ≡ true
 
 found_down : (p : Subobject → Bool) (go : Subobject → Option Subobject) (fuel : ℕ) (t s : Subobject) → first_in p go fuel (Some t) ≡ Some s → IsFoundDown p go t s
@@ -56,7 +56,7 @@ found_down p go (suc fuel) t s e = split (p t) (λ b. p t ≡ b → (if b then S
 
     by_next : (o : Option Subobject) → go t ≡ o → first_in p go fuel o ≡ Some s → ((u : Subobject) → first_in p go fuel (Some u) ≡ Some s → IsFoundDown p go u s) → IsFoundDown p go t s
     by_next None is f rest = absurd (let none = none_found fuel in cc)
-    by_next (Some u) is f rest = let r = rest u f in record { steps = suc r.steps; leads = ap (walk go r.steps) is ∙ r.leads; passes = r.passes }
+    by_next (Some u) is f rest = let r = rest u f in record { steps = suc r.steps; leads = ap (along_chain go r.steps) is ∙ r.leads; passes = r.passes }
 
 -- a function that a class declares at an entry
 record Declares (h : Classes) (k : EntryKey) (c : ClassId) : Type 0 where
@@ -67,8 +67,8 @@ record Declares (h : Classes) (k : EntryKey) (c : ClassId) : Type 0 where
 some_declared : (h : Classes) (l : Places) (k : EntryKey) (o : Option ClassId) (c : ClassId) → o ≡ Some c → declares_in h l k o ≡ true → Declares h k c
 some_declared h l k None c is e = cc
 some_declared h l k (Some d) c is e =
-    let r = item_any (λ f. same_name h f k.function && same_key (listing h l (key f k.kind)) k) (own h d) e in
-    let both = and_parts (same_name h r.0 k.function) (same_key (listing h l (key r.0 k.kind)) k) r.2 in
+    let r = item_any (λ f. same_name h f k.function && same_entry_key (listing h l (entry_key f k.kind)) k) (own h d) e in
+    let both = and_parts (same_name h r.0 k.function) (same_entry_key (listing h l (entry_key r.0 k.kind)) k) r.2 in
     let same : d ≡ c = cc in
     record { function = r.0; item = subst (λ a. Item (own h a) r.0) same r.1; named = both.0 }
 

@@ -14,17 +14,17 @@ use Rattle.abi_slots.specs.Views.{View, is_head, by_part}
 use Rattle.abi_slots.proofs.Lists.{Item, item_filter, from_map}
 use Rattle.abi_slots.proofs.Heads.{part_item, some_head}
 use Rattle.abi_slots.proofs.Settings.{setting_of}
-use Rattle.abi_vtt.specs.Vtts.{Item as VttItem, IsVttWord}
+use Rattle.abi_vtt.specs.Vtts.{VttEntry as VttItem, IsVttWord}
 use Rattle.abi_rtti.specs.TypeInfos.{type_info}
 use Rattle.abi_tables.specs.Counts.{group_views}
 use Rattle.abi_tables.specs.declared.tables.ClassTables.{ClassTables}
-use Rattle.abi_tables.specs.Tables.{IsNamed, group_name, names_of, class_items, AreClassTables}
+use Rattle.abi_tables.specs.Tables.{IsNamed, group_name, group_names, class_items, AreClassTables}
 use Rattle.abi_tables.proofs.Along.{some_along}
 use Rattle.abi_tables.proofs.GroupViews.{IsItemOf, view_of_part, group_part, class_item}
 use Rattle.abi_tables.proofs.SomeGroup.{some_group}
 
 module _ (h : Classes) (rows : List ClassLayout) (keeps : IsHierarchy h) (sound : IsSoundLayout h rows) (c : ClassId) (known : c.0 < length h) where
-  some_named : HasNoFault h → (name : GroupName) → Item (names_of h c) name → (group : Group) × IsNamed h (places_of h rows) name group
+  some_named : HasNoFault h → (name : GroupName) → Item (group_names h c) name → (group : Group) × IsNamed h (places_of h rows) name group
   some_named fine name i =
       let l = places_of h rows in
       let r = from_map (group_name c) (group_views h c) name i in
@@ -45,7 +45,7 @@ module _ (h : Classes) (rows : List ClassLayout) (keeps : IsHierarchy h) (sound 
   pub some_tables : HasNoFault h → (tables : ClassTables) × AreClassTables h (places_of h rows) c tables
   some_tables fine =
       let l = places_of h rows in
-      let groups = some_along (IsNamed h l) (names_of h c) (λ name i. some_named fine name i) in
+      let groups = some_along (IsNamed h l) (group_names h c) (λ name i. some_named fine name i) in
       let words = some_along (IsVttWord h l c) (class_items h l c) (λ i there. some_word i (class_item h keeps l c i there)) in
       let tables : ClassTables = record { groups = groups.0; vtt = words.0; info = type_info h l c } in
       (tables, record { groups = groups.1; vtt = words.1; info = refl })

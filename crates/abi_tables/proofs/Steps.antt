@@ -13,8 +13,8 @@ use Rattle.abi_slots.specs.declared.words.Group.{Group}
 use Rattle.abi_slots.specs.declared.words.GroupName.{GroupName}
 use Rattle.abi_slots.specs.Groups.{GoAlong, IsGroup}
 use Rattle.abi_tables.specs.Counts.{group_views}
-use Rattle.abi_tables.specs.Tables.{group_name, IsNamed, names_of, names_to, AreGroups}
-use Rattle.abi_tables.specs.invariants.Growing.{Grows}
+use Rattle.abi_tables.specs.Tables.{group_name, IsNamed, group_names, names_to, AreGroups}
+use Rattle.abi_tables.specs.invariants.Growing.{GrowsByEach}
 use Rattle.abi_tables.proofs.GroupViews.{IsDynamicPart, group_part, part_class}
 
 -- one view
@@ -33,11 +33,11 @@ name_known h c s name e known = subst (λ (n : GroupName). n.complete.0 < length
 pub named_group : (h : Classes) (l : Places) (c : ClassId) (s : Subobject) (name : GroupName) (group : Group) → group.name ≡ name → name ≡ group_name c s → IsGroup h l group → IsNamed h l (group_name c s) group
 named_group h l c s name group is e of = record { is = is ∙ e; group = of }
 
-pub groups_done : (h : Classes) (l : Places) (c : ClassId) (items list : List Subobject) (old new : List Group) → items ≡ list → list ≡ group_views h c → Grows (IsNamed h l) (map (group_name c) items) old new → Grows (IsNamed h l) (names_of h c) old new
-groups_done h l c items list old new same e grows = subst (λ xs. Grows (IsNamed h l) (map (group_name c) xs) old new) (same ∙ e) grows
+pub groups_done : (h : Classes) (l : Places) (c : ClassId) (items list : List Subobject) (old new : List Group) → items ≡ list → list ≡ group_views h c → GrowsByEach (IsNamed h l) (map (group_name c) items) old new → GrowsByEach (IsNamed h l) (group_names h c) old new
+groups_done h l c items list old new same e grows = subst (λ xs. GrowsByEach (IsNamed h l) (map (group_name c) xs) old new) (same ∙ e) grows
 
 -- one class more
-pub class_more : (h : Classes) (l : Places) (n : ℕ) (old new : List Group) → GoAlong (IsNamed h l) (names_to h n) old → Grows (IsNamed h l) (names_of h (record { 0 = n })) old new → GoAlong (IsNamed h l) (names_to h (n + 1)) new
+pub class_more : (h : Classes) (l : Places) (n : ℕ) (old new : List Group) → GoAlong (IsNamed h l) (names_to h n) old → GrowsByEach (IsNamed h l) (group_names h (record { 0 = n })) old new → GoAlong (IsNamed h l) (names_to h (n + 1)) new
 class_more h l n old new along grows = let e : suc n ≡ n + 1 = omega arith in subst (λ m. GoAlong (IsNamed h l) (names_to h m) new) e (grows.along (names_to h n) along)
 
 pub class_all : (h : Classes) (l : Places) (n : ℕ) (groups : List Group) → n ≡ length h → GoAlong (IsNamed h l) (names_to h n) groups → AreGroups h l groups

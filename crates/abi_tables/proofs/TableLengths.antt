@@ -13,7 +13,7 @@ use Rattle.abi_slots.specs.declared.words.Group.{Group}
 use Rattle.abi_slots.specs.declared.words.TableWord.TheVariants.{Top, Info, Entry}
 use Rattle.abi_slots.specs.Listing.{entries, offsets}
 use Rattle.abi_slots.specs.Views.{View, seen, heads}
-use Rattle.abi_slots.specs.Groups.{GoAlong, IsTable, IsGroup, between, is_shared_base, view_of}
+use Rattle.abi_slots.specs.Groups.{GoAlong, IsTable, IsGroup, between, is_shared_base, view_of_group}
 use Rattle.abi_tables.specs.Counts.{words_of_class, table_words, group_words}
 
 along_rest : {A B : Type 0} (R : A → B → Type 0) (x : A) (xs : List A) (y : B) (ys : List B) → GoAlong R (x ∷ xs) (y ∷ ys) → GoAlong R xs ys
@@ -44,7 +44,7 @@ table_length h l x t table is =
     let k : table_words h l x t ≡ length (offsets h l (is_shared_base (seen x t)) table.class) + 2 + length (entries h l table.class) = ap (words_of_class h l (is_shared_base (seen x t))) is.class in
     omega arith
 
-pub group_length : (h : Classes) (l : Places) (group : Group) → (of : IsGroup h l group) → sum_by (λ (table : Table). length table.words) group.tables ≡ group_words h l (view_of group of.class)
+pub group_length : (h : Classes) (l : Places) (group : Group) → (of : IsGroup h l group) → sum_by (λ (table : Table). length table.words) group.tables ≡ group_words h l (view_of_group group of.class)
 group_length h l group of =
-    let x = view_of group of.class in
+    let x = view_of_group group of.class in
     along_sum (IsTable h l x) (table_words h l x) (λ (table : Table). length table.words) (table_length h l x) (heads h l x) group.tables of.tables

@@ -9,7 +9,7 @@ use Rattle.abi_sound.specs.Places.{Places}
 use Rattle.abi_slots.specs.Listing.{entries, offsets}
 use Rattle.abi_slots.specs.Views.{View, seen, is_dynamic, heads}
 use Rattle.abi_slots.specs.Groups.{is_shared_base}
-use Rattle.abi_vtt.specs.Vtts.{has_virtual, items, views}
+use Rattle.abi_vtt.specs.Vtts.{has_vtt, vtt_items, views}
 
 -- the words that the groups and VTTs of a source may have (limit L7)
 abbrev pub most_words : ℕ
@@ -34,11 +34,11 @@ words_of_view h l c x (Some d) = group_words h l (record { complete = c; at_sub 
 
 -- the views of a class that have a group: those of its VTT where it has virtual bases, else the whole alone, if it is dynamic
 abbrev pub group_views : Classes → ClassId → List Subobject
-group_views h c = if has_virtual h c then views h c else (if is_dynamic h c then whole_of c ∷ [] else [])
+group_views h c = if has_vtt h c then views h c else (if is_dynamic h c then whole_of c ∷ [] else [])
 
 -- the words of the VTT of a class, which it has where it has virtual bases
 abbrev pub vtt_words : Classes → Places → ClassId → ℕ
-vtt_words h l c = if has_virtual h c then length (items h l c) else 0
+vtt_words h l c = if has_vtt h c then length (vtt_items h l c) else 0
 
 -- the lengths of the VTTs, by class number, one past the limit on all words where a VTT is longer than that
 abbrev pub AreVttLengths : Classes → Places → List ℕ → Type 0
@@ -49,10 +49,10 @@ abbrev pub class_words : Classes → Places → ClassId → ℕ
 class_words h l c = sum_by (λ (x : Subobject). words_of_view h l c x (class_of x)) (group_views h c) + vtt_words h l c
 
 -- those of the first n classes
-abbrev pub words_to : Classes → Places → ℕ → ℕ
-words_to h l zero = 0
-words_to h l (suc n) = words_to h l n + class_words h l (record { 0 = n })
+abbrev pub words_before_class : Classes → Places → ℕ → ℕ
+words_before_class h l zero = 0
+words_before_class h l (suc n) = words_before_class h l n + class_words h l (record { 0 = n })
 
 -- the words of all groups and VTTs
-abbrev pub all_words : Classes → Places → ℕ
-all_words h l = words_to h l (length h)
+abbrev pub words_of_all_classes : Classes → Places → ℕ
+words_of_all_classes h l = words_before_class h l (length h)

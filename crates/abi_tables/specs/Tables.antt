@@ -7,7 +7,7 @@ use Rattle.abi_sound.specs.Places.{Places}
 use Rattle.abi_slots.specs.declared.words.Group.{Group}
 use Rattle.abi_slots.specs.declared.words.GroupName.{GroupName}
 use Rattle.abi_slots.specs.Groups.{GoAlong, IsGroup}
-use Rattle.abi_vtt.specs.Vtts.{Item, has_virtual, items, IsVttWord}
+use Rattle.abi_vtt.specs.Vtts.{VttEntry, has_vtt, vtt_items, IsVttWord}
 use Rattle.abi_rtti.specs.TypeInfos.{type_info}
 use Rattle.abi_tables.specs.Counts.{group_views}
 use Rattle.abi_tables.specs.declared.tables.ClassTables.{ClassTables}
@@ -17,13 +17,13 @@ abbrev pub group_name : ClassId → Subobject → GroupName
 group_name c x = record { complete = c; view = x }
 
 -- the names of the groups of a class
-abbrev pub names_of : Classes → ClassId → List GroupName
-names_of h c = map (group_name c) (group_views h c)
+abbrev pub group_names : Classes → ClassId → List GroupName
+group_names h c = map (group_name c) (group_views h c)
 
 -- the names of the groups of the first n classes
 abbrev pub names_to : Classes → ℕ → List GroupName
 names_to h zero = []
-names_to h (suc n) = names_to h n ++ names_of h (record { 0 = n })
+names_to h (suc n) = names_to h n ++ group_names h (record { 0 = n })
 
 -- the group of this name
 pub record IsNamed (h : Classes) (l : Places) (name : GroupName) (named : Group) : Type 0 where
@@ -35,11 +35,11 @@ abbrev pub AreGroups : Classes → Places → List Group → Type 0
 AreGroups h l groups = GoAlong (IsNamed h l) (names_to h (length h)) groups
 
 -- the items of the VTT of a class, which it has where it has virtual bases
-abbrev pub class_items : Classes → Places → ClassId → List Item
-class_items h l c = if has_virtual h c then items h l c else []
+abbrev pub class_items : Classes → Places → ClassId → List VttEntry
+class_items h l c = if has_vtt h c then vtt_items h l c else []
 
 -- the tables of one class
 pub record AreClassTables (h : Classes) (l : Places) (c : ClassId) (tables : ClassTables) : Type 0 where
-  pub groups : GoAlong (IsNamed h l) (names_of h c) tables.groups
+  pub groups : GoAlong (IsNamed h l) (group_names h c) tables.groups
   pub vtt : GoAlong (IsVttWord h l c) (class_items h l c) tables.vtt
   pub info : tables.info ≡ type_info h l c

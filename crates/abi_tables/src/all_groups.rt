@@ -4,7 +4,7 @@ ghost use Rattle.std.specs.Prelude.{◌≡◌, ◌≤◌, ◌<◌, ◌⊎◌, If
 ghost use Rattle.cxx_overrider.specs.Overriders.{AreOverriders};
 ghost use Rattle.abi_sound.specs.Places.{places_of};
 ghost use Rattle.abi_slots.specs.Slots.{AreSlots};
-ghost use Rattle.abi_tables.specs.Counts.{all_words, most_words};
+ghost use Rattle.abi_tables.specs.Counts.{words_of_all_classes, most_words};
 ghost use Rattle.abi_tables.specs.Tables.{AreGroups};
 
 use crate::check_words;
@@ -30,8 +30,8 @@ pub fn build_tables<L: SoundLayout>(
     requires overriders { AreOverriders h.now o.now }
     requires slots { AreSlots h.now (places_of h.now (L.rows layout.now)) slots.now }
     ensures groups { IfOk result (AreGroups h.now (places_of h.now (L.rows layout.now))) }
-    ensures few { OnOk result (all_words h.now (places_of h.now (L.rows layout.now)) ≤ most_words) }
-    ensures many { IfErr result (λ stop. (stop ≡ Stop.NoMemory) ⊎ ((stop ≡ Stop.Limit LimitNo.L7) × (most_words < all_words h.now (places_of h.now (L.rows layout.now))))) }
+    ensures few { OnOk result (words_of_all_classes h.now (places_of h.now (L.rows layout.now)) ≤ most_words) }
+    ensures many { IfErr result (λ stop. (stop ≡ Stop.NoMemory) ⊎ ((stop ≡ Stop.Limit LimitNo.L7) × (most_words < words_of_all_classes h.now (places_of h.now (L.rows layout.now))))) }
 {
     check_words(alloc, h, layout, slots)?;
     let mut groups = Sequence::new(alloc);

@@ -4,8 +4,8 @@ ghost use Rattle.std.specs.Prelude.{◌≡◌, ◌<◌, IfOk, OnOk, length};
 ghost use Rattle.cxx_overrider.specs.Overriders.{AreOverriders};
 ghost use Rattle.abi_sound.specs.Places.{places_of};
 ghost use Rattle.abi_slots.specs.Slots.{AreSlots};
-ghost use Rattle.abi_tables.specs.Tables.{IsNamed, group_name, names_of};
-ghost use Rattle.abi_tables.specs.invariants.Growing.{Grows};
+ghost use Rattle.abi_tables.specs.Tables.{IsNamed, group_name, group_names};
+ghost use Rattle.abi_tables.specs.invariants.Growing.{GrowsByEach};
 
 use crate::group_views;
 use abi_slots::{GroupList, GroupName, Slots};
@@ -45,7 +45,7 @@ pub(crate) fn push_groups<L: SoundLayout>(
     requires overriders { AreOverriders h.now o.now }
     requires slots { AreSlots h.now (places_of h.now (L.rows layout.now)) slots.now }
     requires known { c.0 < length h.now }
-    ensures { OnOk result (Grows (IsNamed h.now (places_of h.now (L.rows layout.now))) (names_of h.now c) groups.old groups.new) }
+    ensures { OnOk result (GrowsByEach (IsNamed h.now (places_of h.now (L.rows layout.now))) (group_names h.now c) groups.old groups.new) }
 {
     h.keeps();
     let list = group_views(alloc, h, layout, c)?;

@@ -9,7 +9,7 @@ ghost use Rattle.cxx_subobject.specs.invariants.Counts.{own_bases, own_of};
 ghost use Rattle.abi_sound.specs.Places.{places_of};
 ghost use Rattle.abi_slots.specs.Listing.{is_direct};
 ghost use Rattle.abi_tables.specs.Counts.{most_words};
-ghost use Rattle.abi_tables.specs.invariants.Weights.{AreNumbers, cut, number_of, side, sides, sides_of};
+ghost use Rattle.abi_tables.specs.invariants.Weights.{AreNumbers, cut, number_by_class, side, sides, sides_of};
 
 use abi_primary::Primary;
 use abi_sound::SoundLayout;
@@ -29,7 +29,7 @@ pub(crate) fn capped(one: u32, other: u32) -> u32
 
 /// The number of a class, and 0 behind the end.
 pub(crate) fn number_of(numbers: &[u32], c: ClassId) -> u32
-    ensures { result ≡ number_of numbers.now c }
+    ensures { result ≡ number_by_class numbers.now c }
 {
     let number = c.0 as usize;
     if number < numbers.len() {
@@ -60,7 +60,7 @@ fn side<L: SoundLayout>(
 ) -> u32
     requires layout { L.lays_out layout.now h.now }
     requires known { k.0 < length h.now }
-    ensures { result ≡ side (places_of h.now (L.rows layout.now)) (number_of heads.now) k base.now }
+    ensures { result ≡ side (places_of h.now (L.rows layout.now)) (number_by_class heads.now) k base.now }
 {
     if base.is_virtual || is_direct(layout.layout(k).primary, base.class) {
         0
@@ -79,7 +79,7 @@ fn side_sum<L: SoundLayout>(
 ) -> u32
     requires layout { L.lays_out layout.now h.now }
     requires known { k.0 < length h.now }
-    ensures { result ≡ cut (sum_by (side (places_of h.now (L.rows layout.now)) (number_of heads.now) k) bases.now) }
+    ensures { result ≡ cut (sum_by (side (places_of h.now (L.rows layout.now)) (number_by_class heads.now) k) bases.now) }
 {
     let mut sum = 0;
     for base in bases {
@@ -90,7 +90,7 @@ fn side_sum<L: SoundLayout>(
 
 /// What a base has outside its virtual bases: nothing where it is itself a virtual base.
 fn own_value(numbers: &[u32], base: &Base<ClassId>) -> u32
-    ensures { result ≡ (if base.now.is_virtual then 0 else number_of numbers.now base.now.class) }
+    ensures { result ≡ (if base.now.is_virtual then 0 else number_by_class numbers.now base.now.class) }
 {
     if base.is_virtual {
         0
@@ -101,7 +101,7 @@ fn own_value(numbers: &[u32], base: &Base<ClassId>) -> u32
 
 /// What the non-virtual bases among these have.
 fn base_sum(numbers: &[u32], bases: &[Base<ClassId>]) -> u32
-    ensures { result ≡ cut (own_bases (number_of numbers.now) bases.now) }
+    ensures { result ≡ cut (own_bases (number_by_class numbers.now) bases.now) }
 {
     let mut sum = 0;
     for base in bases {
@@ -112,7 +112,7 @@ fn base_sum(numbers: &[u32], bases: &[Base<ClassId>]) -> u32
 
 /// What these classes have.
 fn class_sum(numbers: &[u32], classes: &[ClassId]) -> u32
-    ensures { result ≡ cut (sum_by (number_of numbers.now) classes.now) }
+    ensures { result ≡ cut (sum_by (number_by_class numbers.now) classes.now) }
 {
     let mut sum = 0;
     for c in classes {

@@ -2,7 +2,7 @@
 
 ghost use Rattle.std.specs.Prelude.{◌≡◌, [], ◌∷◌, ◌<◌, All, IfOk, length};
 ghost use Rattle.cxx_subobject.specs.Subobjects.{IsSubobject, whole_of};
-ghost use Rattle.abi_vtt.specs.Vtts.{HasDynamicClass, has_virtual};
+ghost use Rattle.abi_vtt.specs.Vtts.{HasDynamicClass, has_vtt};
 ghost use Rattle.abi_tables.specs.Counts.{group_views};
 
 use crate::kinds::is_dynamic;
@@ -18,7 +18,7 @@ use std::alloc::Global;
 pub fn has_virtual<L: SoundLayout>(h: &Hierarchy, layout: &L, c: ClassId) -> bool
     requires layout { L.lays_out layout.now h.now }
     requires known { c.0 < length h.now }
-    ensures { result ≡ has_virtual h.now c }
+    ensures { result ≡ has_vtt h.now c }
 {
     match layout.layout(c).virtual_bases.as_slice() {
         [] => false,

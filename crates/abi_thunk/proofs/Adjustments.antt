@@ -9,7 +9,7 @@ use Rattle.abi_sound.specs.Places.{Places}
 use Rattle.abi_slots.specs.declared.words.ThisAdjust.{ThisAdjust}
 use Rattle.abi_slots.specs.declared.words.ReturnAdjust.{ReturnAdjust}
 use Rattle.abi_slots.specs.Groups.{this_constant, this_adjust, return_constant, return_adjust, root_base}
-use Rattle.abi_thunk.specs.Leads.{ThisLeads, ReturnLeads}
+use Rattle.abi_thunk.specs.Leads.{AdjustmentLeads, ReturnLeads}
 
 pub this_none : (d : ℤ) → d ≡ pos 0 → None ≡ this_constant d
 this_none d e = sym (ap this_constant e)
@@ -26,11 +26,11 @@ pub return_some : (n : ℕ) → (n ≡ 0 → ⊥) → Some (record { vbase = Non
 return_some zero apart = absurd (apart refl)
 return_some (suc n) apart = refl
 
-pub this_leads : (l : Places) (c : ClassId) (from to : Subobject) (vcall : Option ℤ) → ThisLeads l c from to vcall (this_adjust l c from to vcall)
+pub this_leads : (l : Places) (c : ClassId) (from to : Subobject) (vcall : Option ℤ) → AdjustmentLeads l c from to vcall (this_adjust l c from to vcall)
 this_leads l c from to (Some bytes) = (omega (arith, ints), refl)
 this_leads l c from to None = by_distance (pos (l.place c to) -ℤ pos (l.place c from)) refl
   where
-    by_distance : (d : ℤ) → d ≡ pos (l.place c to) -ℤ pos (l.place c from) → ThisLeads l c from to None (this_constant d)
+    by_distance : (d : ℤ) → d ≡ pos (l.place c to) -ℤ pos (l.place c from) → AdjustmentLeads l c from to None (this_constant d)
     by_distance (pos zero) e = omega (arith, ints)
     by_distance (pos (suc n)) e = (omega (arith, ints), refl)
     by_distance (negsuc n) e = (omega (arith, ints), refl)

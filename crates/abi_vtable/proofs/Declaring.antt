@@ -19,9 +19,9 @@ use Rattle.abi_sound.specs.Places.{Places}
 use Rattle.abi_slots.specs.declared.words.CodeKind.{CodeKind}
 use Rattle.abi_slots.specs.declared.words.EntryKey.{EntryKey}
 use Rattle.cxx_overrider.specs.Virtuals.{same_name, own}
-use Rattle.abi_slots.specs.Listing.{key, same_key, kinds_in, keys_of, own_keys, shares, primary_entries, new_entries, entries_in, entries, or_itself, listing}
+use Rattle.abi_slots.specs.Listing.{entry_key, same_entry_key, kinds_in, keys_of, own_keys, shares, primary_entries, new_entries, entries_in, entries, or_itself, listing}
 use Rattle.abi_slots.specs.Slots.{declared_at}
-use Rattle.abi_slots.specs.Views.{View, is_some, next_by, next_in, next, walk, first_in}
+use Rattle.abi_slots.specs.Views.{View, is_some, next_by, next_in, next, along_chain, first_in}
 use Rattle.abi_slots.specs.Groups.{declares_in, declares_at}
 use Rattle.abi_slots.proofs.Bases.{contains_item}
 use Rattle.abi_slots.proofs.Chains.{Setting, same_some, known, next_under, walk_under}
@@ -31,16 +31,16 @@ use Rattle.abi_slots.proofs.Names.{key_is}
 use Rattle.abi_slots.proofs.Owns.{own_class}
 use Rattle.abi_vtable.specs.declared.view.Part.{Part}
 use Rattle.abi_vtable.specs.declared.words.Declarer.{Declarer}
-use Rattle.abi_vtable.specs.invariants.Parts.{IsNumberOf, nothing, number}
+use Rattle.abi_vtable.specs.invariants.Parts.{NumbersSubobject, nothing, number}
 use Rattle.abi_vtable.specs.invariants.Words.{AreAlong, IsDeclaredBy, at_part}
 
 -- numbers and what they are of
 
-pub number_none : (list : List Subobject) (o : Option ℕ) (s : Option Subobject) → o ≡ None → IsNumberOf list o s → s ≡ None
+pub number_none : (list : List Subobject) (o : Option ℕ) (s : Option Subobject) → o ≡ None → NumbersSubobject list o s → s ≡ None
 number_none list _ _ e nothing = refl
 number_none list _ _ e (number n s at) = cc
 
-pub number_some : (list : List Subobject) (o : Option ℕ) (n : ℕ) (s : Option Subobject) → o ≡ Some n → IsNumberOf list o s → (u : Subobject) × (s ≡ Some u) × (slice_get list n ≡ Some u)
+pub number_some : (list : List Subobject) (o : Option ℕ) (n : ℕ) (s : Option Subobject) → o ≡ Some n → NumbersSubobject list o s → (u : Subobject) × (s ≡ Some u) × (slice_get list n ≡ Some u)
 number_some list _ n _ e nothing = cc
 number_some list _ n _ e (number m s at) = let same : m ≡ n = cc in (s, refl, ap (slice_get list) (sym same) ∙ at)
 
@@ -49,7 +49,7 @@ number_some list _ n _ e (number m s at) = let same : m ≡ n = cc in (s, refl, 
 own_key_class : (h : Classes) (c : ClassId) (k : EntryKey) → Item (own_keys h c) k → k.function.class ≡ c
 own_key_class h c k i =
     let r = from_flat (keys_of h) (own h c) k i in
-    let m = from_map (key r.0) (kinds_in (signature_of h r.0)) k r.2 in
+    let m = from_map (entry_key r.0) (kinds_in (signature_of h r.0)) k r.2 in
     let same : r.0 ≡ k.function = ap (λ (a : EntryKey). a.function) m.2 in
     ap (λ (f : FunctionId). f.class) (sym same) ∙ own_class h c r.0 r.1
 
@@ -86,23 +86,23 @@ module _ (h : Classes) (l : Places) (x : View) (set : Setting h l x) where
       by_primary (Direct b) is j = let less = base_before h set.keeps c b false (set.primaries.direct c b there is).0 in let m = entry_low b (omega arith) k j in omega arith
       by_primary (Virtual v) is j = let less = virtual_below h set.keeps c v (set.primaries.virtual c v there is).0 in let m = entry_low v (omega arith) k j in omega arith
 
-  listing_low : (c : ClassId) (f : FunctionId) (kind : CodeKind) → c.0 < length h → Item (own h c) f → (listing h l (key f kind)).function.class.0 ≤ c.0
+  listing_low : (c : ClassId) (f : FunctionId) (kind : CodeKind) → c.0 < length h → Item (own h c) f → (listing h l (entry_key f kind)).function.class.0 ≤ c.0
   listing_low c f kind there i =
       let class = own_class h c f i in
       let at : f.class.0 < length h = subst (λ (a : ClassId). a.0 < length h) (sym class) there in
-      let low = by_find f kind (find (shares h l (key f kind)) (primary_entries (entries h l) (l.primary f.class))) refl at in
-      subst (λ (a : ClassId). (listing h l (key f kind)).function.class.0 ≤ a.0) class low
+      let low = by_find f kind (find (shares h l (entry_key f kind)) (primary_entries (entries h l) (l.primary f.class))) refl at in
+      subst (λ (a : ClassId). (listing h l (entry_key f kind)).function.class.0 ≤ a.0) class low
     where
-      by_find : (f : FunctionId) (kind : CodeKind) (o : Option EntryKey) → find (shares h l (key f kind)) (primary_entries (entries h l) (l.primary f.class)) ≡ o → f.class.0 < length h → (or_itself (key f kind) o).function.class.0 ≤ f.class.0
+      by_find : (f : FunctionId) (kind : CodeKind) (o : Option EntryKey) → find (shares h l (entry_key f kind)) (primary_entries (entries h l) (l.primary f.class)) ≡ o → f.class.0 < length h → (or_itself (entry_key f kind) o).function.class.0 ≤ f.class.0
       by_find f kind None e at = omega arith
-      by_find f kind (Some k) e at = primary_low f.class at k (found_passes (shares h l (key f kind)) (primary_entries (entries h l) (l.primary f.class)) k e).0
+      by_find f kind (Some k) e at = primary_low f.class at k (found_passes (shares h l (entry_key f kind)) (primary_entries (entries h l) (l.primary f.class)) k e).0
 
   -- a class does not declare an entry of a class behind it
   not_declared : (k : EntryKey) (d : ClassId) → d.0 < length h → d.0 < k.function.class.0 → declares_in h l k (Some d) ≡ false
   not_declared k d there less = is_false (declares_in h l k (Some d)) (λ e.
-      let r = item_any (λ f. same_name h f k.function && same_key (listing h l (key f k.kind)) k) (own h d) e in
-      let both = and_parts (same_name h r.0 k.function) (same_key (listing h l (key r.0 k.kind)) k) r.2 in
-      let same : listing h l (key r.0 k.kind) ≡ k = key_is (listing h l (key r.0 k.kind)) k both.1 in
+      let r = item_any (λ f. same_name h f k.function && same_entry_key (listing h l (entry_key f k.kind)) k) (own h d) e in
+      let both = and_parts (same_name h r.0 k.function) (same_entry_key (listing h l (entry_key r.0 k.kind)) k) r.2 in
+      let same : listing h l (entry_key r.0 k.kind) ≡ k = key_is (listing h l (entry_key r.0 k.kind)) k both.1 in
       let low = listing_low d r.0 k.kind there r.1 in
       let at : k.function.class.0 ≤ d.0 = subst (λ (a : EntryKey). a.function.class.0 ≤ d.0) same low in
       omega arith)
@@ -121,14 +121,14 @@ module _ (h : Classes) (l : Places) (x : View) (set : Setting h l x) where
           (λ t g. cc) f
 
   -- an entry that a chain has at its start and not further down is that of a class behind it
-  entry_above : (j : ℕ) (t r : Subobject) (c d : ClassId) (n : ℕ) (k : EntryKey) → IsSubobject h x.class t → class_of t ≡ Some c → class_of r ≡ Some d → walk (next l x) j (Some t) ≡ Some r → slice_get (entries h l c) n ≡ Some k → slice_get (entries h l d) n ≡ None → d.0 < k.function.class.0
+  entry_above : (j : ℕ) (t r : Subobject) (c d : ClassId) (n : ℕ) (k : EntryKey) → IsSubobject h x.class t → class_of t ≡ Some c → class_of r ≡ Some d → along_chain (next l x) j (Some t) ≡ Some r → slice_get (entries h l c) n ≡ Some k → slice_get (entries h l d) n ≡ None → d.0 < k.function.class.0
   entry_above zero t r c d n k valid of_t of_r goes at none =
       let same : t ≡ r = same_some t r goes in
       let one : c ≡ d = same_some c d (sym of_t ∙ ap class_of same ∙ of_r) in
       absurd (let e : slice_get (entries h l d) n ≡ Some k = ap (λ a. slice_get (entries h l a) n) (sym one) ∙ at in cc)
   entry_above (suc j) t r c d n k valid of_t of_r goes at none = by_next (next l x t) refl goes (λ u b inner of_u there here. entry_above j u r b d n k inner of_u of_r there here none)
     where
-      by_entry : (u : Subobject) (b : ClassId) → next l x t ≡ Some u → class_of u ≡ Some b → b.0 < c.0 → walk (next l x) j (Some u) ≡ Some r → IsSubobject h x.class u → (o : Option EntryKey) → slice_get (entries h l b) n ≡ o →
+      by_entry : (u : Subobject) (b : ClassId) → next l x t ≡ Some u → class_of u ≡ Some b → b.0 < c.0 → along_chain (next l x) j (Some u) ≡ Some r → IsSubobject h x.class u → (o : Option EntryKey) → slice_get (entries h l b) n ≡ o →
           (slice_get (entries h l b) n ≡ Some k → d.0 < k.function.class.0) → ((a : EntryKey) → slice_get (entries h l b) n ≡ Some a → slice_get (entries h l c) n ≡ Some a) → d.0 < k.function.class.0
       by_entry u b go of_u less there inner (Some a) e rest keep =
           let same : a ≡ k = same_some a k (sym (keep a e) ∙ at) in
@@ -143,10 +143,10 @@ module _ (h : Classes) (l : Places) (x : View) (set : Setting h l x) where
           let far = w.less b d of_u of_r in
           subst (λ (a : ClassId). d.0 < a.0) (sym class) (omega arith)
 
-      by_next : (o : Option Subobject) → next l x t ≡ o → walk (next l x) j o ≡ Some r → ((u : Subobject) (b : ClassId) → IsSubobject h x.class u → class_of u ≡ Some b → walk (next l x) j (Some u) ≡ Some r → slice_get (entries h l b) n ≡ Some k → d.0 < k.function.class.0) → d.0 < k.function.class.0
+      by_next : (o : Option Subobject) → next l x t ≡ o → along_chain (next l x) j o ≡ Some r → ((u : Subobject) (b : ClassId) → IsSubobject h x.class u → class_of u ≡ Some b → along_chain (next l x) j (Some u) ≡ Some r → slice_get (entries h l b) n ≡ Some k → d.0 < k.function.class.0) → d.0 < k.function.class.0
       by_next None go there rest = absurd (let e = walk_no j in cc)
         where
-          walk_no : (i : ℕ) → walk (next l x) i None ≡ None
+          walk_no : (i : ℕ) → along_chain (next l x) i None ≡ None
           walk_no zero = refl
           walk_no (suc i) = refl
       by_next (Some u) go there rest =
@@ -207,13 +207,13 @@ pub record IsDeclared (h : Classes) (l : Places) (k : EntryKey) (u : Subobject) 
 pub declared_some : (h : Classes) (l : Places) (x : View) (k : EntryKey) (n : ℕ) (u : Subobject) (d : ClassId) (o : Option FunctionId) (f : FunctionId) → AreAlong h l x k n (Some u) → class_of u ≡ Some d → o ≡ option_and_then (declared_at h l d) (slice_get (entries h l d) n) → o ≡ Some f → IsDeclared h l k u d f
 declared_some h l x k n u d o f are of_u is some = ⊎_elim
     (λ e.
-    let test = λ (g : FunctionId). same_name h g k.function && same_key (listing h l (key g k.kind)) k in
+    let test = λ (g : FunctionId). same_name h g k.function && same_entry_key (listing h l (entry_key g k.kind)) k in
     let found : find test (own h d) ≡ Some f = ap (option_and_then (declared_at h l d)) (sym e) ∙ sym is ∙ some in
     let r = found_passes test (own h d) f found in
     record {
       item = r.0;
       class = own_class h d f r.0;
-      named = (and_parts (same_name h f k.function) (same_key (listing h l (key f k.kind)) k) r.1).0;
+      named = (and_parts (same_name h f k.function) (same_entry_key (listing h l (entry_key f k.kind)) k) r.1).0;
       declares = ap (declares_in h l k) of_u ∙ Rattle.abi_slots.proofs.Lists.any_item test (own h d) f r.0 r.1;
     })
     (λ e. absurd (let none : o ≡ None = is ∙ ap (option_and_then (declared_at h l d)) e.0 in cc))
@@ -222,7 +222,7 @@ declared_some h l x k n u d o f are of_u is some = ⊎_elim
 pub declared_none : (h : Classes) (l : Places) (x : View) (k : EntryKey) (n : ℕ) (u : Subobject) (d : ClassId) (o : Option FunctionId) → AreAlong h l x k n (Some u) → class_of u ≡ Some d → o ≡ option_and_then (declared_at h l d) (slice_get (entries h l d) n) → o ≡ None → declares_at h l k u ≡ false
 declared_none h l x k n u d o are of_u is none = ⊎_elim
     (λ e.
-    let test = λ (g : FunctionId). same_name h g k.function && same_key (listing h l (key g k.kind)) k in
+    let test = λ (g : FunctionId). same_name h g k.function && same_entry_key (listing h l (entry_key g k.kind)) k in
     ap (declares_in h l k) of_u ∙ none_found test (own h d) (ap (option_and_then (declared_at h l d)) (sym e) ∙ sym is ∙ none))
     (λ e. e.1)
     (are.each 0 u d refl of_u)

@@ -31,20 +31,20 @@ use Rattle.abi_slots.proofs.Settings.{setting_of}
 use Rattle.abi_vtable.specs.declared.view.Part.{Part}
 use Rattle.abi_vtable.specs.declared.view.ViewParts.{ViewParts}
 use Rattle.abi_vtable.specs.declared.words.Declarer.{Declarer}
-use Rattle.abi_vtable.specs.invariants.Parts.{IsNumberOf, number, IsPartOf, at_of, IsViewParts, view_in}
-use Rattle.abi_vtable.specs.invariants.Words.{HasVcall, IsDeclaredBy, nowhere, at_part, runs_at}
+use Rattle.abi_vtable.specs.invariants.Parts.{NumbersSubobject, number, IsViewPart, at_of, IsViewParts, view_of_parts}
+use Rattle.abi_vtable.specs.invariants.Words.{HasVcall, IsDeclaredBy, nowhere, at_part, overrider_in_subobject}
 use Rattle.abi_vtable.proofs.Parts.{class_known}
 use Rattle.abi_vtable.proofs.Over.{same_part, other_name, has_vcall}
 
 -- the first part of the chain from a number on whose class declares an entry
 abbrev pub first_from : (h : Classes) → Places → (v : ViewParts) → EntryKey → ℕ → Option Subobject
-first_from h l v k n = first_in (declares_at h l k) (next l (view_in v)) (v.class.0 + 1) (slice_get (preorder h v.class) n)
+first_from h l v k n = first_in (declares_at h l k) (next l (view_of_parts v)) (v.class.0 + 1) (slice_get (preorder h v.class) n)
 
-pub start_number : (h : Classes) (l : Places) (v : ViewParts) → IsViewParts h l v → (n : ℕ) → n < length v.parts → IsNumberOf (preorder h v.class) (Some n) (slice_get (preorder h v.class) n)
+pub start_number : (h : Classes) (l : Places) (v : ViewParts) → IsViewParts h l v → (n : ℕ) → n < length v.parts → NumbersSubobject (preorder h v.class) (Some n) (slice_get (preorder h v.class) n)
 start_number h l v view n lt =
     let size : length (preorder h v.class) ≡ length v.parts = ap length (sym view.parts.subobjects) ∙ length-map v.parts at_of in
     let r = get_within (preorder h v.class) n (subst (λ a. n < a) (sym size) lt) in
-    subst (λ o. IsNumberOf (preorder h v.class) (Some n) o) (sym r.1) (number n r.0 r.1)
+    subst (λ o. NumbersSubobject (preorder h v.class) (Some n) o) (sym r.1) (number n r.0 r.1)
 
 -- what declares an entry
 pub record IsFound (h : Classes) (parts : List Part) (k : EntryKey) (o : Option Subobject) (found : Declarer) : Type 0 where
@@ -69,12 +69,12 @@ found_within h parts items k o found same is = subst (λ (xs : List Part). found
 
 -- what a search from a number on tells of the one that it found
 pub found_from : (h : Classes) (l : Places) (v : ViewParts) → IsViewParts h l v → (k : EntryKey) (n : ℕ) → n < length v.parts → (r : Option Declarer) (found : Declarer) → r ≡ Some found →
-    (IsNumberOf (preorder h v.class) (Some n) (slice_get (preorder h v.class) n) → IsDeclaredBy h l (view_in v) v.parts k (first_from h l v k n) r) → IsFound h v.parts k (first_from h l v k n) found
-found_from h l v view k n within r found is told = found_of h l (view_in v) v.parts k (first_from h l v k n) r found is (told (start_number h l v view n within))
+    (NumbersSubobject (preorder h v.class) (Some n) (slice_get (preorder h v.class) n) → IsDeclaredBy h l (view_of_parts v) v.parts k (first_from h l v k n) r) → IsFound h v.parts k (first_from h l v k n) found
+found_from h l v view k n within r found is told = found_of h l (view_of_parts v) v.parts k (first_from h l v k n) r found is (told (start_number h l v view n within))
 
 -- the part that declares the entry, and its function
 pub record Declares (h : Classes) (l : Places) (v : ViewParts) (k : EntryKey) (o : Option Subobject) (part : Part) (f : FunctionId) : Type 0 where
-  pub of : IsPartOf h l (view_in v) (preorder h v.class) part
+  pub of : IsViewPart h l (view_of_parts v) (preorder h v.class) part
   pub is : o ≡ Some part.at
   pub class : class_of part.at ≡ Some f.class
   pub is_virtual : IsVirtual h f
@@ -96,42 +96,42 @@ declares h rows keeps sound v view items k o found part same is f =
       class = class;
       is_virtual = own_virtual h keeps found.function.class found.function item;
       named = f.named;
-      vcall = has_vcall h l (view_in v) (setting_of h rows keeps sound (view_in v) view.view) f.part.at k.function found.function of.valid class item f.named;
+      vcall = has_vcall h l (view_of_parts v) (setting_of h rows keeps sound (view_of_parts v) view.view) f.part.at k.function found.function of.valid class item f.named;
     } in
     subst (λ a. Declares h l v k o a found.function) one all
 
 -- the same of the part that is read for the one that a search from a number on found
 pub declared_from : (h : Classes) (rows : List ClassLayout) → IsHierarchy h → IsSoundLayout h rows → (v : ViewParts) → IsViewParts h (places_of h rows) v → (k : EntryKey) (n : ℕ) → n < length v.parts → (r : Option Declarer) (found : Declarer) → r ≡ Some found →
-    (IsNumberOf (preorder h v.class) (Some n) (slice_get (preorder h v.class) n) → IsDeclaredBy h (places_of h rows) (view_in v) v.parts k (first_from h (places_of h rows) v k n) r) → (items : List Part) (part : Part) → items ≡ v.parts → part ≡ get_or items found.part part →
+    (NumbersSubobject (preorder h v.class) (Some n) (slice_get (preorder h v.class) n) → IsDeclaredBy h (places_of h rows) (view_of_parts v) v.parts k (first_from h (places_of h rows) v k n) r) → (items : List Part) (part : Part) → items ≡ v.parts → part ≡ get_or items found.part part →
     Declares h (places_of h rows) v k (first_from h (places_of h rows) v k n) part found.function
 declared_from h rows keeps sound v view k n within r found is told items part same read =
     let l = places_of h rows in
     declares h rows keeps sound v view items k (first_from h l v k n) found part same read (found_from h l v view k n within r found is told)
 
 pub overrider_known : (h : Classes) → IsHierarchy h → (l : Places) (v : ViewParts) → IsViewParts h l v → (s : Subobject) (f : FunctionId) (o : Overrider) → IsFinalOverrider h v.class s f o → o.function.class.0 < length h
-overrider_known h keeps l v view s f o final = class_known h keeps (view_in v) view.view o.at o.function.class final.left.candidate.valid final.left.candidate.class
+overrider_known h keeps l v view s f o final = class_known h keeps (view_of_parts v) view.view o.at o.function.class final.left.candidate.valid final.left.candidate.class
 
 run_word : (h : Classes) (l : Places) (x : View) (t : Subobject) (k : EntryKey) (s : Subobject) (o : Overrider) (w : EntryWord) → declarer h l x t k ≡ Some s → IsFinalOverrider h x.class s k.function o → w ≡ code_word h l x k s o → IsEntryWord h l x t k w
 run_word h l x t k s o w e final is = subst (λ a. IsEntryWord h l x t k a) (sym is) (runs s o e final)
 
 -- the search begins at the part of the table
-from_part : (h : Classes) (l : Places) (v : ViewParts) (k : EntryKey) (n : ℕ) (t : Subobject) (r : Option Subobject) → slice_get (preorder h v.class) n ≡ Some t → first_from h l v k n ≡ r → declarer h l (view_in v) t k ≡ r
-from_part h l v k n t r at e = ap (first_in (declares_at h l k) (next l (view_in v)) (v.class.0 + 1)) (sym at) ∙ e
+from_part : (h : Classes) (l : Places) (v : ViewParts) (k : EntryKey) (n : ℕ) (t : Subobject) (r : Option Subobject) → slice_get (preorder h v.class) n ≡ Some t → first_from h l v k n ≡ r → declarer h l (view_of_parts v) t k ≡ r
+from_part h l v k n t r at e = ap (first_in (declares_at h l k) (next l (view_of_parts v)) (v.class.0 + 1)) (sym at) ∙ e
 
-pub unused_word : (h : Classes) (l : Places) (v : ViewParts) (k : EntryKey) (n : ℕ) (t : Subobject) → slice_get (preorder h v.class) n ≡ Some t → first_from h l v k n ≡ None → IsEntryWord h l (view_in v) t k Unused
+pub unused_word : (h : Classes) (l : Places) (v : ViewParts) (k : EntryKey) (n : ℕ) (t : Subobject) → slice_get (preorder h v.class) n ≡ Some t → first_from h l v k n ≡ None → IsEntryWord h l (view_of_parts v) t k Unused
 unused_word h l v k n t at e = nothing (from_part h l v k n t None at e)
 
 pub pure_word : (h : Classes) (l : Places) (v : ViewParts) (k : EntryKey) (n : ℕ) (t at_sub : Subobject) (part : Part) (f g : FunctionId) → slice_get (preorder h v.class) n ≡ Some t →
-    Declares h l v k (first_from h l v k n) part f → IsFinalOverrider h v.class part.at f (runs_at at_sub g) → is_pure h g ≡ true → IsEntryWord h l (view_in v) t k (Pure g)
+    Declares h l v k (first_from h l v k n) part f → IsFinalOverrider h v.class part.at f (overrider_in_subobject at_sub g) → is_pure h g ≡ true → IsEntryWord h l (view_of_parts v) t k (Pure g)
 pure_word h l v k n t at_sub part f g at d final pure =
-    let x = view_in v in
-    run_word h l x t k part.at (runs_at at_sub g) (Pure g) (from_part h l v k n t (Some part.at) at d.is) (other_name h v.class part.at f k.function (runs_at at_sub g) d.named final)
+    let x = view_of_parts v in
+    run_word h l x t k part.at (overrider_in_subobject at_sub g) (Pure g) (from_part h l v k n t (Some part.at) at d.is) (other_name h v.class part.at f k.function (overrider_in_subobject at_sub g) d.named final)
     (sym (ap (λ b. if b then Pure g else Code g k.kind (this_adjust l x.complete (seen x part.at) (seen x at_sub) (vcall_for h l k.function part.at at_sub)) (return_for h l g k.function)) pure))
 
 pub code_runs : (h : Classes) → IsHierarchy h → (l : Places) (v : ViewParts) (k : EntryKey) (n : ℕ) (t at_sub : Subobject) (part to : Part) (f g : FunctionId) (w : EntryWord) → slice_get (preorder h v.class) n ≡ Some t →
-    Declares h l v k (first_from h l v k n) part f → IsFinalOverrider h v.class part.at f (runs_at at_sub g) →
-    IsPartOf h l (view_in v) (preorder h v.class) to → to.class ≡ g.class → IsInside h to.at part.at → w ≡ code_word h l (view_in v) k part.at (runs_at to.at g) → IsEntryWord h l (view_in v) t k w
+    Declares h l v k (first_from h l v k n) part f → IsFinalOverrider h v.class part.at f (overrider_in_subobject at_sub g) →
+    IsViewPart h l (view_of_parts v) (preorder h v.class) to → to.class ≡ g.class → IsInside h to.at part.at → w ≡ code_word h l (view_of_parts v) k part.at (overrider_in_subobject to.at g) → IsEntryWord h l (view_of_parts v) t k w
 code_runs h keeps l v k n t at_sub part to f g w at d final of class inside is =
-    let x = view_in v in
+    let x = view_of_parts v in
     let same = same_part h keeps l x (preorder h v.class) part.at at_sub f g to final of class inside in
-    run_word h l x t k part.at (runs_at at_sub g) w (from_part h l v k n t (Some part.at) at d.is) (other_name h v.class part.at f k.function (runs_at at_sub g) d.named final) (is ∙ ap (λ a. code_word h l x k part.at (runs_at a g)) same)
+    run_word h l x t k part.at (overrider_in_subobject at_sub g) w (from_part h l v k n t (Some part.at) at d.is) (other_name h v.class part.at f k.function (overrider_in_subobject at_sub g) d.named final) (is ∙ ap (λ a. code_word h l x k part.at (overrider_in_subobject a g)) same)

@@ -23,7 +23,7 @@ use Rattle.abi_slots.proofs.Chains.{Setting, same_some, known}
 use Rattle.abi_slots.proofs.Listings.{IsListable, a_base, a_call}
 use Rattle.abi_slots.proofs.Lists.{Item}
 use Rattle.abi_slots.proofs.Owns.{own_virtual}
-use Rattle.abi_vtable.specs.invariants.Words.{IsNamed}
+use Rattle.abi_vtable.specs.invariants.Words.{NamesVirtual}
 
 -- a virtual base itself
 pub shared_is_base : (h : Classes) (c d : ClassId) (s : Subobject) → IsSubobject h c s → is_shared_base s ≡ true → class_of s ≡ Some d → HasVirtualBase h c d
@@ -62,7 +62,7 @@ module _ (h : Classes) (l : Places) (x : View) (set : Setting h l x) where
       let at : IsVirtualIn h x.class (subobject Whole (u ∷ path)) g = record { valid = valid; class = ap (λ a. Some a) ends; is_virtual = own_virtual h set.keeps g.class g declares } in
       subst (λ b. IsVirtualIn h x.class (subobject (if b then Whole else Shared u) (u ∷ path)) g) (sym one) at
 
-  listed_named : (t : Subobject) (c : ClassId) → IsSubobject h x.class t → class_of t ≡ Some c → (b : Bool) → b ≡ is_shared_base (seen x t) → (y : Offset) → IsListable h b c y → IsNamed h x.class y
+  listed_named : (t : Subobject) (c : ClassId) → IsSubobject h x.class t → class_of t ≡ Some c → (b : Bool) → b ≡ is_shared_base (seen x t) → (y : Offset) → IsListable h b c y → NamesVirtual h x.class y
   listed_named t c valid e b is _ (a_base v has) = tt
   listed_named t c valid e b is _ (a_call u path g call) = ⊎_elim
       (λ itself. ⊎_elim
@@ -72,5 +72,5 @@ module _ (h : Classes) (l : Places) (x : View) (set : Setting h l x) where
       (λ has. named_base u path g (part_virtual h x.class c u t valid e has) call.leads call.ends call.declares)
       call.base
 
-  pub offset_named : (t : Subobject) (c : ClassId) → IsSubobject h x.class t → class_of t ≡ Some c → (i : ℕ) (y : Offset) → Rattle.std.specs.Prelude.slice_get (offsets h l (is_shared_base (seen x t)) c) i ≡ Some y → IsNamed h x.class y
+  pub offset_named : (t : Subobject) (c : ClassId) → IsSubobject h x.class t → class_of t ≡ Some c → (i : ℕ) (y : Offset) → Rattle.std.specs.Prelude.slice_get (offsets h l (is_shared_base (seen x t)) c) i ≡ Some y → NamesVirtual h x.class y
   offset_named t c valid e i y at = listed_named t c valid e (is_shared_base (seen x t)) refl y (each_listable h l set.keeps set.primaries (is_shared_base (seen x t)) c (known h l x set c t valid e) y (record { index = i; there = at }))

@@ -21,7 +21,7 @@ use Rattle.abi_slots.specs.declared.words.GroupName.{GroupName}
 use Rattle.abi_slots.specs.declared.words.Group.{Group}
 use Rattle.abi_slots.specs.Listing.{entries, offsets}
 use Rattle.abi_slots.specs.Views.{View, seen, heads}
-use Rattle.abi_slots.specs.Groups.{GoAlong, between, named_in, IsOffsetWord, to_base, to_overrider, declarer, code_word, IsEntryWord, nothing, runs, is_shared_base, IsTable, view_of, IsGroup}
+use Rattle.abi_slots.specs.Groups.{GoAlong, between, named_in, IsOffsetWord, to_base, to_overrider, declarer, code_word, IsEntryWord, nothing, runs, is_shared_base, IsTable, view_of_group, IsGroup}
 use Rattle.abi_slots.proofs.Chains.{same_some}
 
 -- two lists that go along with one are equal, where an item has one partner
@@ -102,8 +102,8 @@ view_by n c = record { complete = n.complete; at_sub = n.view; class = c }
 pub groups_same : (h : Classes) (l : Places) (a b : Group) → IsGroup h l a → IsGroup h l b → a.name ≡ b.name → a ≡ b
 groups_same h l a b m n e =
     let class : m.class ≡ n.class = same_some m.class n.class (sym m.view.of_class ∙ ap (λ (g : GroupName). class_of g.view) e ∙ n.view.of_class) in
-    let view : view_of a m.class ≡ view_of b n.class = ap (λ g. view_by g m.class) e ∙ ap (view_by b.name) class in
-    let x = view_of a m.class in
+    let view : view_of_group a m.class ≡ view_of_group b n.class = ap (λ g. view_by g m.class) e ∙ ap (view_by b.name) class in
+    let x = view_of_group a m.class in
     let tables : a.tables ≡ b.tables = along_same (IsTable h l x) (one_table h l x) (heads h l x) a.tables b.tables m.tables
     (subst (λ y. GoAlong (IsTable h l y) (heads h l y) b.tables) (sym view) n.tables) in
     let make : GroupName → List Table → Group = λ g ts. record { name = g; tables = ts } in

@@ -24,7 +24,7 @@ use Rattle.abi_slots.specs.declared.words.ReturnAdjust.{ReturnAdjust}
 use Rattle.abi_slots.specs.declared.words.Offset.{Offset}
 use Rattle.abi_slots.specs.declared.words.Offset.TheVariants.{ToBase, ToOverrider}
 use Rattle.cxx_overrider.specs.Virtuals.{same_name, own}
-use Rattle.abi_slots.specs.Listing.{base_of, is_name, offsets}
+use Rattle.abi_slots.specs.Listing.{base_of_class, is_offset_of_name, offsets}
 use Rattle.abi_slots.specs.Views.{View, IsView, seen, place}
 use Rattle.abi_slots.specs.Groups.{between, named_in, return_adjust, vbase_bytes, adjust_to, adjust_by, IsOffsetWord, to_base, to_overrider}
 use Rattle.abi_slots.proofs.Calls.{vcall_there}
@@ -34,9 +34,9 @@ use Rattle.abi_slots.proofs.Names.{name_is, name_back}
 use Rattle.abi_vtable.specs.declared.returns.KnownReturn.{KnownReturn}
 use Rattle.abi_vtable.specs.declared.view.Part.{Part}
 use Rattle.abi_vtable.specs.declared.view.ViewParts.{ViewParts}
-use Rattle.abi_vtable.specs.invariants.Parts.{IsPartOf, at_of, AreParts, AreStarts, IsViewParts, IsSomeView}
+use Rattle.abi_vtable.specs.invariants.Parts.{IsViewPart, at_of, AreParts, AreStarts, IsViewParts, IsSomeView}
 use Rattle.abi_vtable.specs.invariants.Returns.{AreKnown}
-use Rattle.abi_vtable.specs.invariants.Words.{IsOver, AreNotOver, HasVcall, runs_at}
+use Rattle.abi_vtable.specs.invariants.Words.{LiesInClass, AreNotOver, HasVcall, overrider_in_subobject}
 use Rattle.abi_vtable.proofs.Lists.{read_at}
 use Rattle.abi_vtable.proofs.Parts.{listed_place}
 
@@ -67,7 +67,7 @@ one_not_over h parts s d i part lt is none so = record {
 }
 
 -- each class has such a part where it has such a subobject
-pub some_over : (h : Classes) → IsHierarchy h → (l : Places) (x : View) (items parts : List Part) → items ≡ parts → AreParts h l x parts → (s : Subobject) (d : ClassId) (i : ℕ) → length items ≤ i → AreNotOver h items s d i → IsOver h x.class s d → ⊥
+pub some_over : (h : Classes) → IsHierarchy h → (l : Places) (x : View) (items parts : List Part) → items ≡ parts → AreParts h l x parts → (s : Subobject) (d : ClassId) (i : ℕ) → length items ≤ i → AreNotOver h items s d i → LiesInClass h x.class s d → ⊥
 some_over h keeps l x items parts same are s d i le so over =
     let at = listed_place h keeps x.class over.holder over.valid in
     let p = part_listed h l x parts are at.0 over.holder at.1 in
@@ -77,27 +77,27 @@ some_over h keeps l x items parts same are s d i le so over =
     let class : p.0.class ≡ d = same_some p.0.class d (sym is.class ∙ ap class_of p.2 ∙ over.class) in
     so.each at.0 p.0 (omega arith) there class (subst (λ a. IsInside h a s) (sym p.2) over.inside)
 
-pub final_over : (h : Classes) (c : ClassId) (s : Subobject) (f : FunctionId) (o : Overrider) → IsFinalOverrider h c s f o → IsOver h c s o.function.class
+pub final_over : (h : Classes) (c : ClassId) (s : Subobject) (f : FunctionId) (o : Overrider) → IsFinalOverrider h c s f o → LiesInClass h c s o.function.class
 final_over h c s f o final = record { holder = o.at; valid = final.left.candidate.valid; class = final.left.candidate.class; inside = final.left.candidate.contains }
 
 -- the part is the overrider's subobject
-pub same_part : (h : Classes) → IsHierarchy h → (l : Places) (x : View) (list : List Subobject) (s at : Subobject) (f g : FunctionId) (part : Part) → IsFinalOverrider h x.class s f (runs_at at g) → IsPartOf h l x list part → part.class ≡ g.class → IsInside h part.at s → part.at ≡ at
-same_part h keeps l x list s at f g part final is class inside = one_of_class h keeps x.class s part.at f (runs_at at g) final is.valid (is.class ∙ ap (λ a. Some a) class) inside
+pub same_part : (h : Classes) → IsHierarchy h → (l : Places) (x : View) (list : List Subobject) (s at : Subobject) (f g : FunctionId) (part : Part) → IsFinalOverrider h x.class s f (overrider_in_subobject at g) → IsViewPart h l x list part → part.class ≡ g.class → IsInside h part.at s → part.at ≡ at
+same_part h keeps l x list s at f g part final is class inside = one_of_class h keeps x.class s part.at f (overrider_in_subobject at g) final is.valid (is.class ∙ ap (λ a. Some a) class) inside
 
 pub base_word : (h : Classes) (l : Places) (x : View) (t : Subobject) (v : ClassId) (o : Offset) (d : ℤ) → o ≡ ToBase v → d ≡ between l x.complete (seen x t) (seen x (shared_base v)) → IsOffsetWord h l x t o (Vbase d v)
 base_word h l x t v o d is e = subst (λ a. IsOffsetWord h l x t a (Vbase d v)) (sym is) (subst (λ a. IsOffsetWord h l x t (ToBase v) (Vbase a v)) (sym e) (to_base v))
 
 -- where a part lies in the complete object
-pub part_place : (h : Classes) (l : Places) (x : View) (list : List Subobject) (part : Part) (n : ℕ) → IsPartOf h l x list part → n ≡ l.place x.complete part.seen → n ≡ place l x part.at
+pub part_place : (h : Classes) (l : Places) (x : View) (list : List Subobject) (part : Part) (n : ℕ) → IsViewPart h l x list part → n ≡ l.place x.complete part.seen → n ≡ place l x part.at
 part_place h l x list part n of is = is ∙ ap (l.place x.complete) of.seen
 
-pub call_word : (h : Classes) → IsHierarchy h → (l : Places) (x : View) (list : List Subobject) (t s at : Subobject) (path : List ClassId) (f g : FunctionId) (part : Part) (o : Offset) (start end : ℕ) (d : ℤ) → o ≡ ToOverrider path f → s ≡ named_in x.class path → IsFinalOverrider h x.class s f (runs_at at g) →
-    IsPartOf h l x list part → part.class ≡ g.class → IsInside h part.at s → start ≡ place l x t → end ≡ l.place x.complete part.seen → d ≡ pos end -ℤ pos start → IsOffsetWord h l x t o (Vcall d f)
+pub call_word : (h : Classes) → IsHierarchy h → (l : Places) (x : View) (list : List Subobject) (t s at : Subobject) (path : List ClassId) (f g : FunctionId) (part : Part) (o : Offset) (start end : ℕ) (d : ℤ) → o ≡ ToOverrider path f → s ≡ named_in x.class path → IsFinalOverrider h x.class s f (overrider_in_subobject at g) →
+    IsViewPart h l x list part → part.class ≡ g.class → IsInside h part.at s → start ≡ place l x t → end ≡ l.place x.complete part.seen → d ≡ pos end -ℤ pos start → IsOffsetWord h l x t o (Vcall d f)
 call_word h keeps l x list t s at path f g part o start end d is named final of class inside from to e =
     let same = same_part h keeps l x list s at f g part final of class inside in
     let there : end ≡ place l x at = part_place h l x list part end of to ∙ ap (place l x) same in
     let value : d ≡ between l x.complete (seen x t) (seen x at) = e ∙ ap (λ n. pos n -ℤ pos start) there ∙ ap (λ n. pos (place l x at) -ℤ pos n) from in
-    let word : IsOffsetWord h l x t (ToOverrider path f) (Vcall (between l x.complete (seen x t) (seen x at)) f) = to_overrider path f (runs_at at g) (subst (λ a. IsFinalOverrider h x.class a f (runs_at at g)) named final) in
+    let word : IsOffsetWord h l x t (ToOverrider path f) (Vcall (between l x.complete (seen x t) (seen x at)) f) = to_overrider path f (overrider_in_subobject at g) (subst (λ a. IsFinalOverrider h x.class a f (overrider_in_subobject at g)) named final) in
     subst (λ a. IsOffsetWord h l x t a (Vcall d f)) (sym is) (subst (λ a. IsOffsetWord h l x t (ToOverrider path f) (Vcall a f)) (sym value) word)
 
 -- results
@@ -109,7 +109,7 @@ root_virtual h c _ (shared w path has l) v e = let same : w ≡ v = cc in subst 
 pub base_valid : (h : Classes) (c : ClassId) (o : Option Subobject) (s : Subobject) → o ≡ Some s → IfSome o (IsSubobject h c) → IsSubobject h c s
 base_valid h c o s e valid = subst (λ a. IfSome a (IsSubobject h c)) e valid
 
-pub converted_is : (h : Classes) (l : Places) (c : Conversion) (o : Option Subobject) (s : Subobject) (vbase : Option ℤ) (r : Option ReturnAdjust) → o ≡ base_of h c.from c.to → o ≡ Some s → vbase ≡ vbase_bytes h l c.from s.root → r ≡ return_adjust l c.from s vbase → r ≡ adjust_by h l (Some c)
+pub converted_is : (h : Classes) (l : Places) (c : Conversion) (o : Option Subobject) (s : Subobject) (vbase : Option ℤ) (r : Option ReturnAdjust) → o ≡ base_of_class h c.from c.to → o ≡ Some s → vbase ≡ vbase_bytes h l c.from s.root → r ≡ return_adjust l c.from s vbase → r ≡ adjust_by h l (Some c)
 converted_is h l c o s vbase r of_base there bytes is = is ∙ ap (return_adjust l c.from s) bytes ∙ ap (adjust_to h l c.from) (sym there ∙ of_base)
 
 -- a conversion that is known
@@ -136,4 +136,4 @@ has_vcall h l x set _ f g (whole path leads) class declares same = tt
 has_vcall h l x set _ f g (shared v path has leads) class declares same =
     let ends : last_of v path ≡ g.class = same_some (last_of v path) g.class class in
     let call = vcall_there h l set.keeps set.primaries v path f g (known h l x set v (shared_base v) (shared v [] has tt) refl) leads ends declares (name_back h g f same) in
-    (record { of = x.class; has = has }, any_item (is_name h f) (offsets h l true v) (ToOverrider (call.base ∷ call.path) call.function) (record { index = _; there = call.there }) call.named)
+    (record { of = x.class; has = has }, any_item (is_offset_of_name h f) (offsets h l true v) (ToOverrider (call.base ∷ call.path) call.function) (record { index = _; there = call.there }) call.named)

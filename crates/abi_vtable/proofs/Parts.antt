@@ -20,7 +20,7 @@ use Rattle.abi_slots.proofs.Chains.{same_some, next_under}
 use Rattle.abi_slots.proofs.Loops.{pushed_more, pushed_all}
 use Rattle.abi_slots.proofs.Settings.{setting_of}
 use Rattle.abi_vtable.specs.declared.view.Part.{Part}
-use Rattle.abi_vtable.specs.invariants.Parts.{IsNumberOf, nothing, number, IsPartOf, at_of, AreParts, ArePartsTo, AreStarts, AreStartsTo}
+use Rattle.abi_vtable.specs.invariants.Parts.{NumbersSubobject, nothing, number, IsViewPart, at_of, AreParts, ArePartsTo, AreStarts, AreStartsTo}
 use Rattle.abi_vtable.proofs.Lists.{map_more}
 
 -- the class of a subobject of a view is known
@@ -55,35 +55,35 @@ held_next l x s t d v e is same test = by_holder l x s t d v true e is same test
 pub elsewhere_next : (l : Places) (x : View) (s t : Subobject) (d v : ClassId) → class_of s ≡ Some d → l.primary d ≡ Virtual v → t ≡ seen x s → is_some (l.holder x.complete v) t ≡ false → next l x s ≡ None
 elsewhere_next l x s t d v e is same test = by_holder l x s t d v false e is same test
 
-pub no_number : (list : List Subobject) (o : Option Subobject) → o ≡ None → IsNumberOf list None o
-no_number list o e = subst (λ a. IsNumberOf list None a) (sym e) nothing
+pub no_number : (list : List Subobject) (o : Option Subobject) → o ≡ None → NumbersSubobject list None o
+no_number list o e = subst (λ a. NumbersSubobject list None a) (sym e) nothing
 
-number_found : (list : List Subobject) (u : Subobject) (i : ℕ) → slice_get list i ≡ Some u → (o : Option ℕ) → MatchOption o ((i : ℕ) → slice_get list i ≡ Some u → ⊥) (λ i. slice_get list i ≡ Some u) → IsNumberOf list o (Some u)
+number_found : (list : List Subobject) (u : Subobject) (i : ℕ) → slice_get list i ≡ Some u → (o : Option ℕ) → MatchOption o ((i : ℕ) → slice_get list i ≡ Some u → ⊥) (λ i. slice_get list i ≡ Some u) → NumbersSubobject list o (Some u)
 number_found list u i there None m = absurd (m i there)
 number_found list u i there (Some n) m = number n u m
 
 -- the next of a chain has a number
 pub next_number : (h : Classes) (rows : List ClassLayout) → IsHierarchy h → IsSoundLayout h rows → (x : View) → IsView h x → (list : List Subobject) (s t u : Subobject) (o : Option ℕ) → list ≡ preorder h x.class → IsSubobject h x.class s → next (places_of h rows) x s ≡ Some u → t ≡ u →
-    MatchOption o ((i : ℕ) → slice_get list i ≡ Some t → ⊥) (λ i. slice_get list i ≡ Some t) → IsNumberOf list o (next (places_of h rows) x s)
+    MatchOption o ((i : ℕ) → slice_get list i ≡ Some t → ⊥) (λ i. slice_get list i ≡ Some t) → NumbersSubobject list o (next (places_of h rows) x s)
 next_number h rows keeps sound x view list s t u o is valid e same m =
     let set = setting_of h rows keeps sound x view in
     let under = (next_under h (places_of h rows) x set s u valid e).under in
     let at = listed_place h keeps x.class u under.valid_below in
     let here : slice_get list at.0 ≡ Some u = ap (λ xs. slice_get xs at.0) is ∙ at.1 in
     let found = subst (λ a. MatchOption o ((i : ℕ) → slice_get list i ≡ Some a → ⊥) (λ i. slice_get list i ≡ Some a)) same m in
-    subst (λ a. IsNumberOf list o a) (sym e) (number_found list u at.0 here o found)
+    subst (λ a. NumbersSubobject list o a) (sym e) (number_found list u at.0 here o found)
 
 -- one part more
-pub part_more : (h : Classes) (l : Places) (x : View) (list : List Subobject) (i : ℕ) (s : Subobject) (parts new : List Part) (part : Part) → i < length list → s ≡ get_or list i s → part.at ≡ s → IsPartOf h l x list part → new ≡ parts ++ part ∷ [] → ArePartsTo h l x list i parts → ArePartsTo h l x list (i + 1) new
+pub part_more : (h : Classes) (l : Places) (x : View) (list : List Subobject) (i : ℕ) (s : Subobject) (parts new : List Part) (part : Part) → i < length list → s ≡ get_or list i s → part.at ≡ s → IsViewPart h l x list part → new ≡ parts ++ part ∷ [] → ArePartsTo h l x list i parts → ArePartsTo h l x list (i + 1) new
 part_more h l x list i s parts new part lt is at of e so = record {
   subobjects = pushed_more (λ (a : List Subobject). a) list i s (s ∷ []) (map at_of parts) (map at_of new) list lt is refl (ap (map at_of) e ∙ map_more at_of parts part ∙ ap (λ a. map at_of parts ++ a ∷ []) at) so.subobjects;
-  each = λ j q there. ⊎_elim (λ old. so.each j q old) (λ last. subst (λ a. IsPartOf h l x list a) (sym last.1) of) (get_pushed parts part j q (ap (λ xs. slice_get xs j) (sym e) ∙ there));
+  each = λ j q there. ⊎_elim (λ old. so.each j q old) (λ last. subst (λ a. IsViewPart h l x list a) (sym last.1) of) (get_pushed parts part j q (ap (λ xs. slice_get xs j) (sym e) ∙ there));
 }
 
 pub parts_all : (h : Classes) (l : Places) (x : View) (list : List Subobject) (i : ℕ) (parts : List Part) → length list ≤ i → list ≡ preorder h x.class → ArePartsTo h l x list i parts → AreParts h l x parts
 parts_all h l x list i parts le is so = record {
   subobjects = pushed_all (λ (a : List Subobject). a) refl list i (map at_of parts) list le so.subobjects ∙ is;
-  each = λ j q there. subst (λ a. IsPartOf h l x a q) is (so.each j q there);
+  each = λ j q there. subst (λ a. IsViewPart h l x a q) is (so.each j q there);
 }
 
 -- one part more is noted

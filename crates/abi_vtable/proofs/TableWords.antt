@@ -26,8 +26,8 @@ use Rattle.abi_slots.proofs.Chains.{Setting, same_some}
 use Rattle.abi_slots.proofs.Settings.{setting_of}
 use Rattle.abi_vtable.specs.declared.view.Part.{Part}
 use Rattle.abi_vtable.specs.declared.view.ViewParts.{ViewParts}
-use Rattle.abi_vtable.specs.invariants.Parts.{IsPartOf, at_of, IsViewParts, view_in, numbered}
-use Rattle.abi_vtable.specs.invariants.Words.{IsNamed, AreAlong, GoAlongTo}
+use Rattle.abi_vtable.specs.invariants.Parts.{IsViewPart, at_of, IsViewParts, view_of_parts, subobjects_numbered}
+use Rattle.abi_vtable.specs.invariants.Words.{NamesVirtual, AreAlong, GoAlongTo}
 use Rattle.abi_vtable.proofs.Parts.{class_known}
 use Rattle.abi_vtable.proofs.Declaring.{entry_low, all_along}
 use Rattle.abi_vtable.proofs.Offsets.{shared_is_base, offset_named}
@@ -55,12 +55,12 @@ pub record IsHeadAt (list : List Subobject) (all : List Subobject) (i n : ℕ) :
   pub there : slice_get all i ≡ Some head
   pub at_number : slice_get list n ≡ Some head
 
-pub head_at : (list all : List Subobject) (numbers : List ℕ) (i n : ℕ) → numbered list numbers ≡ map Some all → slice_get numbers i ≡ Some n → IsHeadAt list all i n
+pub head_at : (list all : List Subobject) (numbers : List ℕ) (i n : ℕ) → subobjects_numbered list numbers ≡ map Some all → slice_get numbers i ≡ Some n → IsHeadAt list all i n
 head_at list all numbers i n same e =
     let r = get_mapped Some all i (slice_get list n) (ap (λ xs. slice_get xs i) (sym same) ∙ get_map (slice_get list) numbers i n e) in
     record { head = r.0; there = r.1; at_number = sym r.2 }
 
-pub heads_size : (list all : List Subobject) (numbers : List ℕ) → numbered list numbers ≡ map Some all → length all ≡ length numbers
+pub heads_size : (list all : List Subobject) (numbers : List ℕ) → subobjects_numbered list numbers ≡ map Some all → length all ≡ length numbers
 heads_size list all numbers same = sym (length-map all Some) ∙ ap length (sym same) ∙ length-map numbers (slice_get list)
 
 pub number_below : (h : Classes) (l : Places) (v : ViewParts) → IsViewParts h l v → (n : ℕ) (s : Subobject) → slice_get (preorder h v.class) n ≡ Some s → n < length v.parts
@@ -88,14 +88,14 @@ read_part h rows keeps sound v view items n part same within read = record {
 -- the table of a part
 
 module _ {h : Classes} {rows : List ClassLayout} {v : ViewParts} {n : ℕ} {part : Part} (at : IsAtNumber h rows v n part) where
-  pub part_of : IsPartOf h (places_of h rows) (view_in v) (preorder h v.class) part
+  pub part_of : IsViewPart h (places_of h rows) (view_of_parts v) (preorder h v.class) part
   part_of = at.view.parts.each n part at.there
 
-  setting : Setting h (places_of h rows) (view_in v)
-  setting = setting_of h rows at.keeps at.sound (view_in v) at.view.view
+  setting : Setting h (places_of h rows) (view_of_parts v)
+  setting = setting_of h rows at.keeps at.sound (view_of_parts v) at.view.view
 
   pub part_known : part.class.0 < length h
-  part_known = class_known h at.keeps (view_in v) at.view.view part.at part.class part_of.valid part_of.class
+  part_known = class_known h at.keeps (view_of_parts v) at.view.view part.at part.class part_of.valid part_of.class
 
   pub part_number : slice_get (preorder h v.class) n ≡ Some part.at
   part_number = ap (λ xs. slice_get xs n) (sym at.view.parts.subobjects) ∙ get_map at_of v.parts n part at.there
@@ -106,41 +106,41 @@ module _ {h : Classes} {rows : List ClassLayout} {v : ViewParts} {n : ℕ} {part
   shared_part : (b : Bool) → b ≡ is_shared_base part.seen → b ≡ true → IsVirtualBase h part.class
   shared_part b is e = record { of = v.complete; has = shared_is_base h v.complete part.class part.seen part_of.seen_valid (sym is ∙ e) seen_class }
 
-  listed_offsets : (b : Bool) (list : List Offset) → b ≡ is_shared_base part.seen → list ≡ offsets h (places_of h rows) b part.class → list ≡ offsets h (places_of h rows) (is_shared_base (seen (view_in v) part.at)) part.class
+  listed_offsets : (b : Bool) (list : List Offset) → b ≡ is_shared_base part.seen → list ≡ offsets h (places_of h rows) b part.class → list ≡ offsets h (places_of h rows) (is_shared_base (seen (view_of_parts v) part.at)) part.class
   listed_offsets b list is e = e ∙ ap (λ a. offsets h (places_of h rows) a part.class) (is ∙ ap is_shared_base part_of.seen)
 
-  pub told_offsets : (b : Bool) (list : List Offset) → b ≡ is_shared_base part.seen → (part.class.0 < length h → (b ≡ true → IsVirtualBase h part.class) → list ≡ offsets h (places_of h rows) b part.class) → list ≡ offsets h (places_of h rows) (is_shared_base (seen (view_in v) part.at)) part.class
+  pub told_offsets : (b : Bool) (list : List Offset) → b ≡ is_shared_base part.seen → (part.class.0 < length h → (b ≡ true → IsVirtualBase h part.class) → list ≡ offsets h (places_of h rows) b part.class) → list ≡ offsets h (places_of h rows) (is_shared_base (seen (view_of_parts v) part.at)) part.class
   told_offsets b list is told = listed_offsets b list is (told part_known (shared_part b is))
 
-  pub part_named : (list : List Offset) → list ≡ offsets h (places_of h rows) (is_shared_base (seen (view_in v) part.at)) part.class → (i : ℕ) (y : Offset) → slice_get list i ≡ Some y → IsNamed h v.class y
-  part_named list is i y e = offset_named h (places_of h rows) (view_in v) setting part.at part.class part_of.valid part_of.class i y (ap (λ xs. slice_get xs i) (sym is) ∙ e)
+  pub part_named : (list : List Offset) → list ≡ offsets h (places_of h rows) (is_shared_base (seen (view_of_parts v) part.at)) part.class → (i : ℕ) (y : Offset) → slice_get list i ≡ Some y → NamesVirtual h v.class y
+  part_named list is i y e = offset_named h (places_of h rows) (view_of_parts v) setting part.at part.class part_of.valid part_of.class i y (ap (λ xs. slice_get xs i) (sym is) ∙ e)
 
   pub part_keys : (list : List EntryKey) → list ≡ entries h (places_of h rows) part.class → (i : ℕ) (k : EntryKey) → slice_get list i ≡ Some k → k.function.class.0 < length h
   part_keys list is i k e =
-      let low = entry_low h (places_of h rows) (view_in v) setting part.class part_known k (record { index = i; there = ap (λ xs. slice_get xs i) (sym is) ∙ e }) in
+      let low = entry_low h (places_of h rows) (view_of_parts v) setting part.class part_known k (record { index = i; there = ap (λ xs. slice_get xs i) (sym is) ∙ e }) in
       let known = part_known in
       omega arith
 
-  pub part_along : (list : List EntryKey) → list ≡ entries h (places_of h rows) part.class → (i : ℕ) (k : EntryKey) → slice_get list i ≡ Some k → AreAlong h (places_of h rows) (view_in v) k i (slice_get (preorder h v.class) n)
-  part_along list is i k e = subst (λ o. AreAlong h (places_of h rows) (view_in v) k i o) (sym part_number)
-      (all_along h (places_of h rows) (view_in v) setting part.at part.class i k part_of.valid part_of.class (ap (λ xs. slice_get xs i) (sym is) ∙ e))
+  pub part_along : (list : List EntryKey) → list ≡ entries h (places_of h rows) part.class → (i : ℕ) (k : EntryKey) → slice_get list i ≡ Some k → AreAlong h (places_of h rows) (view_of_parts v) k i (slice_get (preorder h v.class) n)
+  part_along list is i k e = subst (λ o. AreAlong h (places_of h rows) (view_of_parts v) k i o) (sym part_number)
+      (all_along h (places_of h rows) (view_of_parts v) setting part.at part.class i k part_of.valid part_of.class (ap (λ xs. slice_get xs i) (sym is) ∙ e))
 
   pub part_table : (t : Subobject) → slice_get (preorder h v.class) n ≡ Some t → (at_place : ℕ) (listed : List Offset) (keys : List EntryKey) (offset_words : List TableWord) (entry_words : List EntryWord) (top : ℤ) (before : ℕ) (words : List TableWord) →
-      at_place ≡ place (places_of h rows) (view_in v) part.at → listed ≡ offsets h (places_of h rows) (is_shared_base (seen (view_in v) part.at)) part.class → keys ≡ entries h (places_of h rows) part.class →
-      GoAlong (IsOffsetWord h (places_of h rows) (view_in v) part.at) listed offset_words → GoAlong (IsEntryWord h (places_of h rows) (view_in v) part.at) keys entry_words →
+      at_place ≡ place (places_of h rows) (view_of_parts v) part.at → listed ≡ offsets h (places_of h rows) (is_shared_base (seen (view_of_parts v) part.at)) part.class → keys ≡ entries h (places_of h rows) part.class →
+      GoAlong (IsOffsetWord h (places_of h rows) (view_of_parts v) part.at) listed offset_words → GoAlong (IsEntryWord h (places_of h rows) (view_of_parts v) part.at) keys entry_words →
       top ≡ pos v.start -ℤ pos at_place → words ≡ reverse offset_words ++ Top top ∷ Info v.class ∷ map Entry entry_words → before ≡ length offset_words + 2 →
-      IsTable h (places_of h rows) (view_in v) t (record { class = part.class; place = at_place; before = before; words = words })
+      IsTable h (places_of h rows) (view_of_parts v) t (record { class = part.class; place = at_place; before = before; words = words })
   part_table t here at_place listed keys offset_words entry_words top before words is_place is_listed is_keys are_offsets are_entries is_top is_words is_before =
       let same : t ≡ part.at = same_some t part.at (sym here ∙ part_number) in
-      let value : top ≡ between (places_of h rows) v.complete (seen (view_in v) part.at) (seen (view_in v) (whole_of v.class)) = is_top ∙ ap (λ m. pos m -ℤ pos at_place) at.view.start ∙ ap (λ m. pos (place (places_of h rows) (view_in v) (whole_of v.class)) -ℤ pos m) is_place in
-      let all : IsTable h (places_of h rows) (view_in v) part.at (record { class = part.class; place = at_place; before = before; words = words }) = record {
+      let value : top ≡ between (places_of h rows) v.complete (seen (view_of_parts v) part.at) (seen (view_of_parts v) (whole_of v.class)) = is_top ∙ ap (λ m. pos m -ℤ pos at_place) at.view.start ∙ ap (λ m. pos (place (places_of h rows) (view_of_parts v) (whole_of v.class)) -ℤ pos m) is_place in
+      let all : IsTable h (places_of h rows) (view_of_parts v) part.at (record { class = part.class; place = at_place; before = before; words = words }) = record {
         class = part_of.class;
         place = is_place;
         offset_words = offset_words;
-        are_offsets = subst (λ xs. GoAlong (IsOffsetWord h (places_of h rows) (view_in v) part.at) xs offset_words) is_listed are_offsets;
+        are_offsets = subst (λ xs. GoAlong (IsOffsetWord h (places_of h rows) (view_of_parts v) part.at) xs offset_words) is_listed are_offsets;
         entry_words = entry_words;
-        are_entries = subst (λ xs. GoAlong (IsEntryWord h (places_of h rows) (view_in v) part.at) xs entry_words) is_keys are_entries;
+        are_entries = subst (λ xs. GoAlong (IsEntryWord h (places_of h rows) (view_of_parts v) part.at) xs entry_words) is_keys are_entries;
         words = is_words ∙ ap (λ d. reverse offset_words ++ Top d ∷ Info v.class ∷ map Entry entry_words) value;
         before = is_before;
       } in
-      subst (λ a. IsTable h (places_of h rows) (view_in v) a (record { class = part.class; place = at_place; before = before; words = words })) (sym same) all
+      subst (λ a. IsTable h (places_of h rows) (view_of_parts v) a (record { class = part.class; place = at_place; before = before; words = words })) (sym same) all

@@ -6,7 +6,7 @@ ghost use Rattle.cxx_subobject.specs.Subobjects.{same_root};
 ghost use Rattle.cxx_subobject.specs.Preorder.{preorder};
 ghost use Rattle.abi_sound.specs.Places.{Places};
 ghost use Rattle.abi_slots.specs.Views.{heads};
-ghost use Rattle.abi_vtable.specs.invariants.Parts.{AreNextMarks, IsKept, view_in, leads_to, numbered, heads_of_root};
+ghost use Rattle.abi_vtable.specs.invariants.Parts.{AreNextMarks, AreKeptParts, view_of_parts, leads_to, subobjects_numbered, heads_of_root};
 
 use crate::view::{Part, ViewParts};
 use cxx_subobject::{Root, is_same_root, shared_class};
@@ -73,7 +73,7 @@ fn push_heads(
     heads: &mut Vec<usize>,
 ) -> Result<(), NoMemory>
     requires { AreNextMarks x.now.parts (length x.now.parts) marks.now }
-    ensures { OnOk result ((h : Classes) (l : Places) → IsKept h l x.now → numbered (preorder h x.now.class) heads.new.items ≡ numbered (preorder h x.now.class) heads.old.items ++ heads_of_root h l (view_in x.now) root x.now.parts) }
+    ensures { OnOk result ((h : Classes) (l : Places) → AreKeptParts h l x.now → subobjects_numbered (preorder h x.now.class) heads.new.items ≡ subobjects_numbered (preorder h x.now.class) heads.old.items ++ heads_of_root h l (view_of_parts x.now) root x.now.parts) }
 {
     let parts = x.parts.as_slice();
     for (n, part) in parts.iter().enumerate() {
@@ -89,7 +89,7 @@ fn push_heads(
 ///
 /// Errors: want of memory.
 pub fn heads_of(alloc: Global, x: &ViewParts) -> Result<Vec<usize>, NoMemory>
-    ensures { IfOk result (λ numbers. (h : Classes) (l : Places) → IsKept h l x.now → numbered (preorder h x.now.class) numbers.items ≡ map Some (heads h l (view_in x.now))) }
+    ensures { IfOk result (λ numbers. (h : Classes) (l : Places) → AreKeptParts h l x.now → subobjects_numbered (preorder h x.now.class) numbers.items ≡ map Some (heads h l (view_of_parts x.now))) }
 {
     let marks = next_marks(alloc, x.parts.as_slice())?;
     let mut heads = Vec::new(alloc);

@@ -15,10 +15,10 @@ ghost use Rattle.abi_slots.specs.Limits.{most_offsets};
 ghost use Rattle.abi_slots.specs.Slots.{AreSlots};
 ghost use Rattle.abi_slots.specs.Views.{place, heads};
 ghost use Rattle.abi_slots.specs.Groups.{GoAlong, is_shared_base, IsOffsetWord, IsEntryWord, IsTable, IsGroup};
-ghost use Rattle.abi_vtable.specs.invariants.Parts.{IsPartOf, IsViewParts, view_in, numbered};
+ghost use Rattle.abi_vtable.specs.invariants.Parts.{IsViewPart, IsViewParts, view_of_parts, subobjects_numbered};
 ghost use Rattle.abi_vtable.specs.invariants.Returns.{AreKnown};
 ghost use Rattle.abi_vtable.specs.invariants.Sites.{IsTableSite};
-ghost use Rattle.abi_vtable.specs.invariants.Words.{IsNamed, AreAlong};
+ghost use Rattle.abi_vtable.specs.invariants.Words.{NamesVirtual, AreAlong};
 
 use crate::heads::heads_of;
 use crate::returns::KnownReturn;
@@ -58,10 +58,10 @@ fn offset_words<L: SoundLayout>(
     requires layout { L.lays_out site.now.layout.now site.now.h.now }
     requires site { IsTableSite site.now.h.now (L.rows site.now.layout.now) site.now.overriders.now site.now.slots.now }
     requires view { IsViewParts site.now.h.now (places_of site.now.h.now (L.rows site.now.layout.now)) x.now }
-    requires part { IsPartOf site.now.h.now (places_of site.now.h.now (L.rows site.now.layout.now)) (view_in x.now) (preorder site.now.h.now x.now.class) t.now }
-    requires start { start ≡ place (places_of site.now.h.now (L.rows site.now.layout.now)) (view_in x.now) t.now.at }
-    requires named { (i : ℕ) (offset : Offset) → slice_get offsets.now i ≡ Some offset → IsNamed site.now.h.now x.now.class offset }
-    ensures { IfOk result (λ words. GoAlong (IsOffsetWord site.now.h.now (places_of site.now.h.now (L.rows site.now.layout.now)) (view_in x.now) t.now.at) offsets.now words.items) }
+    requires part { IsViewPart site.now.h.now (places_of site.now.h.now (L.rows site.now.layout.now)) (view_of_parts x.now) (preorder site.now.h.now x.now.class) t.now }
+    requires start { start ≡ place (places_of site.now.h.now (L.rows site.now.layout.now)) (view_of_parts x.now) t.now.at }
+    requires named { (i : ℕ) (offset : Offset) → slice_get offsets.now i ≡ Some offset → NamesVirtual site.now.h.now x.now.class offset }
+    ensures { IfOk result (λ words. GoAlong (IsOffsetWord site.now.h.now (places_of site.now.h.now (L.rows site.now.layout.now)) (view_of_parts x.now) t.now.at) offsets.now words.items) }
 {
     let mut words = Vec::new(site.alloc);
     for offset in offsets {
@@ -87,8 +87,8 @@ fn entry_words<L: SoundLayout>(
     requires view { IsViewParts site.now.h.now (places_of site.now.h.now (L.rows site.now.layout.now)) x.now }
     requires number { number < length x.now.parts }
     requires keys { (i : ℕ) (key : EntryKey) → slice_get entries.now i ≡ Some key → key.function.class.0 < length site.now.h.now }
-    requires along { (i : ℕ) (key : EntryKey) → slice_get entries.now i ≡ Some key → AreAlong site.now.h.now (places_of site.now.h.now (L.rows site.now.layout.now)) (view_in x.now) key i (slice_get (preorder site.now.h.now x.now.class) number) }
-    ensures words { IfOk result (λ words. (t : Subobject) → slice_get (preorder site.now.h.now x.now.class) number ≡ Some t → GoAlong (IsEntryWord site.now.h.now (places_of site.now.h.now (L.rows site.now.layout.now)) (view_in x.now) t) entries.now words.items) }
+    requires along { (i : ℕ) (key : EntryKey) → slice_get entries.now i ≡ Some key → AreAlong site.now.h.now (places_of site.now.h.now (L.rows site.now.layout.now)) (view_of_parts x.now) key i (slice_get (preorder site.now.h.now x.now.class) number) }
+    ensures words { IfOk result (λ words. (t : Subobject) → slice_get (preorder site.now.h.now x.now.class) number ≡ Some t → GoAlong (IsEntryWord site.now.h.now (places_of site.now.h.now (L.rows site.now.layout.now)) (view_of_parts x.now) t) entries.now words.items) }
     ensures known { OnOk result (AreKnown site.now.h.now (places_of site.now.h.now (L.rows site.now.layout.now)) known.new.items) }
 {
     let mut words = Vec::new(site.alloc);
@@ -154,7 +154,7 @@ fn table<L: SoundLayout>(
     requires known { AreKnown site.now.h.now (places_of site.now.h.now (L.rows site.now.layout.now)) known.old.items }
     requires view { IsViewParts site.now.h.now (places_of site.now.h.now (L.rows site.now.layout.now)) x.now }
     requires number { number < length x.now.parts }
-    ensures table { IfOk result (λ table. (t : Subobject) → slice_get (preorder site.now.h.now x.now.class) number ≡ Some t → IsTable site.now.h.now (places_of site.now.h.now (L.rows site.now.layout.now)) (view_in x.now) t table) }
+    ensures table { IfOk result (λ table. (t : Subobject) → slice_get (preorder site.now.h.now x.now.class) number ≡ Some t → IsTable site.now.h.now (places_of site.now.h.now (L.rows site.now.layout.now)) (view_of_parts x.now) t table) }
     ensures known { OnOk result (AreKnown site.now.h.now (places_of site.now.h.now (L.rows site.now.layout.now)) known.new.items) }
 {
     site.h.keeps();
@@ -191,8 +191,8 @@ fn tables_of<L: SoundLayout>(
     requires layout { L.lays_out site.now.layout.now site.now.h.now }
     requires site { IsTableSite site.now.h.now (L.rows site.now.layout.now) site.now.overriders.now site.now.slots.now }
     requires view { IsViewParts site.now.h.now (places_of site.now.h.now (L.rows site.now.layout.now)) x.now }
-    requires heads { numbered (preorder site.now.h.now x.now.class) numbers.now ≡ map Some (heads site.now.h.now (places_of site.now.h.now (L.rows site.now.layout.now)) (view_in x.now)) }
-    ensures { IfOk result (GoAlong (IsTable site.now.h.now (places_of site.now.h.now (L.rows site.now.layout.now)) (view_in x.now)) (heads site.now.h.now (places_of site.now.h.now (L.rows site.now.layout.now)) (view_in x.now))) }
+    requires heads { subobjects_numbered (preorder site.now.h.now x.now.class) numbers.now ≡ map Some (heads site.now.h.now (places_of site.now.h.now (L.rows site.now.layout.now)) (view_of_parts x.now)) }
+    ensures { IfOk result (GoAlong (IsTable site.now.h.now (places_of site.now.h.now (L.rows site.now.layout.now)) (view_of_parts x.now)) (heads site.now.h.now (places_of site.now.h.now (L.rows site.now.layout.now)) (view_of_parts x.now))) }
 {
     let mut tables = Sequence::new(site.alloc);
     let mut known = Vec::new(site.alloc);

@@ -9,7 +9,7 @@ ghost use Rattle.cxx_subobject.specs.Preorder.{preorder};
 ghost use Rattle.abi_primary.specs.Kinds.{IsDynamic};
 ghost use Rattle.abi_sound.specs.Places.{places_of};
 ghost use Rattle.abi_slots.specs.Views.{IsView, seen, is_some, next};
-ghost use Rattle.abi_vtable.specs.invariants.Parts.{IsNumberOf, IsPartOf, AreParts, AreStarts, IsViewParts, view_in};
+ghost use Rattle.abi_vtable.specs.invariants.Parts.{NumbersSubobject, IsViewPart, AreParts, AreStarts, IsViewParts, view_of_parts};
 
 use abi_primary::{Primary, is_dynamic};
 use abi_slots::GroupName;
@@ -174,13 +174,13 @@ fn next_of<L: SoundLayout>(
     part: &Part,
 ) -> Result<Option<usize>, NoMemory>
     requires layout { L.lays_out layout.now h.now }
-    requires view { IsView h.now (view_in x.now) }
+    requires view { IsView h.now (view_of_parts x.now) }
     requires list { list.now ≡ preorder h.now x.now.class }
     requires valid { IsSubobject h.now x.now.class part.now.at }
     requires class { class_of part.now.at ≡ Some part.now.class }
     requires known { part.now.class.0 < length h.now }
-    requires seen { part.now.seen ≡ seen (view_in x.now) part.now.at }
-    ensures { IfOk result (λ n. IsNumberOf list.now n (next (places_of h.now (L.rows layout.now)) (view_in x.now) part.now.at)) }
+    requires seen { part.now.seen ≡ seen (view_of_parts x.now) part.now.at }
+    ensures { IfOk result (λ n. NumbersSubobject list.now n (next (places_of h.now (L.rows layout.now)) (view_of_parts x.now) part.now.at)) }
 {
     h.keeps();
     match layout.layout(part.class).primary {
@@ -212,11 +212,11 @@ fn part_of<L: SoundLayout>(
     s: &Subobject,
 ) -> Result<Part, NoMemory>
     requires layout { L.lays_out layout.now h.now }
-    requires view { IsView h.now (view_in x.now) }
+    requires view { IsView h.now (view_of_parts x.now) }
     requires list { list.now ≡ preorder h.now x.now.class }
     requires valid { IsSubobject h.now x.now.class s.now }
     ensures at { IfOk result (λ part. part.at ≡ s.now) }
-    ensures part { IfOk result (IsPartOf h.now (places_of h.now (L.rows layout.now)) (view_in x.now) list.now) }
+    ensures part { IfOk result (IsViewPart h.now (places_of h.now (L.rows layout.now)) (view_of_parts x.now) list.now) }
 {
     h.keeps();
     let class = class_at(s);
@@ -259,9 +259,9 @@ fn parts_of<L: SoundLayout>(
     list: &[Subobject],
 ) -> Result<PartList, NoMemory>
     requires layout { L.lays_out layout.now h.now }
-    requires view { IsView h.now (view_in x.now) }
+    requires view { IsView h.now (view_of_parts x.now) }
     requires list { list.now ≡ preorder h.now x.now.class }
-    ensures { IfOk result (AreParts h.now (places_of h.now (L.rows layout.now)) (view_in x.now)) }
+    ensures { IfOk result (AreParts h.now (places_of h.now (L.rows layout.now)) (view_of_parts x.now)) }
 {
     h.keeps();
     let mut parts = Sequence::new(alloc);

@@ -14,10 +14,10 @@ ghost use Rattle.abi_slots.specs.declared.words.Offset.{Offset};
 ghost use Rattle.abi_slots.specs.Slots.{AreSlots};
 ghost use Rattle.abi_slots.specs.Views.{place};
 ghost use Rattle.abi_slots.specs.Groups.{GoAlong, named_in, vcall_for, code_word, IsOffsetWord, IsEntryWord};
-ghost use Rattle.abi_vtable.specs.invariants.Parts.{IsNumberOf, IsPartOf, IsViewParts, IsSomeView, view_in};
+ghost use Rattle.abi_vtable.specs.invariants.Parts.{NumbersSubobject, IsViewPart, IsViewParts, IsSomeView, view_of_parts};
 ghost use Rattle.abi_vtable.specs.invariants.Returns.{AreKnown};
 ghost use Rattle.abi_vtable.specs.invariants.Sites.{IsTableSite};
-ghost use Rattle.abi_vtable.specs.invariants.Words.{IsNamed, IsOver, HasVcall, AreAlong, runs_at, IsFirstDeclarer};
+ghost use Rattle.abi_vtable.specs.invariants.Words.{NamesVirtual, LiesInClass, HasVcall, AreAlong, overrider_in_subobject, IsFirstDeclarer};
 
 use crate::returns::{KnownReturn, return_for};
 use crate::table_sites::TableSite;
@@ -54,8 +54,8 @@ fn start_of(starts: &[usize], d: ClassId) -> usize
 fn part_over<'a>(h: &Hierarchy, x: &'a ViewParts, s: &Subobject, d: ClassId) -> &'a Part
     requires view { IsSomeView h.now x.now }
     requires valid { IsSubobject h.now x.now.class s.now }
-    requires some { IsOver h.now x.now.class s.now d }
-    ensures part { (l : Places) → IsViewParts h.now l x.now → IsPartOf h.now l (view_in x.now) (preorder h.now x.now.class) result.now }
+    requires some { LiesInClass h.now x.now.class s.now d }
+    ensures part { (l : Places) → IsViewParts h.now l x.now → IsViewPart h.now l (view_of_parts x.now) (preorder h.now x.now.class) result.now }
     ensures class { result.now.class ≡ d }
     ensures inside { IsInside h.now result.now.at s.now }
 {
@@ -103,10 +103,10 @@ pub(crate) fn offset_word<L: SoundLayout>(
     requires layout { L.lays_out site.now.layout.now site.now.h.now }
     requires site { IsTableSite site.now.h.now (L.rows site.now.layout.now) site.now.overriders.now site.now.slots.now }
     requires view { IsViewParts site.now.h.now (places_of site.now.h.now (L.rows site.now.layout.now)) x.now }
-    requires part { IsPartOf site.now.h.now (places_of site.now.h.now (L.rows site.now.layout.now)) (view_in x.now) (preorder site.now.h.now x.now.class) t.now }
-    requires start { start ≡ place (places_of site.now.h.now (L.rows site.now.layout.now)) (view_in x.now) t.now.at }
-    requires named { IsNamed site.now.h.now x.now.class offset.now }
-    ensures { IfOk result (IsOffsetWord site.now.h.now (places_of site.now.h.now (L.rows site.now.layout.now)) (view_in x.now) t.now.at offset.now) }
+    requires part { IsViewPart site.now.h.now (places_of site.now.h.now (L.rows site.now.layout.now)) (view_of_parts x.now) (preorder site.now.h.now x.now.class) t.now }
+    requires start { start ≡ place (places_of site.now.h.now (L.rows site.now.layout.now)) (view_of_parts x.now) t.now.at }
+    requires named { NamesVirtual site.now.h.now x.now.class offset.now }
+    ensures { IfOk result (IsOffsetWord site.now.h.now (places_of site.now.h.now (L.rows site.now.layout.now)) (view_of_parts x.now) t.now.at offset.now) }
 {
     site.h.keeps();
     match offset {
@@ -142,7 +142,7 @@ fn declarer_below(
 ) -> Option<Declarer>
     requires view { IsSomeView h.now x.now }
     requires number { IfSome at (λ i. i < length x.now.parts) }
-    ensures { (l : Places) (k : EntryKey) (s : Option Subobject) → IsViewParts h.now l x.now → AreSlots h.now l slots.now → IsNumberOf (preorder h.now x.now.class) at s → AreAlong h.now l (view_in x.now) k n s → IsFirstDeclarer h.now l x.now k steps s result }
+    ensures { (l : Places) (k : EntryKey) (s : Option Subobject) → IsViewParts h.now l x.now → AreSlots h.now l slots.now → NumbersSubobject (preorder h.now x.now.class) at s → AreAlong h.now l (view_of_parts x.now) k n s → IsFirstDeclarer h.now l x.now k steps s result }
 {
     h.keeps();
     if steps == 0 {
@@ -202,13 +202,13 @@ fn code_word<L: SoundLayout>(
     requires site { IsTableSite site.now.h.now (L.rows site.now.layout.now) site.now.overriders.now site.now.slots.now }
     requires known { AreKnown site.now.h.now (places_of site.now.h.now (L.rows site.now.layout.now)) known.old.items }
     requires view { IsViewParts site.now.h.now (places_of site.now.h.now (L.rows site.now.layout.now)) x.now }
-    requires from { IsPartOf site.now.h.now (places_of site.now.h.now (L.rows site.now.layout.now)) (view_in x.now) (preorder site.now.h.now x.now.class) from.now }
-    requires to { IsPartOf site.now.h.now (places_of site.now.h.now (L.rows site.now.layout.now)) (view_in x.now) (preorder site.now.h.now x.now.class) to.now }
+    requires from { IsViewPart site.now.h.now (places_of site.now.h.now (L.rows site.now.layout.now)) (view_of_parts x.now) (preorder site.now.h.now x.now.class) from.now }
+    requires to { IsViewPart site.now.h.now (places_of site.now.h.now (L.rows site.now.layout.now)) (view_of_parts x.now) (preorder site.now.h.now x.now.class) to.now }
     requires key { key.function.class.0 < length site.now.h.now }
     requires function { g.class.0 < length site.now.h.now }
     requires vcall { HasVcall site.now.h.now (places_of site.now.h.now (L.rows site.now.layout.now)) key.function from.now.at.root }
     requires code { is_pure site.now.h.now g ≡ false }
-    ensures word { IfOk result (λ word. word ≡ code_word site.now.h.now (places_of site.now.h.now (L.rows site.now.layout.now)) (view_in x.now) key from.now.at (runs_at to.now.at g)) }
+    ensures word { IfOk result (λ word. word ≡ code_word site.now.h.now (places_of site.now.h.now (L.rows site.now.layout.now)) (view_of_parts x.now) key from.now.at (overrider_in_subobject to.now.at g)) }
     ensures known { OnOk result (AreKnown site.now.h.now (places_of site.now.h.now (L.rows site.now.layout.now)) known.new.items) }
 {
     let vcall = vcall_for(site.slots, key.function, &from.at, &to.at);
@@ -234,8 +234,8 @@ pub(crate) fn entry_word<L: SoundLayout>(
     requires view { IsViewParts site.now.h.now (places_of site.now.h.now (L.rows site.now.layout.now)) x.now }
     requires number { number < length x.now.parts }
     requires key { key.function.class.0 < length site.now.h.now }
-    requires along { AreAlong site.now.h.now (places_of site.now.h.now (L.rows site.now.layout.now)) (view_in x.now) key n (slice_get (preorder site.now.h.now x.now.class) number) }
-    ensures word { IfOk result (λ word. (t : Subobject) → slice_get (preorder site.now.h.now x.now.class) number ≡ Some t → IsEntryWord site.now.h.now (places_of site.now.h.now (L.rows site.now.layout.now)) (view_in x.now) t key word) }
+    requires along { AreAlong site.now.h.now (places_of site.now.h.now (L.rows site.now.layout.now)) (view_of_parts x.now) key n (slice_get (preorder site.now.h.now x.now.class) number) }
+    ensures word { IfOk result (λ word. (t : Subobject) → slice_get (preorder site.now.h.now x.now.class) number ≡ Some t → IsEntryWord site.now.h.now (places_of site.now.h.now (L.rows site.now.layout.now)) (view_of_parts x.now) t key word) }
     ensures known { OnOk result (AreKnown site.now.h.now (places_of site.now.h.now (L.rows site.now.layout.now)) known.new.items) }
 {
     site.h.keeps();

@@ -4,10 +4,10 @@ use Rattle.std.specs.Prelude.{slice_get}
 use Rattle.std.proofs.lemmas.Bool.{cases_order}
 use Rattle.foundation.proofs.Places.{get_read, get_set_other, get_set}
 use Rattle.cxx_subobject.specs.declared.Subobject.{Subobject}
-use Rattle.abi_slots.specs.Views.{walk}
+use Rattle.abi_slots.specs.Views.{along_chain}
 use Rattle.abi_slots.proofs.Chains.{same_some}
 use Rattle.abi_vtable.specs.declared.view.Part.{Part}
-use Rattle.abi_vtable.specs.invariants.Parts.{IsNumberOf}
+use Rattle.abi_vtable.specs.invariants.Parts.{NumbersSubobject}
 use Rattle.abi_vtable.proofs.Declaring.{number_some}
 use Rattle.abi_vtt.specs.invariants.Served.{AreNumbered, HasNote, IsFrom, from_before, from_chain, IsNoted}
 
@@ -53,7 +53,7 @@ module _ (list : List Subobject) (go : Subobject → Option Subobject) (once : (
           (λ apart. (note.0, get_set_other old number n (Some table) apart ∙ note.1))
           (apart_or n number)
 
-      each : (i n : ℕ) (v : Subobject) → i < suc steps → walk go i (Some u) ≡ Some v → slice_get list n ≡ Some v → HasNote new n
+      each : (i n : ℕ) (v : Subobject) → i < suc steps → along_chain go i (Some u) ≡ Some v → slice_get list n ≡ Some v → HasNote new n
       each zero n v lt leads there =
           let one : n ≡ number = once n number v there (at ∙ leads) in
           rest.stays n (table, subst (λ m. slice_get (set old number (Some table)) m ≡ Some (Some table)) (sym one) here)
@@ -64,10 +64,10 @@ noted_none list go s table steps old e = record {
   size = refl;
   sound = λ n k v there f. from_before f;
   stays = λ n note. note;
-  noted = λ i n v lt leads there. absurd (nowhere i v (subst (λ o. walk go i o ≡ Some v) e leads));
+  noted = λ i n v lt leads there. absurd (nowhere i v (subst (λ o. along_chain go i o ≡ Some v) e leads));
 }
   where
-    nowhere : (i : ℕ) (v : Subobject) → walk go i None ≡ Some v → ⊥
+    nowhere : (i : ℕ) (v : Subobject) → along_chain go i None ≡ Some v → ⊥
     nowhere zero v f = cc
     nowhere (suc i) v f = cc
 
@@ -80,14 +80,14 @@ noted_nothing list go s table steps old e = record {
 }
 
 -- the part of the number, and then what follows it
-pub noted_more : (list : List Subobject) (go : Subobject → Option Subobject) (s : Option Subobject) (parts : List Part) (at : Option ℕ) (number : ℕ) (part : Part) (table steps : ℕ) (old new : List (Option ℕ)) → AreNumbered list go parts → IsNumberOf list at s → at ≡ Some number →
+pub noted_more : (list : List Subobject) (go : Subobject → Option Subobject) (s : Option Subobject) (parts : List Part) (at : Option ℕ) (number : ℕ) (part : Part) (table steps : ℕ) (old new : List (Option ℕ)) → AreNumbered list go parts → NumbersSubobject list at s → at ≡ Some number →
     number < length parts → part ≡ get_or parts number part → length old ≡ length parts → (steps ≡ 0 → ⊥) → (after : Option ℕ) → after ≡ part.next →
-    ((s : Option Subobject) → AreNumbered list go parts → IsNumberOf list after s → IsNoted list go s table (steps - 1) (set old number (Some table)) new) → IsNoted list go s table steps old new
+    ((s : Option Subobject) → AreNumbered list go parts → NumbersSubobject list after s → IsNoted list go s table (steps - 1) (set old number (Some table)) new) → IsNoted list go s table steps old new
 noted_more list go s parts at number part table steps old new are of is lt there size some after follows rest =
     let u = number_some list at number s is of in
     let here = get_read parts number part lt there in
     let same : u.0 ≡ part.at = same_some u.0 part.at (sym u.2 ∙ are.there number part here) in
     let next = are.next number part here in
-    let tail = rest (go u.0) are (subst (λ a. IsNumberOf list a (go u.0)) (sym follows) (subst (λ a. IsNumberOf list part.next (go a)) (sym same) next)) in
+    let tail = rest (go u.0) are (subst (λ a. NumbersSubobject list a (go u.0)) (sym follows) (subst (λ a. NumbersSubobject list part.next (go a)) (sym same) next)) in
     let more : suc (steps - 1) ≡ steps = omega arith in
     subst (λ n. IsNoted list go s table n old new) more (subst (λ o. IsNoted list go o table (suc (steps - 1)) old new) (sym u.1) (one_here list go are.once u.0 number table (steps - 1) old new u.2 (omega arith) tail))

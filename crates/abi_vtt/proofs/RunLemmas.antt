@@ -29,7 +29,7 @@ use Rattle.abi_slots.proofs.Bases.{preorder_item}
 use Rattle.abi_slots.proofs.Chains.{is_held, same_some}
 use Rattle.abi_slots.proofs.Complete.{same_bool}
 use Rattle.abi_vtt.specs.Vtts.{ends_in_primary, needs_word, class_has_virtual}
-use Rattle.abi_vtt.specs.Blocks.{is_front_head, run, IsFirstRun, IsFound, in_run, by_word}
+use Rattle.abi_vtt.specs.Blocks.{is_front_head, table_run, IsFirstRun, IsFoundByClass, in_run, by_word}
 use Rattle.abi_vtt.proofs.BlockLemmas.{word_stands}
 
 pub direct_is : (p : Primary) (b : ClassId) → is_direct p b ≡ true → p ≡ Direct b
@@ -130,12 +130,12 @@ module _ (h : Classes) (keeps : IsHierarchy h) (l : Places) where
   abbrev pub shared_heads : View → List Subobject
   shared_heads x = filter (is_head h l x) (flat_map (λ v. of_root (Shared v) (preorder h x.class)) (virtual_bases h x.class))
 
-  pub heads_are : (x : View) → heads h l x ≡ run h l x.class ++ shared_heads x
+  pub heads_are : (x : View) → heads h l x ≡ table_run h l x.class ++ shared_heads x
   heads_are x =
       filter-append (is_head h l x) (of_root Whole (preorder h x.class)) (flat_map (λ v. of_root (Shared v) (preorder h x.class)) (virtual_bases h x.class))
       ∙ ap (λ a. a ++ shared_heads x) (filter_same (is_head h l x) (is_front_head h l) (of_root Whole (preorder h x.class)) (head_by_class x))
 
-  run_root : (d : ClassId) (t : Subobject) → Item (run h l d) t → t.root ≡ Whole
+  run_root : (d : ClassId) (t : Subobject) → Item (table_run h l d) t → t.root ≡ Whole
   run_root d t i =
       let a = from_filter (is_front_head h l) (of_root Whole (preorder h d)) t i in
       let b = from_filter (λ (u : Subobject). same_root Whole u.root) (preorder h d) t a.0 in
@@ -155,18 +155,18 @@ module _ (h : Classes) (keeps : IsHierarchy h) (l : Places) where
   get_cases (x ∷ xs) ys (suc n) a e = get_cases xs ys n a e
 
   -- the first tables of a view are the run of its class
-  pub first_run : (x : View) → IsFirstRun (heads h l x) (run h l x.class)
+  pub first_run : (x : View) → IsFirstRun (heads h l x) (table_run h l x.class)
   first_run x = record {
-    there = λ n t e. subst (λ a. slice_get a n ≡ Some t) (sym (heads_are x)) (get_front (run h l x.class) (shared_heads x) n t e);
+    there = λ n t e. subst (λ a. slice_get a n ≡ Some t) (sym (heads_are x)) (get_front (table_run h l x.class) (shared_heads x) n t e);
     whole = λ n t e. run_root x.class t (record { index = n; there = e });
-    each = λ n t e root. ⊎_elim (λ a. a) (λ b. absurd (shared_not_whole x t b root)) (get_cases (run h l x.class) (shared_heads x) n t (subst (λ a. slice_get a n ≡ Some t) (heads_are x) e));
+    each = λ n t e root. ⊎_elim (λ a. a) (λ b. absurd (shared_not_whole x t b root)) (get_cases (table_run h l x.class) (shared_heads x) n t (subst (λ a. slice_get a n ≡ Some t) (heads_are x) e));
   }
 
   -- a dynamic subobject that is no non-virtual primary base is found by the class alone
-  pub found : (x : Subobject) (d : ClassId) (s : Subobject) → IsSubobject h d s → is_dynamic_class h (class_of s) ≡ true → ends_in_primary l s.path ≡ false → IsFound h l x d s
+  pub found : (x : Subobject) (d : ClassId) (s : Subobject) → IsSubobject h d s → is_dynamic_class h (class_of s) ≡ true → ends_in_primary l s.path ≡ false → IsFoundByClass h l x d s
   found x d s valid dyn first = by_valid s valid dyn first
     where
-      by_valid : (s : Subobject) → IsSubobject h d s → is_dynamic_class h (class_of s) ≡ true → ends_in_primary l s.path ≡ false → IsFound h l x d s
+      by_valid : (s : Subobject) → IsSubobject h d s → is_dynamic_class h (class_of s) ≡ true → ends_in_primary l s.path ≡ false → IsFoundByClass h l x d s
       by_valid _ (whole path leads) dyn first =
           let s = subobject Whole (d ∷ path) in
           let test : is_front_head h l s ≡ true = and_from (is_dynamic_class h (class_of s)) (not (ends_in_primary l s.path)) dyn (ap not first) in
@@ -182,7 +182,7 @@ module _ (h : Classes) (keeps : IsHierarchy h) (l : Places) where
           by_or false = refl
 
   -- the head of each chain is found by the class alone
-  pub head_found : (x : View) (t : Subobject) → IsSubobject h x.class t → is_head h l x t ≡ true → IsFound h l x.at_sub x.class t
+  pub head_found : (x : View) (t : Subobject) → IsSubobject h x.class t → is_head h l x t ≡ true → IsFoundByClass h l x.at_sub x.class t
   head_found x t valid head =
       let r = and_parts (is_dynamic_class h (class_of t)) (is_first h l x t) head in
       found x.at_sub x.class t valid r.0 (is_false (ends_in_primary l t.path) (λ e. let any = not_first x t valid e in let first : is_first h l x t ≡ false = ap not any in not_both r.1 first))

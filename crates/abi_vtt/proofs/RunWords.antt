@@ -20,12 +20,12 @@ use Rattle.abi_slots.specs.declared.words.TableWord.TheVariants.{Entry}
 use Rattle.abi_slots.specs.Images.{point_words}
 use Rattle.abi_slots.specs.Listing.{entries, offsets}
 use Rattle.abi_slots.specs.Views.{View, seen, is_dynamic_class, of_root, heads}
-use Rattle.abi_slots.specs.Groups.{GoAlong, IsTable, is_shared_base, view_of, IsGroup}
+use Rattle.abi_slots.specs.Groups.{GoAlong, IsTable, is_shared_base, view_of_group, IsGroup}
 use Rattle.abi_slots.proofs.Lists.{Item, from_filter}
 use Rattle.abi_slots.proofs.Bases.{item_preorder}
 use Rattle.abi_slots.proofs.Chains.{same_some}
 use Rattle.abi_slots.proofs.Heads.{dynamic_test}
-use Rattle.abi_vtt.specs.Blocks.{is_front_head, run, words_by_class, before_by_class, words_to, run_distance}
+use Rattle.abi_vtt.specs.Blocks.{is_front_head, table_run, words_by_class, before_by_class, words_to, run_distance}
 use Rattle.abi_vtt.proofs.RunLemmas.{first_run, heads_are, shared_heads}
 
 -- how many words a table has, by its class
@@ -74,7 +74,7 @@ inner_flat h x _ of (shared v path has leads) root apart = absurd (cc)
 -- the run begins with the view itself, which it has once
 record IsOpened (h : Classes) (l : Places) (d : ClassId) : Type 0 where
   rest : List Subobject
-  is : run h l d ≡ whole_of d ∷ rest
+  is : table_run h l d ≡ whole_of d ∷ rest
   apart : (t : Subobject) → Item rest t → same_subobject (whole_of d) t ≡ false
 
 run_opens : (h : Classes) (l : Places) (d : ClassId) → is_dynamic_class h (Some d) ≡ true → IsOpened h l d
@@ -136,16 +136,16 @@ module _ (h : Classes) (l : Places) (x : View) where
       let list : length (entries h l x.class) ≡ length (entries h l table.class) = ap (λ c. length (entries h l c)) class in
       omega arith
 
-pub run_apart : (h : Classes) (l : Places) (group : Group) (n : ℕ) (t : Subobject) → IsHierarchy h → (of : IsGroup h l group) → slice_get (run h l of.class) n ≡ Some t → point_words group.tables n ≡ point_words group.tables 0 + run_distance h l of.class n
+pub run_apart : (h : Classes) (l : Places) (group : Group) (n : ℕ) (t : Subobject) → IsHierarchy h → (of : IsGroup h l group) → slice_get (table_run h l of.class) n ≡ Some t → point_words group.tables n ≡ point_words group.tables 0 + run_distance h l of.class n
 run_apart h l group n t keeps of e =
-    let x = view_of group of.class in
+    let x = view_of_group group of.class in
     let opened = run_opens h l of.class (dynamic_test h keeps of.class of.view.dynamic) in
     let others = shared_heads h keeps l x in
     let heads_is : heads h l x ≡ whole_of of.class ∷ (opened.rest ++ others) = heads_are h keeps l x ∙ ap (λ a. a ++ others) opened.is in
     subst (λ a. point_words group.tables n ≡ point_words group.tables 0 + (words_to h l a n - words_to h l a 0)) (sym opened.is)
     (points_apart h l x opened.rest others group.tables n t
     (λ u i.
-    let listed : Item (run h l of.class) u = subst (λ a. Item a u) (sym opened.is) (record { index = suc i.index; there = i.there }) in
+    let listed : Item (table_run h l of.class) u = subst (λ a. Item a u) (sym opened.is) (record { index = suc i.index; there = i.there }) in
     let a = from_filter (is_front_head h l) (of_root Whole (preorder h of.class)) u listed in
     let b = from_filter (λ (s : Subobject). same_root Whole s.root) (preorder h of.class) u a.0 in
     inner_flat h x u of.view.of_class (item_preorder h keeps of.class u b.0) ((first_run h keeps l x).whole (suc i.index) u (subst (λ a. slice_get a (suc i.index) ≡ Some u) (sym opened.is) i.there)) (opened.apart u i))
@@ -153,10 +153,10 @@ run_apart h l group n t keeps of e =
     (subst (λ a. slice_get a n ≡ Some t) opened.is e))
 
 -- the run begins with the view itself, and has subobjects of it
-pub run_first : (h : Classes) (l : Places) (d : ClassId) → IsHierarchy h → IsDynamic h d → slice_get (run h l d) 0 ≡ Some (whole_of d)
+pub run_first : (h : Classes) (l : Places) (d : ClassId) → IsHierarchy h → IsDynamic h d → slice_get (table_run h l d) 0 ≡ Some (whole_of d)
 run_first h l d keeps dyn = ap (λ a. slice_get a 0) (run_opens h l d (dynamic_test h keeps d dyn)).is
 
-pub run_valid : (h : Classes) → IsHierarchy h → (l : Places) (d : ClassId) (n : ℕ) (s : Subobject) → slice_get (run h l d) n ≡ Some s → IsSubobject h d s
+pub run_valid : (h : Classes) → IsHierarchy h → (l : Places) (d : ClassId) (n : ℕ) (s : Subobject) → slice_get (table_run h l d) n ≡ Some s → IsSubobject h d s
 run_valid h keeps l d n s e =
     let a = from_filter (is_front_head h l) (of_root Whole (preorder h d)) s (record { index = n; there = e }) in
     item_preorder h keeps d s (from_filter (λ (t : Subobject). same_root Whole t.root) (preorder h d) s a.0).0

@@ -17,14 +17,14 @@ use Rattle.cxx_subobject.specs.Preorder.{preorder}
 use Rattle.cxx_subobject.specs.VirtualBases.{virtual_bases}
 use Rattle.cxx_subobject.proofs.TreeLemmas.{preorder_lists}
 use Rattle.abi_sound.specs.Places.{Places}
-use Rattle.abi_slots.specs.Views.{View, next, is_head, of_root, by_part, heads, walk}
+use Rattle.abi_slots.specs.Views.{View, next, is_head, of_root, by_part, heads, along_chain}
 use Rattle.abi_slots.proofs.Lists.{Item, item_cases, item_filter, from_filter, from_flat}
 use Rattle.abi_slots.proofs.Bases.{item_preorder}
 use Rattle.abi_slots.proofs.Chains.{Setting, same_some, walk_under}
 use Rattle.abi_slots.proofs.Heads.{part_item, some_head}
 use Rattle.abi_vtable.specs.declared.view.Part.{Part}
 use Rattle.abi_vtable.specs.declared.view.ViewParts.{ViewParts}
-use Rattle.abi_vtable.specs.invariants.Parts.{IsNumberOf, nothing, number, at_of, IsViewParts, view_in, numbered}
+use Rattle.abi_vtable.specs.invariants.Parts.{NumbersSubobject, nothing, number, at_of, IsViewParts, view_of_parts, subobjects_numbered}
 use Rattle.abi_vtt.specs.invariants.Served.{LeadWithin, AreNumbered, IsFrom, from_before, from_chain, IsNoted, IsServedAt, AreServingTo, AreServing}
 use Rattle.cxx_subobject.proofs.PathLemmas.{class_low}
 use Rattle.cxx_hierarchy.proofs.Listed.{get_map}
@@ -48,10 +48,10 @@ module _ (h : Classes) (l : Places) (v : ViewParts) (view : IsViewParts h l v) w
   parts_size = ap length (sym view.parts.subobjects) ∙ length-map v.parts at_of
 
   pub leads_within : (parts : List Part) → parts ≡ v.parts → LeadWithin parts
-  leads_within parts same = subst LeadWithin (sym same) (record { each = λ n part e. number_within (preorder h v.class) (length v.parts) parts_size part.next (next l (view_in v) part.at) (view.parts.each n part e).next })
+  leads_within parts same = subst LeadWithin (sym same) (record { each = λ n part e. number_within (preorder h v.class) (length v.parts) parts_size part.next (next l (view_of_parts v) part.at) (view.parts.each n part e).next })
 
-  pub parts_numbered : IsHierarchy h → (parts : List Part) → parts ≡ v.parts → AreNumbered (preorder h v.class) (next l (view_in v)) parts
-  parts_numbered keeps parts same = subst (λ ps. AreNumbered (preorder h v.class) (next l (view_in v)) ps) (sym same) (record {
+  pub parts_numbered : IsHierarchy h → (parts : List Part) → parts ≡ v.parts → AreNumbered (preorder h v.class) (next l (view_of_parts v)) parts
+  parts_numbered keeps parts same = subst (λ ps. AreNumbered (preorder h v.class) (next l (view_of_parts v)) ps) (sym same) (record {
     once = (preorder_lists h v.class keeps).once;
     there = λ n part e. ap (λ xs. slice_get xs n) (sym view.parts.subobjects) ∙ get_map at_of v.parts n part e;
     next = λ n part e. (view.parts.each n part e).next;
@@ -63,18 +63,18 @@ pub record IsHeadAt (h : Classes) (l : Places) (x : View) (i n : ℕ) : Type 0 w
   pub at_head : slice_get (heads h l x) i ≡ Some head
   pub there : slice_get (preorder h x.class) n ≡ Some head
 
-pub head_at : (h : Classes) (l : Places) (x : View) (numbers : List ℕ) (i n : ℕ) → numbered (preorder h x.class) numbers ≡ map Some (heads h l x) → i < length numbers → n ≡ get_or numbers i n → IsHeadAt h l x i n
+pub head_at : (h : Classes) (l : Places) (x : View) (numbers : List ℕ) (i n : ℕ) → subobjects_numbered (preorder h x.class) numbers ≡ map Some (heads h l x) → i < length numbers → n ≡ get_or numbers i n → IsHeadAt h l x i n
 head_at h l x numbers i n are lt is =
     let here = get_map (slice_get (preorder h x.class)) numbers i n (get_read numbers i n lt is) in
     let r = get_mapped Some (heads h l x) i (slice_get (preorder h x.class) n) (ap (λ xs. slice_get xs i) (sym are) ∙ here) in
     record { head = r.0; at_head = r.1; there = sym r.2 }
 
-pub head_within : (h : Classes) (l : Places) (x : View) (numbers : List ℕ) (i n m : ℕ) → numbered (preorder h x.class) numbers ≡ map Some (heads h l x) → i < length numbers → n ≡ get_or numbers i n → length (preorder h x.class) ≡ m → n < m
+pub head_within : (h : Classes) (l : Places) (x : View) (numbers : List ℕ) (i n m : ℕ) → subobjects_numbered (preorder h x.class) numbers ≡ map Some (heads h l x) → i < length numbers → n ≡ get_or numbers i n → length (preorder h x.class) ≡ m → n < m
 head_within h l x numbers i n m are lt is size = let r = head_at h l x numbers i n are lt is in let k = slice_get_within (preorder h x.class) n r.head r.there in omega arith
 
 module _ (h : Classes) (l : Places) (x : View) (set : Setting h l x) where
   -- a chain is not longer than the number of its class
-  chain_short : (i : ℕ) (s u : Subobject) → IsSubobject h x.class s → walk (next l x) i (Some s) ≡ Some u → i < x.class.0 + 1
+  chain_short : (i : ℕ) (s u : Subobject) → IsSubobject h x.class s → along_chain (next l x) i (Some s) ≡ Some u → i < x.class.0 + 1
   chain_short i s u valid e =
       let w = walk_under h l x set i s u valid e in
       let less = w.less w.under.above w.under.below w.under.of_above w.under.of_below in
@@ -82,13 +82,13 @@ module _ (h : Classes) (l : Places) (x : View) (set : Setting h l x) where
       omega arith
 
   -- one more chain
-  pub serving_more : (m n : ℕ) (tables new : List (Option ℕ)) → IsHeadAt h l x m n → ((s : Option Subobject) → IsNumberOf (preorder h x.class) (Some n) s → IsNoted (preorder h x.class) (next l x) s m (x.class.0 + 1) tables new) → AreServingTo h l x m tables → AreServingTo h l x (m + 1) new
+  pub serving_more : (m n : ℕ) (tables new : List (Option ℕ)) → IsHeadAt h l x m n → ((s : Option Subobject) → NumbersSubobject (preorder h x.class) (Some n) s → IsNoted (preorder h x.class) (next l x) s m (x.class.0 + 1) tables new) → AreServingTo h l x m tables → AreServingTo h l x (m + 1) new
   serving_more m n tables new at each inv = record {
     size = noted.size ∙ inv.size;
     sound = λ i k u there e. by_from i k u there (noted.sound i k u there e);
     noted = λ k i j head u lt is leads there. ⊎_elim
         (λ same. let one : head ≡ at.head = same_some head at.head (sym is ∙ subst (λ a. slice_get (heads h l x) a ≡ Some at.head) (sym same) at.at_head) in
-        let here : walk (next l x) i (Some at.head) ≡ Some u = subst (λ a. walk (next l x) i (Some a) ≡ Some u) one leads in
+        let here : along_chain (next l x) i (Some at.head) ≡ Some u = subst (λ a. along_chain (next l x) i (Some a) ≡ Some u) one leads in
         noted.noted i j u (chain_short i at.head u valid here) here there)
         (λ o. ⊎_elim (λ less. noted.stays j (inv.noted k i j head u less is leads there)) (λ more. absurd (omega arith)) o)
         (cases_order k m);
@@ -111,7 +111,7 @@ module _ (h : Classes) (l : Places) (x : View) (set : Setting h l x) where
         serves = record { valid = valid; head = passes.1; steps = steps; leads = leads };
       }
 
-  pub serving_all : (m : ℕ) (numbers : List ℕ) (tables : List (Option ℕ)) → numbered (preorder h x.class) numbers ≡ map Some (heads h l x) → length numbers ≤ m → AreServingTo h l x m tables → AreServing h l x tables
+  pub serving_all : (m : ℕ) (numbers : List ℕ) (tables : List (Option ℕ)) → subobjects_numbered (preorder h x.class) numbers ≡ map Some (heads h l x) → length numbers ≤ m → AreServingTo h l x m tables → AreServing h l x tables
   serving_all m numbers tables are le inv = record {
     size = inv.size;
     sound = inv.sound;

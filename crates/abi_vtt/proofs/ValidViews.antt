@@ -22,7 +22,7 @@ use Rattle.abi_primary.specs.Kinds.{IsDynamic}
 use Rattle.abi_primary.proofs.KindLemmas.{base_dynamic}
 use Rattle.abi_vtt.proofs.MarkLemmas.{some_has}
 use Rattle.abi_vtt.proofs.ViewLemmas.{no_base, nth}
-use Rattle.abi_vtt.specs.Vtts.{has_virtual, is_built_base, built_bases, below, sub_views, shared_views, views, HasDynamicClass}
+use Rattle.abi_vtt.specs.Vtts.{has_vtt, is_built_base, bases_with_tables, extended_by, sub_views, shared_views, views, HasDynamicClass}
 
 -- a test that is not so
 pub not_so : (b : Bool) → not b ≡ true → b ≡ false
@@ -31,12 +31,12 @@ not_so false e = refl
 
 -- the edge to a base that is not virtual and has virtual bases
 pub built_edge : (h : Classes) (c : ClassId) (base : Base ClassId) → Item (bases_of h c) base → is_built_base h base ≡ true → IsDirectBase h c false base.class
-built_edge h c base i e = record { base = base; listed = contains_item (bases_of h c) base i; class = refl; way = not_so base.is_virtual (and_parts (not base.is_virtual) (has_virtual h base.class) e).0 }
+built_edge h c base i e = record { base = base; listed = contains_item (bases_of h c) base i; class = refl; way = not_so base.is_virtual (and_parts (not base.is_virtual) (has_vtt h base.class) e).0 }
 
-pub built_virtual : (h : Classes) (base : Base ClassId) → is_built_base h base ≡ true → has_virtual h base.class ≡ true
-built_virtual h base test = (and_parts (not base.is_virtual) (has_virtual h base.class) test).1
+pub built_virtual : (h : Classes) (base : Base ClassId) → is_built_base h base ≡ true → has_vtt h base.class ≡ true
+built_virtual h base test = (and_parts (not base.is_virtual) (has_vtt h base.class) test).1
 
-pub below_valid : (h : Classes) (c d : ClassId) (x : Subobject) (b : ClassId) → IsSubobject h c x → class_of x ≡ Some d → IsDirectBase h d false b → IsSubobject h c (below x b)
+pub below_valid : (h : Classes) (c d : ClassId) (x : Subobject) (b : ClassId) → IsSubobject h c x → class_of x ≡ Some d → IsDirectBase h d false b → IsSubobject h c (extended_by x b)
 below_valid h c d x b valid e edge = down_valid h c d b x valid e edge
 
 sub_valid : (h : Classes) (c : ClassId) (n : ℕ) (x : Subobject) (d : ClassId) → IsSubobject h c x → class_of x ≡ Some d → (s : Subobject) → Item (sub_views h n x d) s → IsSubobject h c s
@@ -44,19 +44,19 @@ sub_valid h c zero x d valid e s i = absurd (item_none s i)
 sub_valid h c (suc n) x d valid e s i = ⊎_elim
     (λ same. subst (λ a. IsSubobject h c a) same valid)
     (λ rest.
-    let r = from_flat (λ (base : Base ClassId). sub_views h n (below x base.class) base.class) (built_bases h d) s rest in
+    let r = from_flat (λ (base : Base ClassId). sub_views h n (extended_by x base.class) base.class) (bases_with_tables h d) s rest in
     let base = r.0 in
     let b = from_filter (is_built_base h) (bases_of h d) base r.1 in
-    sub_valid h c n (below x base.class) base.class (below_valid h c d x base.class valid e (built_edge h d base b.0 b.1)) (class_below x.path d base.class e) s r.2)
+    sub_valid h c n (extended_by x base.class) base.class (below_valid h c d x base.class valid e (built_edge h d base b.0 b.1)) (class_below x.path d base.class e) s r.2)
     (item_split x _ s i)
 
 views_valid : (h : Classes) → IsHierarchy h → (c : ClassId) (s : Subobject) → Item (views h c) s → IsSubobject h c s
 views_valid h keeps c s i = ⊎_elim
     (λ first. sub_valid h c (c.0 + 1) (whole_of c) c (whole [] tt) refl s first)
     (λ rest.
-    let r = from_flat (shared_views h) (filter (has_virtual h) (virtual_bases h c)) s rest in
+    let r = from_flat (shared_views h) (filter (has_vtt h) (virtual_bases h c)) s rest in
     let v = r.0 in
-    let has = item_virtual h keeps c v (from_filter (has_virtual h) (virtual_bases h c) v r.1).0 in
+    let has = item_virtual h keeps c v (from_filter (has_vtt h) (virtual_bases h c) v r.1).0 in
     sub_valid h c (v.0 + 1) (shared_base v) v (shared v [] has tt) refl s r.2)
     (item_cases (sub_views h (c.0 + 1) (whole_of c) c) _ s i)
 
@@ -68,20 +68,20 @@ sub_dynamic h keeps zero x d e dyn s i = absurd (item_none s i)
 sub_dynamic h keeps (suc n) x d e dyn s i = ⊎_elim
     (λ same. λ b of. subst (λ a. IsDynamic h a) (same_some d b (sym e ∙ ap class_of same ∙ of)) dyn)
     (λ rest.
-    let r = from_flat (λ (base : Base ClassId). sub_views h n (below x base.class) base.class) (built_bases h d) s rest in
+    let r = from_flat (λ (base : Base ClassId). sub_views h n (extended_by x base.class) base.class) (bases_with_tables h d) s rest in
     let base = r.0 in
     let b = from_filter (is_built_base h) (bases_of h d) base r.1 in
     let has = some_has h keeps base.class (built_virtual h base b.1) in
-    sub_dynamic h keeps n (below x base.class) base.class (class_below x.path d base.class e) (base_dynamic h base.class has.0 has.1) s r.2)
+    sub_dynamic h keeps n (extended_by x base.class) base.class (class_below x.path d base.class e) (base_dynamic h base.class has.0 has.1) s r.2)
     (item_split x _ s i)
 
 views_dynamic : (h : Classes) → IsHierarchy h → (c : ClassId) → IsDynamic h c → (s : Subobject) → Item (views h c) s → HasDynamicClass h s
 views_dynamic h keeps c dyn s i = ⊎_elim
     (λ first. sub_dynamic h keeps (c.0 + 1) (whole_of c) c refl dyn s first)
     (λ rest.
-    let r = from_flat (shared_views h) (filter (has_virtual h) (virtual_bases h c)) s rest in
+    let r = from_flat (shared_views h) (filter (has_vtt h) (virtual_bases h c)) s rest in
     let v = r.0 in
-    let has = some_has h keeps v (from_filter (has_virtual h) (virtual_bases h c) v r.1).1 in
+    let has = some_has h keeps v (from_filter (has_vtt h) (virtual_bases h c) v r.1).1 in
     sub_dynamic h keeps (v.0 + 1) (shared_base v) v refl (base_dynamic h v has.0 has.1) s r.2)
     (item_cases (sub_views h (c.0 + 1) (whole_of c) c) _ s i)
 

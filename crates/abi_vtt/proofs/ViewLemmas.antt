@@ -14,8 +14,8 @@ use Rattle.cxx_subobject.specs.Preorder.{preorder}
 use Rattle.cxx_subobject.specs.VirtualBases.{shared_class}
 use Rattle.cxx_subobject.proofs.TreeLemmas.{base_listed}
 use Rattle.abi_slots.proofs.Loops.{pushed_more, pushed_all}
-use Rattle.abi_vtt.specs.Vtts.{has_virtual, is_built_base, below, sub_views, shared_views, views}
-use Rattle.abi_vtt.specs.invariants.Marks.{marked, AreMarks}
+use Rattle.abi_vtt.specs.Vtts.{has_vtt, is_built_base, extended_by, sub_views, shared_views, views}
+use Rattle.abi_vtt.specs.invariants.Marks.{marked, AreVirtualMarks}
 use Rattle.foundation.proofs.Places.{any_default}
 
 -- what a list of bases gives, of which some are taken
@@ -24,7 +24,7 @@ taken_opens p go x xs true e = rw e refl
 taken_opens p go x xs false e = rw e refl
 
 abbrev pub base_view : Classes → ℕ → Subobject → Base ClassId → List Subobject
-base_view h n x base = sub_views h n (below x base.class) base.class
+base_view h n x base = sub_views h n (extended_by x base.class) base.class
 
 abbrev pub base_views : Classes → ℕ → Subobject → List (Base ClassId) → List Subobject
 base_views h n x bases = flat_map (base_view h n x) (filter (is_built_base h) bases)
@@ -40,7 +40,7 @@ pub nth_before : (h : Classes) → IsHierarchy h → (c : ClassId) (bases : List
 nth_before h keeps c bases i is lt = keeps.bases c (nth bases i) (base_listed h c bases i no_base is lt)
 
 -- the test of a base by the marks
-pub built_is : (h : Classes) (marks : List Bool) (base : Base ClassId) (b : Bool) → AreMarks h (length h) marks → base.class.0 < length h → b ≡ (not base.is_virtual && marked marks base.class) → is_built_base h base ≡ b
+pub built_is : (h : Classes) (marks : List Bool) (base : Base ClassId) (b : Bool) → AreVirtualMarks h (length h) marks → base.class.0 < length h → b ≡ (not base.is_virtual && marked marks base.class) → is_built_base h base ≡ b
 built_is h marks base b are lt e = ap (λ a. not base.is_virtual && a) (sym (are.each base.class lt)) ∙ sym e
 
 pub views_start : (h : Classes) (x itself : Subobject) (c : ClassId) (bases : List (Base ClassId)) (old new : List Subobject) → itself ≡ subobject x.root (x.path ++ []) → new ≡ old ++ itself ∷ [] → bases ≡ bases_of h c →
@@ -61,11 +61,11 @@ views_all h x c bases i old list le inv (suc n) lt = pushed_all (base_views h n 
 
 -- the virtual bases among these subobjects
 abbrev pub shared_rest : Classes → List Subobject → List Subobject
-shared_rest h list = flat_map (shared_views h) (filter (has_virtual h) (filter_map shared_class list))
+shared_rest h list = flat_map (shared_views h) (filter (has_vtt h) (filter_map shared_class list))
 
 abbrev pub of_shared : Classes → Option ClassId → List Subobject
 of_shared h None = []
-of_shared h (Some v) = flat_map (shared_views h) (filter (has_virtual h) (v ∷ []))
+of_shared h (Some v) = flat_map (shared_views h) (filter (has_vtt h) (v ∷ []))
 
 pub one_taken : {A B : Type 0} (p : A → Bool) (go : A → List B) (x : A) (b : Bool) → p x ≡ b → flat_map go (filter p (x ∷ [])) ≡ (if b then go x else [])
 one_taken p go x true e = rw e (append-nil (go x))
@@ -73,7 +73,7 @@ one_taken p go x false e = rw e refl
 
 pub shared_opens : (h : Classes) (s : Subobject) (rest : List Subobject) (o : Option ClassId) → o ≡ shared_class s → (piece : List Subobject) → piece ≡ of_shared h o → shared_rest h (s ∷ rest) ≡ piece ++ shared_rest h rest
 shared_opens h s rest None e piece is = rw (← e, is) refl
-shared_opens h s rest (Some v) e piece is = rw (← e) (taken_opens (has_virtual h) (shared_views h) v (filter_map shared_class rest) (has_virtual h v) refl ∙ ap (λ a. a ++ shared_rest h rest) (sym (one_taken (has_virtual h) (shared_views h) v (has_virtual h v) refl) ∙ sym is))
+shared_opens h s rest (Some v) e piece is = rw (← e) (taken_opens (has_vtt h) (shared_views h) v (filter_map shared_class rest) (has_vtt h v) refl ∙ ap (λ a. a ++ shared_rest h rest) (sym (one_taken (has_vtt h) (shared_views h) v (has_vtt h v) refl) ∙ sym is))
 
 -- one subobject more, which is a virtual base or none
 pub shared_more : (h : Classes) (list : List Subobject) (i : ℕ) (s : Subobject) (o : Option ClassId) (done new all : List Subobject) → i < length list → s ≡ get_or list i s → o ≡ shared_class s → new ≡ done ++ of_shared h o → done ++ shared_rest h (drop i list) ≡ all → new ++ shared_rest h (drop (i + 1) list) ≡ all
@@ -86,13 +86,13 @@ pub shared_start : (h : Classes) (c : ClassId) (whole : Subobject) (list old fir
 shared_start h c whole list old first is lists none pushed =
     ap (λ a. a ++ shared_rest h list) (pushed ∙ ap (λ a. a ++ sub_views h (c.0 + 1) whole c) none ∙ ap (λ s. sub_views h (c.0 + 1) s c) is) ∙ ap (λ a. sub_views h (c.0 + 1) (whole_of c) c ++ shared_rest h a) lists
 
-pub nothing_shared : (h : Classes) (marks : List Bool) (v : ClassId) (list : List Subobject) (b : Bool) → AreMarks h (length h) marks → v.0 < length h → b ≡ marked marks v → b ≡ false → list ≡ list ++ of_shared h (Some v)
+pub nothing_shared : (h : Classes) (marks : List Bool) (v : ClassId) (list : List Subobject) (b : Bool) → AreVirtualMarks h (length h) marks → v.0 < length h → b ≡ marked marks v → b ≡ false → list ≡ list ++ of_shared h (Some v)
 nothing_shared h marks v list b are lt tested off =
-    let test : has_virtual h v ≡ false = sym (are.each v lt) ∙ sym tested ∙ off in
-    sym (append-nil list) ∙ ap (λ a. list ++ a) (sym (one_taken (has_virtual h) (shared_views h) v false test))
+    let test : has_vtt h v ≡ false = sym (are.each v lt) ∙ sym tested ∙ off in
+    sym (append-nil list) ∙ ap (λ a. list ++ a) (sym (one_taken (has_vtt h) (shared_views h) v false test))
 
-pub base_shared : (h : Classes) (marks : List Bool) (v : ClassId) (list new : List Subobject) (b : Bool) (path : List ClassId) → AreMarks h (length h) marks → v.0 < length h → b ≡ marked marks v → b ≡ true → path ≡ v ∷ [] →
+pub base_shared : (h : Classes) (marks : List Bool) (v : ClassId) (list new : List Subobject) (b : Bool) (path : List ClassId) → AreVirtualMarks h (length h) marks → v.0 < length h → b ≡ marked marks v → b ≡ true → path ≡ v ∷ [] →
     ((n : ℕ) → v.0 < n → new ≡ list ++ sub_views h n (subobject (Shared v) path) v) → new ≡ list ++ of_shared h (Some v)
 base_shared h marks v list new b path are lt tested on is pushed =
-    let test : has_virtual h v ≡ true = sym (are.each v lt) ∙ sym tested ∙ on in
-    pushed (v.0 + 1) (omega arith) ∙ ap (λ p. list ++ sub_views h (v.0 + 1) (subobject (Shared v) p) v) is ∙ ap (λ a. list ++ a) (sym (one_taken (has_virtual h) (shared_views h) v true test))
+    let test : has_vtt h v ≡ true = sym (are.each v lt) ∙ sym tested ∙ on in
+    pushed (v.0 + 1) (omega arith) ∙ ap (λ p. list ++ sub_views h (v.0 + 1) (subobject (Shared v) p) v) is ∙ ap (λ a. list ++ a) (sym (one_taken (has_vtt h) (shared_views h) v true test))

@@ -10,7 +10,7 @@ use Rattle.abi_slots.specs.declared.code_numbers.CodeRow.{CodeRow}
 use Rattle.abi_slots.specs.declared.words.Group.{Group}
 use Rattle.abi_slots.specs.Images.{Image, Addresses}
 use Rattle.abi_slots.specs.Seen.{PlacedTables, IsPointOf}
-use Rattle.abi_vtt.specs.Vtts.{Item}
+use Rattle.abi_vtt.specs.Vtts.{VttEntry}
 use Rattle.abi_vtt.specs.Blocks.{block}
 
 -- groups that stand in an image, with the numbers of code
@@ -26,7 +26,7 @@ tables_of p number group = record { image = p.image; codes = p.codes; info = p.a
 
 -- the word at an address is the one of an item of the VTT of class c: the address point of the table that serves the item's
 -- subobject, in the group of the item's view
-pub record HasItem (h : Classes) (l : Places) (p : PlacedGroups) (c : ClassId) (it : Item) (at : ℕ) : Type 0 where
+pub record HasItem (h : Classes) (l : Places) (p : PlacedGroups) (c : ClassId) (it : VttEntry) (at : ℕ) : Type 0 where
   pub number : ℕ
   pub group : Group
   pub there : slice_get p.groups number ≡ Some group
@@ -38,5 +38,5 @@ pub record HasItem (h : Classes) (l : Places) (p : PlacedGroups) (c : ClassId) (
   pub is_point : IsPointOf h l (record { complete = c; at_sub = it.view; class = class }) (tables_of p number group) it.served point
 
 -- the sub-VTT of the view x, of class d, of an object of class c stands at an address
-pub record HasBlock (h : Classes) (l : Places) (p : PlacedGroups) (c : ClassId) (x : Subobject) (d : ClassId) (at : ℕ) : Type 0 where
-  pub each : (i : ℕ) (it : Item) → slice_get (block h l x d) i ≡ Some it → HasItem h l p c it (at + 8 * i)
+pub record HasSubVtt (h : Classes) (l : Places) (p : PlacedGroups) (c : ClassId) (x : Subobject) (d : ClassId) (at : ℕ) : Type 0 where
+  pub each : (i : ℕ) (it : VttEntry) → slice_get (block h l x d) i ≡ Some it → HasItem h l p c it (at + 8 * i)

@@ -13,30 +13,30 @@ use Rattle.abi_slots.specs.declared.code_numbers.CodeRow.{CodeRow}
 use Rattle.abi_slots.specs.declared.words.TypeInfo.{TypeInfo}
 use Rattle.abi_slots.specs.declared.words.VttWord.{VttWord}
 use Rattle.abi_slots.specs.declared.words.Group.{Group}
-use Rattle.abi_slots.specs.Groups.{view_of, IsGroup}
+use Rattle.abi_slots.specs.Groups.{view_of_group, IsGroup}
 use Rattle.abi_slots.specs.Images.{Image, Addresses, HasTables}
 use Rattle.abi_slots.specs.Seen.{PlacedTables, IsPointOf}
 use Rattle.abi_vtt.specs.Vtts.{IsVtt}
-use Rattle.abi_vtt.specs.Blocks.{shared_distance, run, run_distance}
-use Rattle.abi_vtt.specs.VttImages.{HasBlock}
+use Rattle.abi_vtt.specs.Blocks.{shared_distance, table_run, run_distance}
+use Rattle.abi_vtt.specs.VttImages.{HasSubVtt}
 
 -- the address point of each table of the first run stands at a constant distance behind that of the view itself
 abbrev pub FirstRunsHavePoints : Classes → List ClassLayout → Group → PlacedTables → Type 0
 FirstRunsHavePoints h rows group placed = (n : ℕ) (s : Subobject) (first : ℕ) → IsHierarchy h → IsSoundLayout h rows →
     (of : IsGroup h (places_of h rows) group) → placed.tables ≡ group.tables →
-    IsPointOf h (places_of h rows) (view_of group of.class) placed (whole_of of.class) first →
-    slice_get (run h (places_of h rows) of.class) n ≡ Some s →
-    IsPointOf h (places_of h rows) (view_of group of.class) placed s (first + 8 * run_distance h (places_of h rows) of.class n)
+    IsPointOf h (places_of h rows) (view_of_group group of.class) placed (whole_of of.class) first →
+    slice_get (table_run h (places_of h rows) of.class) n ≡ Some s →
+    IsPointOf h (places_of h rows) (view_of_group group of.class) placed s (first + 8 * run_distance h (places_of h rows) of.class n)
 
 -- at the address of the VTT of a class stands the sub-VTT of the whole
 abbrev pub WholeVttsStand : Classes → Places → Type 0
 WholeVttsStand h l = (codes : List CodeRow) (groups : List Group) (vtts : List (List VttWord)) (infos : List TypeInfo) (a : Addresses) (base : ℕ) (image : Image) (c : ClassId) (words : List VttWord) →
     HasTables codes groups vtts infos a base image → slice_get vtts c.0 ≡ Some words → IsVtt h l c words →
-    HasBlock h l (record { image = image; codes = codes; groups = groups; addresses = a }) c (whole_of c) c (a.vtt c)
+    HasSubVtt h l (record { image = image; codes = codes; groups = groups; addresses = a }) c (whole_of c) c (a.vtt c)
 
 -- behind the address of the VTT of a class, at a number of bytes that classes alone determine, stands the sub-VTT of a virtual base with virtual bases
 abbrev pub SharedVttsStand : Classes → Places → Type 0
 SharedVttsStand h l = (codes : List CodeRow) (groups : List Group) (vtts : List (List VttWord)) (infos : List TypeInfo) (a : Addresses) (base : ℕ) (image : Image) (c v w : ClassId) (words : List VttWord) →
     HasTables codes groups vtts infos a base image → slice_get vtts c.0 ≡ Some words → IsVtt h l c words → IsHierarchy h → HasVirtualBase h c v →
     HasVirtualBase h v w →
-    HasBlock h l (record { image = image; codes = codes; groups = groups; addresses = a }) c (shared_base v) v (a.vtt c + 8 * shared_distance h l c v)
+    HasSubVtt h l (record { image = image; codes = codes; groups = groups; addresses = a }) c (shared_base v) v (a.vtt c + 8 * shared_distance h l c v)

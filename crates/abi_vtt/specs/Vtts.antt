@@ -12,36 +12,36 @@ use Rattle.cxx_subobject.specs.Preorder.{preorder}
 use Rattle.cxx_subobject.specs.VirtualBases.{virtual_bases}
 use Rattle.abi_primary.specs.Kinds.{IsDynamic}
 use Rattle.abi_sound.specs.Places.{Places}
-use Rattle.abi_slots.specs.Listing.{is_direct, is_shared_root}
+use Rattle.abi_slots.specs.Listing.{is_direct, is_virtual_root}
 use Rattle.abi_slots.specs.Views.{is_dynamic_class, heads, Serves}
 use Rattle.abi_slots.specs.Groups.{GoAlong}
 use Rattle.abi_slots.specs.declared.words.VttWord.{VttWord}
 
 -- a word of a VTT by what it is for: a view of the complete object, and a subobject of that view, whose table it points to
-pub record Item : Type 0 where
+pub record VttEntry : Type 0 where
   pub view : Subobject
   pub served : Subobject
 
-abbrev pub item : Subobject → Subobject → Item
+abbrev pub item : Subobject → Subobject → VttEntry
 item view served = record { view = view; served = served }
 
 abbrev pub is_filled : List ClassId → Bool
 is_filled [] = false
 is_filled (v ∷ rest) = true
 
-abbrev pub has_virtual : Classes → ClassId → Bool
-has_virtual h c = is_filled (virtual_bases h c)
+abbrev pub has_vtt : Classes → ClassId → Bool
+has_vtt h c = is_filled (virtual_bases h c)
 
 abbrev pub class_has_virtual : Classes → Option ClassId → Bool
 class_has_virtual h None = false
-class_has_virtual h (Some c) = has_virtual h c
+class_has_virtual h (Some c) = has_vtt h c
 
 -- the direct non-virtual bases of a class that have virtual bases
 abbrev pub is_built_base : Classes → Base ClassId → Bool
-is_built_base h base = not base.is_virtual && has_virtual h base.class
+is_built_base h base = not base.is_virtual && has_vtt h base.class
 
-abbrev pub built_bases : Classes → ClassId → List (Base ClassId)
-built_bases h c = filter (is_built_base h) (bases_of h c)
+abbrev pub bases_with_tables : Classes → ClassId → List (Base ClassId)
+bases_with_tables h c = filter (is_built_base h) (bases_of h c)
 
 -- it is a base, and not the whole
 abbrev pub is_proper_at : Root → List ClassId → Bool
@@ -61,43 +61,43 @@ ends_in_primary l (c ∷ d ∷ e ∷ path) = ends_in_primary l (d ∷ e ∷ path
 -- the subobject that directly derives it
 abbrev pub needs_word : Classes → Places → Subobject → Bool
 needs_word h l s =
-    is_proper_at s.root s.path && (is_dynamic_class h (class_of s) && ((class_has_virtual h (class_of s) || is_shared_root s.root) && not (ends_in_primary l s.path)))
+    is_proper_at s.root s.path && (is_dynamic_class h (class_of s) && ((class_has_virtual h (class_of s) || is_virtual_root s.root) && not (ends_in_primary l s.path)))
 
-abbrev pub words_of_bases : Classes → Places → Subobject → ClassId → List Item
+abbrev pub words_of_bases : Classes → Places → Subobject → ClassId → List VttEntry
 words_of_bases h l x c = map (item x) (filter (needs_word h l) (preorder h c))
 
 -- one more class behind the path of a subobject
-abbrev pub below : Subobject → ClassId → Subobject
-below x b = subobject x.root (x.path ++ b ∷ [])
+abbrev pub extended_by : Subobject → ClassId → Subobject
+extended_by x b = subobject x.root (x.path ++ b ∷ [])
 
 -- the sub-VTT of the view x, of class c: its own table, the sub-VTTs of its bases, and the tables of its base subobjects. Bases
 -- have smaller numbers than their class, so that as many steps are enough
-abbrev pub sub_items : Classes → Places → ℕ → Subobject → ClassId → List Item
+abbrev pub sub_items : Classes → Places → ℕ → Subobject → ClassId → List VttEntry
 sub_items h l zero x c = []
 sub_items h l (suc steps) x c =
-    item x (whole_of c) ∷ (flat_map (λ (base : Base ClassId). sub_items h l steps (below x base.class) base.class) (built_bases h c) ++ words_of_bases h l x c)
+    item x (whole_of c) ∷ (flat_map (λ (base : Base ClassId). sub_items h l steps (extended_by x base.class) base.class) (bases_with_tables h c) ++ words_of_bases h l x c)
 
-abbrev pub shared_items : Classes → Places → ClassId → List Item
+abbrev pub shared_items : Classes → Places → ClassId → List VttEntry
 shared_items h l v = sub_items h l (v.0 + 1) (shared_base v) v
 
 -- the words of the VTT of class c: the sub-VTT of the whole, and those of the virtual bases that have virtual bases
-abbrev pub items : Classes → Places → ClassId → List Item
-items h l c = sub_items h l (c.0 + 1) (whole_of c) c ++ flat_map (shared_items h l) (filter (has_virtual h) (virtual_bases h c))
+abbrev pub vtt_items : Classes → Places → ClassId → List VttEntry
+vtt_items h l c = sub_items h l (c.0 + 1) (whole_of c) c ++ flat_map (shared_items h l) (filter (has_vtt h) (virtual_bases h c))
 
 -- the views of the sub-VTTs, in their order
 abbrev pub sub_views : Classes → ℕ → Subobject → ClassId → List Subobject
 sub_views h zero x c = []
-sub_views h (suc steps) x c = x ∷ flat_map (λ (base : Base ClassId). sub_views h steps (below x base.class) base.class) (built_bases h c)
+sub_views h (suc steps) x c = x ∷ flat_map (λ (base : Base ClassId). sub_views h steps (extended_by x base.class) base.class) (bases_with_tables h c)
 
 abbrev pub shared_views : Classes → ClassId → List Subobject
 shared_views h v = sub_views h (v.0 + 1) (shared_base v) v
 
 -- the views of class c that have a group in its VTT, the whole first
 abbrev pub views : Classes → ClassId → List Subobject
-views h c = sub_views h (c.0 + 1) (whole_of c) c ++ flat_map (shared_views h) (filter (has_virtual h) (virtual_bases h c))
+views h c = sub_views h (c.0 + 1) (whole_of c) c ++ flat_map (shared_views h) (filter (has_vtt h) (virtual_bases h c))
 
 -- the word points to the table, in the group of the item's view, that serves the item's subobject
-pub record IsVttWord (h : Classes) (l : Places) (c : ClassId) (i : Item) (word : VttWord) : Type 0 where
+pub record IsVttWord (h : Classes) (l : Places) (c : ClassId) (i : VttEntry) (word : VttWord) : Type 0 where
   pub complete : word.group.complete ≡ c
   pub view : word.group.view ≡ i.view
   pub class : ClassId
@@ -108,7 +108,7 @@ pub record IsVttWord (h : Classes) (l : Places) (c : ClassId) (i : Item) (word :
 
 -- the words of the VTT of class c
 abbrev pub IsVtt : Classes → Places → ClassId → List VttWord → Type 0
-IsVtt h l c words = GoAlong (IsVttWord h l c) (items h l c) words
+IsVtt h l c words = GoAlong (IsVttWord h l c) (vtt_items h l c) words
 
 -- the class of the subobject is dynamic
 abbrev pub HasDynamicClass : Classes → Subobject → Type 0

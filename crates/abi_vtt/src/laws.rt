@@ -15,9 +15,9 @@ ghost use Rattle.abi_slots.specs.Views.{View, next, heads, Serves};
 ghost use Rattle.abi_slots.specs.Groups.{IsGroup};
 ghost use Rattle.abi_slots.specs.Images.{point_words};
 ghost use Rattle.abi_slots.specs.Seen.{PlacedTables};
-ghost use Rattle.abi_vtt.specs.Vtts.{Item, item, needs_word, below, ends_in_primary, items};
-ghost use Rattle.abi_vtt.specs.Blocks.{block, StandsIn, block_distance, shared_distance, item_number, run, run_distance, IsFirstRun, IsFound};
-ghost use Rattle.abi_vtt.specs.VttImages.{PlacedGroups, HasBlock};
+ghost use Rattle.abi_vtt.specs.Vtts.{VttEntry, item, needs_word, extended_by, ends_in_primary, vtt_items};
+ghost use Rattle.abi_vtt.specs.Blocks.{block, StandsIn, block_distance, shared_distance, item_number, table_run, run_distance, IsFirstRun, IsFoundByClass};
+ghost use Rattle.abi_vtt.specs.VttImages.{PlacedGroups, HasSubVtt};
 ghost use Rattle.abi_vtt.specs.VttLaws.{FirstRunsHavePoints, WholeVttsStand, SharedVttsStand};
 
 /// The law on which construction rests, in any hierarchy and for any places. In the VTT of a class its own sub-VTT stands
@@ -27,9 +27,9 @@ ghost use Rattle.abi_vtt.specs.VttLaws.{FirstRunsHavePoints, WholeVttsStand, Sha
 /// first (`first`), and the word for a base subobject stands at a number that the view's class and this subobject
 /// determine (`word`).
 pub fn sub_vtts()
-    ensures whole { (h : Classes) (l : Places) (c : ClassId) → StandsIn (items h l c) 0 (block h l (whole_of c) c) }
-    ensures base { (h : Classes) (l : Places) (x : Subobject) (d b v : ClassId) (all : List Item) (n : ℕ) → IsHierarchy h → IsDirectBase h d false b → HasVirtualBase h b v → StandsIn all n (block h l x d) → StandsIn all (n + block_distance h l d b) (block h l (below x b) b) }
-    ensures shared { (h : Classes) (l : Places) (c v w : ClassId) → IsHierarchy h → HasVirtualBase h c v → HasVirtualBase h v w → StandsIn (items h l c) (shared_distance h l c v) (block h l (shared_base v) v) }
+    ensures whole { (h : Classes) (l : Places) (c : ClassId) → StandsIn (vtt_items h l c) 0 (block h l (whole_of c) c) }
+    ensures base { (h : Classes) (l : Places) (x : Subobject) (d b v : ClassId) (all : List VttEntry) (n : ℕ) → IsHierarchy h → IsDirectBase h d false b → HasVirtualBase h b v → StandsIn all n (block h l x d) → StandsIn all (n + block_distance h l d b) (block h l (extended_by x b) b) }
+    ensures shared { (h : Classes) (l : Places) (c v w : ClassId) → IsHierarchy h → HasVirtualBase h c v → HasVirtualBase h v w → StandsIn (vtt_items h l c) (shared_distance h l c v) (block h l (shared_base v) v) }
     ensures first { (h : Classes) (l : Places) (x : Subobject) (d : ClassId) → IsHierarchy h → slice_get (block h l x d) 0 ≡ Some (item x (whole_of d)) }
     ensures word { (h : Classes) (l : Places) (x : Subobject) (d : ClassId) (s : Subobject) → IsHierarchy h → IsSubobject h d s → needs_word h l s ≡ true → slice_get (block h l x d) (item_number h l d s) ≡ Some (item x s) }
 {}
@@ -39,9 +39,9 @@ pub fn sub_vtts()
 /// first is the view's own (`itself`). So in an image the address point of each stands at a constant distance behind that of
 /// the view itself, over any sound layout (`points`).
 pub fn first_run()
-    ensures tables { (h : Classes) (l : Places) (x : View) → IsHierarchy h → IsFirstRun (heads h l x) (run h l x.class) }
-    ensures itself { (h : Classes) (l : Places) (d : ClassId) → IsHierarchy h → IsDynamic h d → slice_get (run h l d) 0 ≡ Some (whole_of d) }
-    ensures distance { (h : Classes) (l : Places) (group : Group) (n : ℕ) (t : Subobject) → IsHierarchy h → (of : IsGroup h l group) → slice_get (run h l of.class) n ≡ Some t → point_words group.tables n ≡ point_words group.tables 0 + run_distance h l of.class n }
+    ensures tables { (h : Classes) (l : Places) (x : View) → IsHierarchy h → IsFirstRun (heads h l x) (table_run h l x.class) }
+    ensures itself { (h : Classes) (l : Places) (d : ClassId) → IsHierarchy h → IsDynamic h d → slice_get (table_run h l d) 0 ≡ Some (whole_of d) }
+    ensures distance { (h : Classes) (l : Places) (group : Group) (n : ℕ) (t : Subobject) → IsHierarchy h → (of : IsGroup h l group) → slice_get (table_run h l of.class) n ≡ Some t → point_words group.tables n ≡ point_words group.tables 0 + run_distance h l of.class n }
     ensures points { (h : Classes) (rows : List ClassLayout) (group : Group) (placed : PlacedTables) → FirstRunsHavePoints h rows group placed }
 {}
 
@@ -49,8 +49,8 @@ pub fn first_run()
 /// has a word in the view's sub-VTT, where the subobject is not the non-virtual primary base of its deriver (`table`), in
 /// particular that of each head (`head`). Such a primary base comes next to its deriver in the chain (`primary`).
 pub fn each_found()
-    ensures table { (h : Classes) (l : Places) (x : Subobject) (d e : ClassId) (s : Subobject) → IsHierarchy h → IsSubobject h d s → class_of s ≡ Some e → IsDynamic h e → ends_in_primary l s.path ≡ false → IsFound h l x d s }
-    ensures head { (h : Classes) (l : Places) (x : View) (t s : Subobject) → IsHierarchy h → Serves h l x t s → IsFound h l x.at_sub x.class t }
+    ensures table { (h : Classes) (l : Places) (x : Subobject) (d e : ClassId) (s : Subobject) → IsHierarchy h → IsSubobject h d s → class_of s ≡ Some e → IsDynamic h e → ends_in_primary l s.path ≡ false → IsFoundByClass h l x d s }
+    ensures head { (h : Classes) (l : Places) (x : View) (t s : Subobject) → IsHierarchy h → Serves h l x t s → IsFoundByClass h l x.at_sub x.class t }
     ensures primary { (h : Classes) (l : Places) (x : View) (s : Subobject) → IsHierarchy h → IsSubobject h x.class s → ends_in_primary l s.path ≡ true → (u : Subobject) × IsSubobject h x.class u × (next l x u ≡ Some s) }
 {}
 
@@ -61,6 +61,6 @@ pub fn each_found()
 /// table that serves its subobject in the group of its view (`HasItem`).
 pub fn vtt_in_image()
     ensures whole { (h : Classes) (l : Places) → WholeVttsStand h l }
-    ensures base { (h : Classes) (l : Places) (placed : PlacedGroups) (c : ClassId) (x : Subobject) (d b v : ClassId) (at : ℕ) → IsHierarchy h → IsDirectBase h d false b → HasVirtualBase h b v → HasBlock h l placed c x d at → HasBlock h l placed c (below x b) b (at + 8 * block_distance h l d b) }
+    ensures base { (h : Classes) (l : Places) (placed : PlacedGroups) (c : ClassId) (x : Subobject) (d b v : ClassId) (at : ℕ) → IsHierarchy h → IsDirectBase h d false b → HasVirtualBase h b v → HasSubVtt h l placed c x d at → HasSubVtt h l placed c (extended_by x b) b (at + 8 * block_distance h l d b) }
     ensures shared { (h : Classes) (l : Places) → SharedVttsStand h l }
 {}

@@ -4,7 +4,7 @@ ghost use Rattle.std.specs.Prelude.{◌≡◌, ◌<◌, ◌||◌, ◌&&◌, not,
 ghost use Rattle.std.specs.List.{list_any};
 ghost use Rattle.cxx_hierarchy.specs.declared.records.Base.{Base};
 ghost use Rattle.cxx_hierarchy.specs.declared.records.ClassId.{ClassId};
-ghost use Rattle.abi_vtt.specs.invariants.Marks.{AreMarks, marked};
+ghost use Rattle.abi_vtt.specs.invariants.Marks.{AreVirtualMarks, marked};
 
 use cxx_hierarchy::{Base, ClassId, Hierarchy};
 use foundation::NoMemory;
@@ -31,7 +31,7 @@ fn has_marked(marks: &[bool], bases: &[Base<ClassId>]) -> bool
 ///
 /// Errors: want of memory.
 pub(crate) fn virtual_marks(alloc: Global, h: &Hierarchy) -> Result<Vec<bool>, NoMemory>
-    ensures { IfOk result (λ marks. AreMarks h.now (length h.now) marks.items) }
+    ensures { IfOk result (λ marks. AreVirtualMarks h.now (length h.now) marks.items) }
 {
     h.keeps();
     let mut marks = Vec::new(alloc);

@@ -3,7 +3,7 @@
 ghost use Rattle.std.specs.Prelude.{◌≡◌, length};
 ghost use Rattle.abi_sound.specs.Places.{places_of};
 ghost use Rattle.abi_vtt.specs.Vtts.{needs_word};
-ghost use Rattle.abi_vtt.specs.invariants.Marks.{AreMarks};
+ghost use Rattle.abi_vtt.specs.invariants.Marks.{AreVirtualMarks};
 ghost use Rattle.abi_vtt.specs.invariants.Growing.{IsKnownPart};
 
 use crate::marks::is_marked;
@@ -21,7 +21,7 @@ pub(crate) fn needs_word<L: SoundLayout>(
     part: &Part,
 ) -> bool
     requires layout { L.lays_out layout.now h.now }
-    requires marks { AreMarks h.now (length h.now) marks.now }
+    requires marks { AreVirtualMarks h.now (length h.now) marks.now }
     requires part { IsKnownPart h.now part.now }
     ensures { result ≡ needs_word h.now (places_of h.now (L.rows layout.now)) part.now.at }
 {

@@ -3,7 +3,7 @@
 ghost use Rattle.std.specs.Prelude.{◌≡◌, ◌<◌, All, length};
 ghost use Rattle.cxx_hierarchy.specs.declared.records.ClassId.{ClassId};
 ghost use Rattle.abi_sound.specs.Places.{places_of};
-ghost use Rattle.abi_slots.specs.Listing.{is_direct, is_shared_root};
+ghost use Rattle.abi_slots.specs.Listing.{is_direct, is_virtual_root};
 ghost use Rattle.abi_vtt.specs.Vtts.{ends_in_primary, is_proper_at};
 
 use abi_primary::Primary;
@@ -47,7 +47,7 @@ pub fn is_proper(s: &Subobject) -> bool
 
 /// Whether a root is that of a virtual base.
 pub fn is_shared(root: Root) -> bool
-    ensures { result ≡ is_shared_root root }
+    ensures { result ≡ is_virtual_root root }
 {
     match root {
         Root::Whole => false,

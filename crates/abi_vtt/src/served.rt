@@ -3,7 +3,7 @@
 ghost use Rattle.std.specs.Prelude.{◌≡◌, ◌<◌, Option, Some, IfOk, IfSome, List, length, slice_get};
 ghost use Rattle.cxx_subobject.specs.declared.Subobject.{Subobject};
 ghost use Rattle.abi_sound.specs.Places.{places_of};
-ghost use Rattle.abi_vtable.specs.invariants.Parts.{IsNumberOf, IsViewParts, view_in};
+ghost use Rattle.abi_vtable.specs.invariants.Parts.{NumbersSubobject, IsViewParts, view_of_parts};
 ghost use Rattle.abi_vtt.specs.invariants.Served.{LeadWithin, AreNumbered, IsNoted, AreServing};
 
 use abi_sound::SoundLayout;
@@ -24,7 +24,7 @@ fn note_chain(
     requires within { IfSome at (λ n. n < length parts.now) }
     requires closed { LeadWithin parts.now }
     requires size { length tables.old ≡ length parts.now }
-    ensures { (list : List Subobject) (go : Subobject → Option Subobject) (s : Option Subobject) → AreNumbered list go parts.now → IsNumberOf list at s → IsNoted list go s table steps tables.old tables.new }
+    ensures { (list : List Subobject) (go : Subobject → Option Subobject) (s : Option Subobject) → AreNumbered list go parts.now → NumbersSubobject list at s → IsNoted list go s table steps tables.old tables.new }
 {
     if steps == 0 {
         return;
@@ -49,7 +49,7 @@ pub(crate) fn tables_of<L: SoundLayout>(
 ) -> Result<Vec<Option<usize>>, NoMemory>
     requires layout { L.lays_out layout.now h.now }
     requires view { IsViewParts h.now (places_of h.now (L.rows layout.now)) x.now }
-    ensures { IfOk result (λ tables. AreServing h.now (places_of h.now (L.rows layout.now)) (view_in x.now) tables.items) }
+    ensures { IfOk result (λ tables. AreServing h.now (places_of h.now (L.rows layout.now)) (view_of_parts x.now) tables.items) }
 {
     h.keeps();
     let _layout = layout;

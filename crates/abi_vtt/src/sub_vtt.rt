@@ -8,11 +8,11 @@ ghost use Rattle.cxx_subobject.specs.declared.Subobject.{Subobject};
 ghost use Rattle.cxx_subobject.specs.Subobjects.{IsSubobject, class_of};
 ghost use Rattle.cxx_subobject.specs.Preorder.{preorder};
 ghost use Rattle.abi_sound.specs.Places.{Places, places_of};
-ghost use Rattle.abi_vtable.specs.invariants.Parts.{IsViewParts, view_in};
+ghost use Rattle.abi_vtable.specs.invariants.Parts.{IsViewParts, view_of_parts};
 ghost use Rattle.abi_vtt.specs.Vtts.{item, words_of_bases, sub_items};
-ghost use Rattle.abi_vtt.specs.invariants.Marks.{AreMarks};
+ghost use Rattle.abi_vtt.specs.invariants.Marks.{AreVirtualMarks};
 ghost use Rattle.abi_vtt.specs.invariants.Served.{HasNote, AreServing};
-ghost use Rattle.abi_vtt.specs.invariants.Growing.{Grows};
+ghost use Rattle.abi_vtt.specs.invariants.Growing.{GrowsByVttWords};
 
 use crate::needs::needs_word;
 use crate::served::tables_of;
@@ -59,7 +59,7 @@ fn push_word(
     words: &mut VttList,
 ) -> Result<(), NoMemory>
     requires { HasNote tables.now n }
-    ensures { OnOk result ((h : Classes) (l : Places) (s : Subobject) → IsViewParts h l x.now → AreServing h l (view_in x.now) tables.now → slice_get (preorder h x.now.class) n ≡ Some s → Grows h l x.now.complete (item x.now.at s ∷ []) words.old words.new) }
+    ensures { OnOk result ((h : Classes) (l : Places) (s : Subobject) → IsViewParts h l x.now → AreServing h l (view_of_parts x.now) tables.now → slice_get (preorder h x.now.class) n ≡ Some s → GrowsByVttWords h l x.now.complete (item x.now.at s ∷ []) words.old words.new) }
 {
     let word = word_of(alloc, x, tables, n)?;
     words.push(word)?;
@@ -77,10 +77,10 @@ fn push_base_words<L: SoundLayout>(
     words: &mut VttList,
 ) -> Result<(), NoMemory>
     requires layout { L.lays_out layout.now h.now }
-    requires marks { AreMarks h.now (length h.now) marks.now }
+    requires marks { AreVirtualMarks h.now (length h.now) marks.now }
     requires view { IsViewParts h.now (places_of h.now (L.rows layout.now)) x.now }
-    requires tables { AreServing h.now (places_of h.now (L.rows layout.now)) (view_in x.now) tables.now }
-    ensures { OnOk result (Grows h.now (places_of h.now (L.rows layout.now)) x.now.complete (words_of_bases h.now (places_of h.now (L.rows layout.now)) x.now.at x.now.class) words.old words.new) }
+    requires tables { AreServing h.now (places_of h.now (L.rows layout.now)) (view_of_parts x.now) tables.now }
+    ensures { OnOk result (GrowsByVttWords h.now (places_of h.now (L.rows layout.now)) x.now.complete (words_of_bases h.now (places_of h.now (L.rows layout.now)) x.now.at x.now.class) words.old words.new) }
 {
     h.keeps();
     for (n, part) in x.parts.as_slice().iter().enumerate() {
@@ -105,12 +105,12 @@ pub(crate) fn push_sub_vtt<L: SoundLayout>(
     words: &mut VttList,
 ) -> Result<(), NoMemory>
     requires layout { L.lays_out layout.now h.now }
-    requires marks { AreMarks h.now (length h.now) marks.now }
+    requires marks { AreVirtualMarks h.now (length h.now) marks.now }
     requires known { name.now.complete.0 < length h.now }
     requires view { IsSubobject h.now name.now.complete name.now.view }
     requires class { class_of name.now.view ≡ Some d }
     requires has_base { (v : ClassId) × HasVirtualBase h.now d v }
-    ensures { OnOk result ((n : ℕ) → d.0 < n → Grows h.now (places_of h.now (L.rows layout.now)) name.now.complete (sub_items h.now (places_of h.now (L.rows layout.now)) n name.now.view d) words.old words.new) }
+    ensures { OnOk result ((n : ℕ) → d.0 < n → GrowsByVttWords h.now (places_of h.now (L.rows layout.now)) name.now.complete (sub_items h.now (places_of h.now (L.rows layout.now)) n name.now.view d) words.old words.new) }
 {
     h.keeps();
     let x = view_parts(alloc, h, layout, name)?;

@@ -6,8 +6,8 @@ ghost use Rattle.cxx_hierarchy.specs.declared.records.Base.{Base};
 ghost use Rattle.cxx_hierarchy.specs.declared.records.ClassId.{ClassId};
 ghost use Rattle.cxx_subobject.specs.Subobjects.{IsSubobject};
 ghost use Rattle.abi_primary.specs.Kinds.{IsDynamic};
-ghost use Rattle.abi_vtt.specs.Vtts.{has_virtual, shared_views, sub_views, views, HasDynamicClass};
-ghost use Rattle.abi_vtt.specs.invariants.Marks.{AreMarks, marked};
+ghost use Rattle.abi_vtt.specs.Vtts.{has_vtt, shared_views, sub_views, views, HasDynamicClass};
+ghost use Rattle.abi_vtt.specs.invariants.Marks.{AreVirtualMarks, marked};
 
 use crate::marks::{is_marked, virtual_marks};
 use cxx_hierarchy::{Base, ClassId, Hierarchy};
@@ -35,7 +35,7 @@ fn push_views(
     list: &mut SubobjectList,
 ) -> Result<(), NoMemory>
     requires known { c.0 < length h.now }
-    requires marks { AreMarks h.now (length h.now) marks.now }
+    requires marks { AreVirtualMarks h.now (length h.now) marks.now }
     ensures { OnOk result ((n : ℕ) → c.0 < n → list.new ≡ list.old ++ sub_views h.now n x.now c) }
 {
     h.keeps();
@@ -59,8 +59,8 @@ fn push_shared(
     list: &mut SubobjectList,
 ) -> Result<(), NoMemory>
     requires known { v.0 < length h.now }
-    requires marks { AreMarks h.now (length h.now) marks.now }
-    ensures { OnOk result (list.new ≡ list.old ++ flat_map (shared_views h.now) (filter (has_virtual h.now) (v ∷ []))) }
+    requires marks { AreVirtualMarks h.now (length h.now) marks.now }
+    ensures { OnOk result (list.new ≡ list.old ++ flat_map (shared_views h.now) (filter (has_vtt h.now) (v ∷ []))) }
 {
     if is_marked(marks, v) {
         let x = Subobject {

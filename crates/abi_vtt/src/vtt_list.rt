@@ -5,9 +5,9 @@ ghost use Rattle.std.specs.List.{flat_map};
 ghost use Rattle.cxx_hierarchy.specs.declared.records.ClassId.{ClassId};
 ghost use Rattle.cxx_hierarchy.specs.VirtualBases.{HasVirtualBase};
 ghost use Rattle.abi_sound.specs.Places.{places_of};
-ghost use Rattle.abi_vtt.specs.Vtts.{has_virtual, shared_items, IsVtt};
-ghost use Rattle.abi_vtt.specs.invariants.Marks.{AreMarks};
-ghost use Rattle.abi_vtt.specs.invariants.Growing.{Grows};
+ghost use Rattle.abi_vtt.specs.Vtts.{has_vtt, shared_items, IsVtt};
+ghost use Rattle.abi_vtt.specs.invariants.Marks.{AreVirtualMarks};
+ghost use Rattle.abi_vtt.specs.invariants.Growing.{GrowsByVttWords};
 
 use crate::marks::{is_marked, virtual_marks};
 use crate::sub_vtt::push_sub_vtt;
@@ -30,10 +30,10 @@ fn push_shared_vtt<L: SoundLayout>(
     words: &mut VttList,
 ) -> Result<(), NoMemory>
     requires layout { L.lays_out layout.now h.now }
-    requires marks { AreMarks h.now (length h.now) marks.now }
+    requires marks { AreVirtualMarks h.now (length h.now) marks.now }
     requires known { complete.0 < length h.now }
     requires base { HasVirtualBase h.now complete v }
-    ensures { OnOk result (Grows h.now (places_of h.now (L.rows layout.now)) complete (flat_map (shared_items h.now (places_of h.now (L.rows layout.now))) (filter (has_virtual h.now) (v ∷ []))) words.old words.new) }
+    ensures { OnOk result (GrowsByVttWords h.now (places_of h.now (L.rows layout.now)) complete (flat_map (shared_items h.now (places_of h.now (L.rows layout.now))) (filter (has_vtt h.now) (v ∷ []))) words.old words.new) }
 {
     h.keeps();
     if !is_marked(marks, v) {

@@ -12,7 +12,7 @@ use Rattle.abi_slots.specs.declared.words.TypeInfo.{TypeInfo}
 use Rattle.abi_slots.specs.Groups.{GoAlong}
 use Rattle.abi_rtti.specs.TypeInfos.{type_info}
 use Rattle.abi_vtt.specs.Vtts.{IsVttWord}
-use Rattle.abi_tables.specs.Tables.{AreClassTables, IsNamed, names_of, names_to, class_items}
+use Rattle.abi_tables.specs.Tables.{AreClassTables, IsNamed, group_names, names_to, class_items}
 use Rattle.abi_tables.specs.declared.tables.ClassTables.{ClassTables}
 use Rattle.abi_world.specs.Made.{AreTablesTo}
 
@@ -52,7 +52,7 @@ one_more h l n groups new_groups vtts new_vtts infos new_infos tables before of 
 
     more : AreTablesTo h l (n + 1) (groups ++ tables.groups) (vtts ++ tables.vtt ∷ []) (infos ++ tables.info ∷ [])
     more = record {
-      groups_are = subst (λ m. GoAlong (IsNamed h l) (names_to h m) (groups ++ tables.groups)) next (along_both (IsNamed h l) (names_to h n) (names_of h (record { 0 = n })) groups tables.groups before.groups_are of.groups);
+      groups_are = subst (λ m. GoAlong (IsNamed h l) (names_to h m) (groups ++ tables.groups)) next (along_both (IsNamed h l) (names_to h n) (group_names h (record { 0 = n })) groups tables.groups before.groups_are of.groups);
       one_vtt_each = length_pushed vtts tables.vtt ∙ ap (λ m. m + 1) before.one_vtt_each;
       vtts_are = λ d words there. ⊎_elim (λ old. before.vtts_are d words old)
           (λ last. let e : d.0 ≡ n = last.0 ∙ before.one_vtt_each in

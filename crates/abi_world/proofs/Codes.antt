@@ -19,12 +19,12 @@ use Rattle.abi_slots.specs.declared.words.CodeKind.TheVariants.{Plain, Complete,
 use Rattle.abi_slots.specs.CodeRows.{code_of, block_kind}
 use Rattle.abi_slots.specs.Listing.{kinds_in}
 use Rattle.abi_slots.proofs.Lists.{Item, item_none, item_split}
-use Rattle.code_ops.specs.Routines.{IsRoutine, function_of, has_body, kind_of}
+use Rattle.code_ops.specs.Routines.{IsRoutine, function_of_routine, has_body, routine_kind}
 use Rattle.code_ops.specs.Setups.{Setup, Routine, FunctionCode, PlanCode}
 use Rattle.code_ops.specs.declared.routines.Course.TheVariants.{Destroys, Deletes}
-use Rattle.abi_world.specs.Made.{AreNumbered}
+use Rattle.abi_world.specs.Made.{HaveCodeNumbers}
 
-module _ (x : Setup) (codes : List CodeRow) (typed : IsTypedProgram x.h x.program) (numbered : AreNumbered x codes) where
+module _ (x : Setup) (codes : List CodeRow) (typed : IsTypedProgram x.h x.program) (numbered : HaveCodeNumbers x codes) where
   -- a function that is declared, and not pure
   record IsDeclared (f : FunctionId) (signature : Signature) : Type 0 where
     class : Class
@@ -38,7 +38,7 @@ module _ (x : Setup) (codes : List CodeRow) (typed : IsTypedProgram x.h x.progra
   functions_there : (c : ClassId) (class : Class) → class_at x.h c ≡ Some class → functions_of x.h c ≡ class.functions
   functions_there c class there = rw there refl
 
-  has_code : (f : FunctionId) (kind : CodeKind) (r : Routine) → IsRoutine x r → function_of x r ≡ Some f → kind_of r ≡ block_kind kind → (code : ℕ) × (code_of codes f (block_kind kind) ≡ Some code)
+  has_code : (f : FunctionId) (kind : CodeKind) (r : Routine) → IsRoutine x r → function_of_routine x r ≡ Some f → routine_kind r ≡ block_kind kind → (code : ℕ) × (code_of codes f (block_kind kind) ≡ Some code)
   has_code f kind r routine of is = subst (λ (k : BlockKind). (code : ℕ) × (code_of codes f k ≡ Some code)) is (numbered r f routine of)
 
   -- a plain function that is not pure has a body

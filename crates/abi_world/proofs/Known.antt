@@ -25,7 +25,7 @@ use Rattle.abi_slots.specs.declared.words.ThisAdjust.{ThisAdjust}
 use Rattle.abi_slots.specs.declared.words.Table.{Table}
 use Rattle.abi_slots.specs.declared.words.TableWord.{TableWord}
 use Rattle.abi_slots.specs.declared.words.TableWord.TheVariants.{Top, Info, Entry}
-use Rattle.abi_slots.specs.Groups.{IsGroup, IsTable, IsOffsetWord, IsEntryWord, to_base, to_overrider, nothing, runs, between, view_of}
+use Rattle.abi_slots.specs.Groups.{IsGroup, IsTable, IsOffsetWord, IsEntryWord, to_base, to_overrider, nothing, runs, between, view_of_group}
 use Rattle.abi_slots.specs.Listing.{entries}
 use Rattle.abi_slots.specs.Views.{View, IsView, heads, seen}
 use Rattle.abi_slots.proofs.ClassEntries.{IsOwnKey, entry_own}
@@ -35,7 +35,7 @@ use Rattle.abi_vtable.proofs.Parts.{class_known}
 use Rattle.abi_tables.specs.Tables.{AreGroups, names_to}
 use Rattle.code_ops.specs.Setups.{Setup, places}
 use Rattle.abi_image.specs.Conditions.{HasCode, IsKnownWord, IsKnownTable, AreKnownTables, AreKnownGroups}
-use Rattle.abi_world.specs.Made.{AreNumbered}
+use Rattle.abi_world.specs.Made.{HaveCodeNumbers}
 use Rattle.abi_world.proofs.Codes.{code_there}
 
 -- what is at a place of a reversed list is an item of the list
@@ -47,7 +47,7 @@ reversed_has xs n x e =
     let there : slice_get (reverse (reverse xs)) i ≡ Some x = reversed_at (reverse xs) n i x e (omega (arith, inside)) in
     has_at xs i x (subst (λ ys. slice_get ys i ≡ Some x) (reverse-reverse xs) there)
 
-module _ (x : Setup) (codes : List CodeRow) (keeps : IsHierarchy x.h) (typed : IsTypedProgram x.h x.program) (numbered : AreNumbered x codes) where
+module _ (x : Setup) (codes : List CodeRow) (keeps : IsHierarchy x.h) (typed : IsTypedProgram x.h x.program) (numbered : HaveCodeNumbers x codes) where
   abbrev l : Places
   l = places x
 
@@ -113,8 +113,8 @@ module _ (x : Setup) (codes : List CodeRow) (keeps : IsHierarchy x.h) (typed : I
   group_fine group of i table there =
       let size = of.tables.size in
       let inside = slice_get_within group.tables i table there in
-      let t = get_within (heads x.h l (view_of group of.class)) i (omega (arith, size, inside)) in
-      table_fine (view_of group of.class) t.0 table of.view (of.tables.each i t.0 table t.1 there)
+      let t = get_within (heads x.h l (view_of_group group of.class)) i (omega (arith, size, inside)) in
+      table_fine (view_of_group group of.class) t.0 table of.view (of.tables.each i t.0 table t.1 there)
 
   pub groups_fine : (groups : List Group) → AreGroups x.h l groups → AreKnownGroups codes (length x.h) groups
   groups_fine groups are i group there =

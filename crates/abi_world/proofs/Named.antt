@@ -17,10 +17,10 @@ use Rattle.abi_sound.specs.Places.{Places}
 use Rattle.abi_slots.specs.declared.words.Group.{Group}
 use Rattle.abi_slots.specs.declared.words.GroupName.{GroupName}
 use Rattle.abi_slots.specs.declared.words.VttWord.{VttWord}
-use Rattle.abi_slots.specs.Groups.{GoAlong, IsGroup, view_of}
+use Rattle.abi_slots.specs.Groups.{GoAlong, IsGroup, view_of_group}
 use Rattle.abi_slots.specs.Views.{View, heads, is_dynamic}
 use Rattle.abi_slots.proofs.WordPlaces.{partner}
-use Rattle.abi_vtt.specs.Vtts.{Item, item, items, has_virtual, built_bases, below, needs_word, sub_items, shared_items, sub_views, shared_views, views, words_of_bases, IsVttWord}
+use Rattle.abi_vtt.specs.Vtts.{VttEntry, item, vtt_items, has_vtt, bases_with_tables, extended_by, needs_word, sub_items, shared_items, sub_views, shared_views, views, words_of_bases, IsVttWord}
 use Rattle.abi_tables.specs.Counts.{group_views}
 use Rattle.abi_tables.specs.Tables.{AreGroups, IsNamed, group_name, names_to, class_items}
 use Rattle.agree_events.proofs.Names.{has_names}
@@ -29,35 +29,35 @@ use Rattle.abi_image.specs.Conditions.{HasTable, NameTables, AllNameTables}
 use Rattle.abi_world.specs.Made.{AreAllTables}
 
 -- the views of the items of a sub-VTT are its views
-sub_viewed : (h : Classes) (l : Places) (n : ℕ) (x : Subobject) (c : ClassId) (i : Item) → Has (sub_items h l n x c) i → Has (sub_views h n x c) i.view
+sub_viewed : (h : Classes) (l : Places) (n : ℕ) (x : Subobject) (c : ClassId) (i : VttEntry) → Has (sub_items h l n x c) i → Has (sub_views h n x c) i.view
 sub_viewed h l zero x c i has = absurd has
 sub_viewed h l (suc n) x c i has = ⊎_elim
-    (λ same. inl (ap (λ (j : Item). j.view) same))
+    (λ same. inl (ap (λ (j : VttEntry). j.view) same))
     (λ rest. ⊎_elim
     (λ bases.
-    let r = from_flat_map (λ (base : Base ClassId). sub_items h l n (below x base.class) base.class) (built_bases h c) i bases in
-    inr (has_flat_map (λ (base : Base ClassId). sub_views h n (below x base.class) base.class) (built_bases h c) r.0 i.view r.1 (sub_viewed h l n (below x r.0.class) r.0.class i r.2)))
-    (λ words. let r = from_map (item x) (filter (needs_word h l) (preorder h c)) i words in inl (ap (λ (j : Item). j.view) r.2))
-    (has_cases (flat_map (λ (base : Base ClassId). sub_items h l n (below x base.class) base.class) (built_bases h c)) (words_of_bases h l x c) i rest))
+    let r = from_flat_map (λ (base : Base ClassId). sub_items h l n (extended_by x base.class) base.class) (bases_with_tables h c) i bases in
+    inr (has_flat_map (λ (base : Base ClassId). sub_views h n (extended_by x base.class) base.class) (bases_with_tables h c) r.0 i.view r.1 (sub_viewed h l n (extended_by x r.0.class) r.0.class i r.2)))
+    (λ words. let r = from_map (item x) (filter (needs_word h l) (preorder h c)) i words in inl (ap (λ (j : VttEntry). j.view) r.2))
+    (has_cases (flat_map (λ (base : Base ClassId). sub_items h l n (extended_by x base.class) base.class) (bases_with_tables h c)) (words_of_bases h l x c) i rest))
     has
 
-all_viewed : (h : Classes) (l : Places) (c : ClassId) (i : Item) → Has (items h l c) i → Has (views h c) i.view
+all_viewed : (h : Classes) (l : Places) (c : ClassId) (i : VttEntry) → Has (vtt_items h l c) i → Has (views h c) i.view
 all_viewed h l c i has = ⊎_elim
     (λ first. has_left (sub_views h (c.0 + 1) (whole_of c) c) _ i.view (sub_viewed h l (c.0 + 1) (whole_of c) c i first))
     (λ rest.
-    let r = from_flat_map (shared_items h l) (filter (has_virtual h) (virtual_bases h c)) i rest in
+    let r = from_flat_map (shared_items h l) (filter (has_vtt h) (virtual_bases h c)) i rest in
     has_right (sub_views h (c.0 + 1) (whole_of c) c) _ i.view
-    (has_flat_map (shared_views h) (filter (has_virtual h) (virtual_bases h c)) r.0 i.view r.1 (sub_viewed h l (r.0.0 + 1) (shared_base r.0) r.0 i r.2)))
-    (has_cases (sub_items h l (c.0 + 1) (whole_of c) c) (flat_map (shared_items h l) (filter (has_virtual h) (virtual_bases h c))) i has)
+    (has_flat_map (shared_views h) (filter (has_vtt h) (virtual_bases h c)) r.0 i.view r.1 (sub_viewed h l (r.0.0 + 1) (shared_base r.0) r.0 i r.2)))
+    (has_cases (sub_items h l (c.0 + 1) (whole_of c) c) (flat_map (shared_items h l) (filter (has_vtt h) (virtual_bases h c))) i has)
 
-pub item_viewed : (h : Classes) (l : Places) (c : ClassId) (i : Item) → Has (class_items h l c) i → Has (group_views h c) i.view
-item_viewed h l c i has = split (has_virtual h c) (λ b. Has (if b then items h l c else []) i → Has (if b then views h c else (if is_dynamic h c then whole_of c ∷ [] else [])) i.view)
+pub item_viewed : (h : Classes) (l : Places) (c : ClassId) (i : VttEntry) → Has (class_items h l c) i → Has (group_views h c) i.view
+item_viewed h l c i has = split (has_vtt h c) (λ b. Has (if b then vtt_items h l c else []) i → Has (if b then views h c else (if is_dynamic h c then whole_of c ∷ [] else [])) i.view)
     (λ t there. all_viewed h l c i there)
     (λ t none. absurd none)
     has
 
 -- a word that is for an item of the VTT of a class names a table
-pub word_names : (h : Classes) (l : Places) (groups : List Group) → AreGroups h l groups → (c : ClassId) → c.0 < length h → (i : Item) (word : VttWord) → Has (class_items h l c) i → IsVttWord h l c i word → HasTable groups word.group word.table
+pub word_names : (h : Classes) (l : Places) (groups : List Group) → AreGroups h l groups → (c : ClassId) → c.0 < length h → (i : VttEntry) (word : VttWord) → Has (class_items h l c) i → IsVttWord h l c i word → HasTable groups word.group word.table
 word_names h l groups are c known i word has is =
     let name = group_name c i.view in
     let listed = has_names h (length h) c name known (has_map (group_name c) (group_views h c) i.view (item_viewed h l c i has)) in
@@ -69,9 +69,9 @@ word_names h l groups are c known i word has is =
     let of : IsGroup h l group = named.group in
     let both : Some is.class ≡ Some of.class = sym is.of_class ∙ (ap (λ (n : GroupName). class_of n.view) (sym named.is) ∙ of.view.of_class) in
     let class : is.class ≡ of.class = cc in
-    let view : view_of group of.class ≡ record { complete = c; at_sub = i.view; class = is.class } = λ k. record { complete = (named.is k).complete; at_sub = (named.is k).view; class = sym class k } in
-    let there : slice_get (heads h l (view_of group of.class)) word.table ≡ Some is.head = subst (λ (x : View). slice_get (heads h l x) word.table ≡ Some is.head) (sym view) is.there in
-    let inside = slice_get_within (heads h l (view_of group of.class)) word.table is.head there in
+    let view : view_of_group group of.class ≡ record { complete = c; at_sub = i.view; class = is.class } = λ k. record { complete = (named.is k).complete; at_sub = (named.is k).view; class = sym class k } in
+    let there : slice_get (heads h l (view_of_group group of.class)) word.table ≡ Some is.head = subst (λ (x : View). slice_get (heads h l x) word.table ≡ Some is.head) (sym view) is.there in
+    let inside = slice_get_within (heads h l (view_of_group group of.class)) word.table is.head there in
     let size = of.tables.size in
     record { number = at.0; group = group; there = found.1; named = named.is ∙ same_name; inside = omega (arith, size, inside) }
 

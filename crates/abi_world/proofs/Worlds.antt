@@ -14,10 +14,10 @@ use Rattle.abi_slots.specs.declared.code_numbers.CodeRow.{CodeRow}
 use Rattle.code_ops.specs.Setups.{Setup, places}
 use Rattle.code_blocks.specs.Lowered.{IsLowered}
 use Rattle.agree_relation.specs.Worlds.{World}
-use Rattle.abi_world.specs.Made.{AreNumbered, HasImage}
+use Rattle.abi_world.specs.Made.{HaveCodeNumbers, HasImage}
 use Rattle.abi_world.specs.Worlds.{HasWorld}
 
-pub are_numbered : (x : Setup) (code : Code) (numbers : List CodeRow) → IsLowered x code numbers → AreNumbered x numbers
+pub are_numbered : (x : Setup) (code : Code) (numbers : List CodeRow) → IsLowered x code numbers → HaveCodeNumbers x numbers
 are_numbered x code numbers lowered = λ r f routine of. (_, lowered.numbered r f routine of)
 
 module _ (x : Setup) (code : Code) (numbers : List CodeRow) (image : ImageBytes) where

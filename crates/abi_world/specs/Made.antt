@@ -15,7 +15,7 @@ use Rattle.abi_rtti.specs.TypeInfos.{type_info}
 use Rattle.abi_vtt.specs.Vtts.{IsVttWord}
 use Rattle.cxx_overrider.specs.declared.FunctionId.{FunctionId}
 use Rattle.abi_slots.specs.CodeRows.{code_of}
-use Rattle.code_ops.specs.Routines.{IsRoutine, function_of, kind_of}
+use Rattle.code_ops.specs.Routines.{IsRoutine, function_of_routine, routine_kind}
 use Rattle.code_ops.specs.Setups.{Setup, Routine}
 use Rattle.abi_tables.specs.Tables.{IsNamed, names_to, class_items}
 
@@ -42,5 +42,5 @@ pub record HasImage (h : Classes) (l : Places) (numbers : List CodeRow) (image :
   pub small : image.base + length image.bytes < 2 ^ 63
 
 -- each routine has a number
-abbrev pub AreNumbered : Setup → List CodeRow → Type 0
-AreNumbered x codes = (r : Routine) (f : FunctionId) → IsRoutine x r → function_of x r ≡ Some f → (code : ℕ) × (code_of codes f (kind_of r) ≡ Some code)
+abbrev pub HaveCodeNumbers : Setup → List CodeRow → Type 0
+HaveCodeNumbers x codes = (r : Routine) (f : FunctionId) → IsRoutine x r → function_of_routine x r ≡ Some f → (code : ℕ) × (code_of codes f (routine_kind r) ≡ Some code)

@@ -6,11 +6,11 @@ use Rattle.byte_machine.specs.Running.{Fixed}
 use Rattle.byte_machine.specs.Turn.{fixed_of}
 use Rattle.code_ops.specs.Setups.{Setup}
 use Rattle.abi_slots.specs.declared.code_numbers.CodeRow.{CodeRow}
-use Rattle.agree_relation.specs.Worlds.{World, IsWorld, fixed}
+use Rattle.agree_relation.specs.Worlds.{World, IsProgramWorld, fixed}
 
 -- the world of a program, with this code and these numbers of its functions, and what no op of its machine changes
 pub record IsWorldOf (x : Setup) (code : Code) (numbers : List CodeRow) (f : Fixed) (w : World) : Type 0 where
-  pub world : IsWorld w
+  pub world : IsProgramWorld w
   pub setup : w.setup ≡ x
   pub code_is : w.code ≡ code
   pub numbers_are : w.numbers ≡ numbers

@@ -6,7 +6,7 @@ ghost use Rattle.cxx_overrider.specs.Overriders.{AreOverriders};
 ghost use Rattle.cxx_program.specs.Typed.{IsTypedProgram};
 ghost use Rattle.path_model.specs.States.{is_body};
 ghost use Rattle.abi_sound.specs.Places.{places_of};
-ghost use Rattle.abi_tables.specs.Counts.{all_words, most_words};
+ghost use Rattle.abi_tables.specs.Counts.{words_of_all_classes, most_words};
 ghost use Rattle.code_ops.specs.Setups.{setup};
 ghost use Rattle.abi_lower.specs.Bounds.{IsSmall};
 ghost use Rattle.code_blocks.specs.Lowered.{IsLowered};
@@ -44,7 +44,7 @@ pub fn build<L: SoundLayout>(
 ) -> Result<Built, NoMemory>
     requires layout { L.lays_out layout.now h.now }
     requires overriders { AreOverriders h.now overriders.now }
-    requires words { all_words h.now (places_of h.now (L.rows layout.now)) ≤ most_words }
+    requires words { words_of_all_classes h.now (places_of h.now (L.rows layout.now)) ≤ most_words }
     requires typed { IsTypedProgram h.now program.now }
     requires main { is_body program.now.main ≡ true }
     requires small { IsSmall program.now }

@@ -6,7 +6,7 @@ ghost use Rattle.cxx_program.specs.Typed.{IsTypedProgram};
 ghost use Rattle.abi_sound.specs.Places.{places_of};
 ghost use Rattle.abi_slots.specs.Slots.{AreSlots};
 ghost use Rattle.code_ops.specs.Setups.{setup};
-ghost use Rattle.abi_world.specs.Made.{AreNumbered, HasImage};
+ghost use Rattle.abi_world.specs.Made.{HaveCodeNumbers, HasImage};
 
 use crate::tables::program_tables;
 use abi_image::encode;
@@ -45,7 +45,7 @@ pub fn program_image<L: SoundLayout>(
     requires overriders { AreOverriders h.now overriders.now }
     requires slots { AreSlots h.now (places_of h.now (L.rows layout.now)) slots.now }
     requires typed { IsTypedProgram h.now program.now }
-    requires numbered { AreNumbered (setup h.now (L.rows layout.now) program.now) numbers.now }
+    requires numbered { HaveCodeNumbers (setup h.now (L.rows layout.now) program.now) numbers.now }
     ensures { IfOk result (HasImage h.now (places_of h.now (L.rows layout.now)) numbers.now) }
 {
     h.keeps();

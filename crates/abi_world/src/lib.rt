@@ -6,7 +6,7 @@
 //! code has a number.
 //!
 //! It owns `AreAllTables`, `HasImage` (`specs/Made.antt`), `IsWorldOf` and `HasWorld` (`specs/Worlds.antt`). The layer above may rely
-//! on `build`: what it gives is that of a world in which a byte state may stand for a state of the program (`IsWorld` of
+//! on `build`: what it gives is that of a world in which a byte state may stand for a state of the program (`IsProgramWorld` of
 //! agree_relation), over whatever sound layout.
 #![tactic(auto)]
 

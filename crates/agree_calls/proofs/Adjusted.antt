@@ -10,7 +10,7 @@ use Rattle.agree_parts.proofs.Made.{inner_is_made, shared_made}
 use Rattle.agree_parts.proofs.Sums.{to_inner}
 use Rattle.agree_parts.specs.Addresses.{address}
 use Rattle.agree_parts.specs.Heaps.{Heap}
-use Rattle.agree_parts.specs.Placed.{IsLaid}
+use Rattle.agree_parts.specs.Placed.{AreObjectsLaid}
 use Rattle.abi_slots.specs.Groups.{return_constant as made_constant}
 use Rattle.abi_slots.specs.Images.{return_constant, return_vbase}
 use Rattle.abi_slots.specs.Listing.{vbase_number}
@@ -18,11 +18,11 @@ use Rattle.abi_slots.specs.Slots.{word_number}
 use Rattle.abi_sound.proofs.PlaceLemmas.{joined}
 use Rattle.agree_relation.proofs.Moved.{moved_to_part}
 use Rattle.agree_relation.specs.Frames.{constant_added, vbase_added}
-use Rattle.agree_relation.specs.Worlds.{IsWorld, World, classes_in, places_in}
+use Rattle.agree_relation.specs.Worlds.{IsProgramWorld, World, world_classes, places_in}
 use Rattle.byte_code.specs.Numbers.{word_of}
 use Rattle.byte_machine.proofs.CallLeads.{moved_by_some}
 use Rattle.byte_machine.specs.Calls.{moved_by_word}
-use Rattle.byte_machine.specs.Plans.{word_bytes}
+use Rattle.byte_machine.specs.Plans.{word_offset}
 use Rattle.byte_machine.specs.Running.{moved}
 use Rattle.byte_memory.specs.Store.{Store}
 use Rattle.cxx_hierarchy.specs.VirtualBases.{HasVirtualBase}
@@ -51,7 +51,7 @@ constant_of_constant (suc n) = refl
 difference : (a k : ℕ) → pos (a + k) -ℤ pos a ≡ pos k
 difference a k = omega (arith, ints)
 
-module _ (w : World) (world : IsWorld w) (g : Heap) (memory : Store) (is_laid : IsLaid (classes_in w) w.setup.rows g) where
+module _ (w : World) (world : IsProgramWorld w) (g : Heap) (memory : Store) (is_laid : AreObjectsLaid (world_classes w) w.setup.rows g) where
   abbrev pub vbase_kept : ClassId → Subobject → ℕ
   vbase_kept c i = vbase_added w (Some c) (ToBase i)
 
@@ -62,47 +62,47 @@ module _ (w : World) (world : IsWorld w) (g : Heap) (memory : Store) (is_laid : 
   plain_vbase c path = ap word_of (vbase_of_constant ((places_in w).place c (subobject Whole path)))
 
   -- in no virtual base
-  pub plain_moved : (p : ObjectPart) (c : ClassId) (path : List ClassId) → IsPartMade (classes_in w) g.classes p c → IsSubobject (classes_in w) c (subobject Whole path) →
-      IsMoved w.image memory (address (classes_in w) (places_in w) g p) (vbase_kept c (subobject Whole path)) (constant_kept c (subobject Whole path)) (address (classes_in w) (places_in w) g (inner_part p (subobject Whole path)))
+  pub plain_moved : (p : ObjectPart) (c : ClassId) (path : List ClassId) → IsPartMade (world_classes w) g.classes p c → IsSubobject (world_classes w) c (subobject Whole path) →
+      IsMoved w.image memory (address (world_classes w) (places_in w) g p) (vbase_kept c (subobject Whole path)) (constant_kept c (subobject Whole path)) (address (world_classes w) (places_in w) g (inner_part p (subobject Whole path)))
   plain_moved p c path made valid =
       let i = subobject Whole path in
-      let at = address (classes_in w) (places_in w) g p in
+      let at = address (world_classes w) (places_in w) g p in
       let n = (places_in w).place c i in
-      let d = class_there (classes_in w) c i valid in
-      let low = part_limit (classes_in w) w.setup.rows g (inner_part p i) d.0 is_laid (inner_is_made (classes_in w) g p c d.0 i made valid d.1) in
-      let sum = to_inner (classes_in w) w.setup.rows g p c i made valid refl in
+      let d = class_there (world_classes w) c i valid in
+      let low = part_limit (world_classes w) w.setup.rows g (inner_part p i) d.0 is_laid (inner_is_made (world_classes w) g p c d.0 i made valid d.1) in
+      let sum = to_inner (world_classes w) w.setup.rows g p c i made valid refl in
       let word : constant_kept c i ≡ n = ap word_of (constant_of_constant n) ∙ small_word n (omega (arith, low, sum)) in
       record {
         base = at;
         by_word = ap (moved_by_word w.image memory at) (plain_vbase c path);
-        by_constant = ap (moved at) word ∙ moved_to_part (classes_in w) w.setup.rows g at n (inner_part p i) d.0 is_laid (inner_is_made (classes_in w) g p c d.0 i made valid d.1) sum;
+        by_constant = ap (moved at) word ∙ moved_to_part (world_classes w) w.setup.rows g at n (inner_part p i) d.0 is_laid (inner_is_made (world_classes w) g p c d.0 i made valid d.1) sum;
       }
 
   -- the words of a virtual base
   record VbaseWords (c v : ClassId) (path : List ClassId) : Type 0 where
-    kept : vbase_kept c (subobject (Shared v) path) ≡ word_bytes (word_number (vbase_number (classes_in w) (places_in w) c v))
+    kept : vbase_kept c (subobject (Shared v) path) ≡ word_offset (word_number (vbase_number (world_classes w) (places_in w) c v))
     some : vbase_kept c (subobject (Shared v) path) ≡ 0 → ⊥
 
-  vbase_words : (c v : ClassId) (path : List ClassId) → c.0 < length (classes_in w) → HasVirtualBase (classes_in w) c v → VbaseWords c v path
+  vbase_words : (c v : ClassId) (path : List ClassId) → c.0 < length (world_classes w) → HasVirtualBase (world_classes w) c v → VbaseWords c v path
   vbase_words c v path known has =
-      let n = vbase_number (classes_in w) (places_in w) c v in
-      let small = vbase_small (classes_in w) w.setup.rows world.hierarchy world.sound c v known has in
+      let n = vbase_number (world_classes w) (places_in w) c v in
+      let small = vbase_small (world_classes w) w.setup.rows world.hierarchy world.sound c v known has in
       let words = offset_word n (omega (arith, small)) in
       record { kept = words ∙ sym (number_word n (omega (arith, small))); some = λ e. absurd (omega (arith, small, words, e)) }
 
-  pub shared_some : (p : ObjectPart) (c v : ClassId) (path : List ClassId) → IsPartMade (classes_in w) g.classes p c → HasVirtualBase (classes_in w) c v → vbase_kept c (subobject (Shared v) path) ≡ 0 → ⊥
-  shared_some p c v path made has = (vbase_words c v path (known_class (classes_in w) w.setup.rows g p c is_laid made) has).some
+  pub shared_some : (p : ObjectPart) (c v : ClassId) (path : List ClassId) → IsPartMade (world_classes w) g.classes p c → HasVirtualBase (world_classes w) c v → vbase_kept c (subobject (Shared v) path) ≡ 0 → ⊥
+  shared_some p c v path made has = (vbase_words c v path (known_class (world_classes w) w.setup.rows g p c is_laid made) has).some
 
   -- behind a virtual base, from where the part stands in a view
-  pub shared_moved : (p : ObjectPart) (c v : ClassId) (path : List ClassId) → IsSeenFrom w g memory p c → IsPartMade (classes_in w) g.classes p c → HasVirtualBase (classes_in w) c v → PathLeads (classes_in w) v path →
-      IsMoved w.image memory (address (classes_in w) (places_in w) g p) (vbase_kept c (subobject (Shared v) (v ∷ path))) (constant_kept c (subobject (Shared v) (v ∷ path))) (address (classes_in w) (places_in w) g (inner_part p (subobject (Shared v) (v ∷ path))))
+  pub shared_moved : (p : ObjectPart) (c v : ClassId) (path : List ClassId) → IsSeenFrom w g memory p c → IsPartMade (world_classes w) g.classes p c → HasVirtualBase (world_classes w) c v → PathLeads (world_classes w) v path →
+      IsMoved w.image memory (address (world_classes w) (places_in w) g p) (vbase_kept c (subobject (Shared v) (v ∷ path))) (constant_kept c (subobject (Shared v) (v ∷ path))) (address (world_classes w) (places_in w) g (inner_part p (subobject (Shared v) (v ∷ path))))
   shared_moved p c v path seen made has leads =
-      let h = classes_in w in
+      let h = world_classes w in
       let at = address h (places_in w) g p in
       let inner = subobject Whole (v ∷ path) in
       let a = (places_in w).place c (shared_base v) in
       let k = (places_in w).place v inner in
-      let bytes = word_bytes (word_number (vbase_number h (places_in w) c v)) in
+      let bytes = word_offset (word_number (vbase_number h (places_in w) c v)) in
       let words = vbase_words c v (v ∷ path) (known_class h w.setup.rows g p c is_laid made) has in
       let m = seen_base w g memory p c v seen has in
       let base_there = shared_made h g p c v made has in

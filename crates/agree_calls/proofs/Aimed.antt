@@ -22,8 +22,8 @@ use Rattle.path_model.specs.Order.{asked_views, first_broken, sorted}
 use Rattle.path_model.specs.Rules.{is_outside, is_unready, names, refused}
 use Rattle.path_model.specs.Typed.{AllSettled}
 use Rattle.path_model.specs.TypedStates.{IsPartMade}
-use Rattle.path_model.specs.Uses.{Guards, Reads, Use, Views, argument_uses, arrow, goes_to, is_shared, is_shared_way, views}
-use Rattle.path_model.specs.Values.{Objects, Pointer, Sight, Value, inner_part, to_base, value}
+use Rattle.path_model.specs.Uses.{Guards, Reads, StatementUse, Views, argument_uses, arrow, goes_to, is_shared, is_shared_way, uses_of_view}
+use Rattle.path_model.specs.Values.{Objects, Pointer, Sight, Value, inner_part, to_base, value_of_operand}
 use Rattle.path_plan.specs.Places.{part}
 use Rattle.path_plan.specs.Views.{Settled}
 use Rattle.path_rules.specs.declared.Undefined.TheVariants.{Dangling, NotReady, OutsideView}
@@ -75,7 +75,7 @@ pub record IsAimed (h : Classes) (s : Objects) (call : TypedCall) (v : Value) : 
 
 module _ (h : Classes) (keeps : IsHierarchy h) (see : Sight) (settled : AllSettled h see.objects) (e : Scope) (sees : IsTypedSight h e see) (call : TypedCall) (d : FunctionRecord ClassId) (c : IsCall h e call d) (clear : first_broken h see.objects (sorted (front_uses see call)) ≡ None) where
   abbrev v : Value
-  v = value see call.pointer
+  v = value_of_operand see call.pointer
 
   abbrev needed : Bool
   needed = call.is_dispatched || is_shared_way call.qualifier
@@ -83,25 +83,25 @@ module _ (h : Classes) (keeps : IsHierarchy h) (see : Sight) (settled : AllSettl
   none : refused h see.objects (front_uses see call) ≡ None
   none = (by_sort h see.objects (front_uses see call)).same ∙ clear
 
-  pointer_names : NamesPart h see.objects (value see call.pointer) call.class
-  pointer_names = followed h see.objects (front_uses see call) none (value see call.pointer) (inl refl) (inr (inl refl)) call.class (operand_typed h e see sees call.pointer (PointerType call.class) c.pointer)
+  pointer_names : NamesPart h see.objects (value_of_operand see call.pointer) call.class
+  pointer_names = followed h see.objects (front_uses see call) none (value_of_operand see call.pointer) (inl refl) (inr (inl refl)) call.class (operand_typed h e see sees call.pointer (PointerType call.class) c.pointer)
 
-  asked : (u : Use) → Has (asked_views (call.is_dispatched || is_shared_way call.qualifier) call (value see call.pointer)) u → Has (front_uses see call) u
+  asked : (u : StatementUse) → Has (asked_views (call.is_dispatched || is_shared_way call.qualifier) call (value_of_operand see call.pointer)) u → Has (front_uses see call) u
   asked u has = has_right (arrow v) (asked_views needed call v ++ flat_map (argument_uses see) call.arguments) u (has_left (asked_views needed call v) (flat_map (argument_uses see) call.arguments) u has)
 
   -- the view that is asked for
-  seen_by : (x : Bool) → (call.is_dispatched || is_shared_way call.qualifier) ≡ x → x ≡ true → names (is_outside h see.objects) (value see call.pointer) ≡ false
+  seen_by : (x : Bool) → (call.is_dispatched || is_shared_way call.qualifier) ≡ x → x ≡ true → names (is_outside h see.objects) (value_of_operand see call.pointer) ≡ false
   seen_by true is _ = unbroken h see.objects (front_uses see call) none (Views v) (asked (Views v) (subst (λ (x : Bool). Has (asked_views x call v) (Views v)) (sym is) (inl refl))) OutsideView
   seen_by false is e = let f : false ≡ true = e in absurd (cc)
 
-  way_by : (x y : Bool) → (call.is_dispatched || is_shared_way call.qualifier) ≡ x → is_shared call.base ≡ y → x ≡ false → y ≡ true → names (is_outside h see.objects) (goes_to call.qualifier (value see call.pointer)) ≡ false
+  way_by : (x y : Bool) → (call.is_dispatched || is_shared_way call.qualifier) ≡ x → is_shared call.base ≡ y → x ≡ false → y ≡ true → names (is_outside h see.objects) (goes_to call.qualifier (value_of_operand see call.pointer)) ≡ false
   way_by true y is base f g = let k : true ≡ false = f in absurd (cc)
   way_by false false is base f g = let k : false ≡ true = g in absurd (cc)
   way_by false true is base f g =
       let w = goes_to call.qualifier v in
-      unbroken h see.objects (front_uses see call) none (Views w) (asked (Views w) (subst (λ (x : Bool). Has (asked_views x call v) (Views w)) (sym is) (subst (λ (y : Bool). Has (views y w) (Views w)) (sym base) (inl refl)))) OutsideView
+      unbroken h see.objects (front_uses see call) none (Views w) (asked (Views w) (subst (λ (x : Bool). Has (asked_views x call v) (Views w)) (sym is) (subst (λ (y : Bool). Has (uses_of_view y w) (Views w)) (sym base) (inl refl)))) OutsideView
 
-  pub aimed : IsAimed h see.objects call (value see call.pointer)
+  pub aimed : IsAimed h see.objects call (value_of_operand see call.pointer)
   aimed =
       let n = pointer_names in
       let s = see.objects in

@@ -6,7 +6,7 @@ use Rattle.agree_calls.proofs.Kept.{taken_kept, unused_kept}
 use Rattle.code_blocks.specs.Blocks.{statement_ops}
 use Rattle.abi_slots.specs.Listing.{pointee}
 use Rattle.agree_relation.specs.Agrees.{Agrees}
-use Rattle.agree_relation.specs.Worlds.{classes_in, fixed}
+use Rattle.agree_relation.specs.Worlds.{world_classes, fixed}
 use Rattle.code_statements.specs.Rights.{result_class, result_taken, unused}
 use Rattle.agree_statements.proofs.Assignments.{assign_does, count_unset, declare_does, sees_unset}
 use Rattle.agree_statements.proofs.Givens.{value_of, way_given}
@@ -34,7 +34,7 @@ use Rattle.path_model.proofs.TypedValues.{IsTypedSight, operand_typed}
 use Rattle.path_model.specs.Effects.{taker}
 use Rattle.path_model.specs.States.{sight}
 use Rattle.path_model.specs.Typed.{IsCallAt}
-use Rattle.path_model.specs.Values.{Sight, Unset, value}
+use Rattle.path_model.specs.Values.{Sight, Unset, value_of_operand}
 use Rattle.std.proofs.Common.{◌≡◌, ℕ, Some, None, refl, set}
 use Rattle.std.specs.Prelude.{slice_get}
 
@@ -46,7 +46,7 @@ right_typed : (h : Classes) (e : Scope) (call : TypedCall) (c : Conversion) (t :
 right_typed h e _ c _ (a_right _ _ t (a_result call d _ is ret) to) = (d, is)
 
 call_given : (h : Classes) (e : Scope) (see : Sight) (call : TypedCall) (d : FunctionRecord ClassId) → IsTypedSight h e see → IsCall h e call d → IsCallAt h see call
-call_given h e see call d sees c = (value_of h see.objects (value see call.pointer) call.class (operand_typed h e see sees call.pointer (PointerType call.class) c.pointer), way_given h call.class c.through call.qualifier c.way)
+call_given h e see call d sees c = (value_of h see.objects (value_of_operand see call.pointer) call.class (operand_typed h e see sees call.pointer (PointerType call.class) c.pointer), way_given h call.class c.through call.qualifier c.way)
 
 module _ (call : TypedCall) (line next : ℕ) (scene : Scene (record { kind = Call call; line = line; next = next })) where
   open scene use {w, at, s, f, below, body, b}
@@ -56,7 +56,7 @@ module _ (call : TypedCall) (line next : ℕ) (scene : Scene (record { kind = Ca
 
   calling : Calling scene f.locals call None (unused w.setup call.function)
   calling =
-      let h = classes_in w in
+      let h = world_classes w in
       let k = call_typed h (scope scene) call (kind_typed scene) in
       let given = call_given h (scope scene) (sight s f) call k.0 (sees scene) k.1 in
       record {
@@ -84,14 +84,14 @@ module _ (variable : Variable) (call : TypedCall) (c : Conversion) (line next : 
   assignment = record { kind = Assign variable (record { right = CallRight call; conversion = c }); line = line; next = next }
 
   abbrev taken : ResultUse
-  taken = result_taken (block scene) variable (pointee (return_of (classes_in w) call.function)) (result_class w.setup call.function) c
+  taken = result_taken (block scene) variable (pointee (return_of (world_classes w) call.function)) (result_class w.setup call.function) c
 
   assigned_type : (h : Classes) (e : Scope) (x : Converted) → IsTyped h e (Assign variable x) → (t : ValueType ClassId) × IsConverted h e x t
   assigned_type h e _ (assigns _ x t there typed) = (t, typed)
 
   assigned_calling : Calling scene f.locals call (taker variable c) taken
   assigned_calling =
-      let h = classes_in w in
+      let h = world_classes w in
       let x = assigned_type h (scope scene) (call_right call c) (kind_typed scene) in
       let k = right_typed h (scope scene) call c x.0 x.1 in
       let given = call_given h (scope scene) (sight s f) call k.0 (sees scene) k.1 in
@@ -116,7 +116,7 @@ module _ (n : ℕ) (call : TypedCall) (c : Conversion) (line next : ℕ) (scene 
   declaration = record { kind = Declare n (Some (record { right = CallRight call; conversion = c })); line = line; next = next }
 
   abbrev initial : ResultUse
-  initial = result_taken (block scene) (Local n) (pointee (return_of (classes_in w) call.function)) (result_class w.setup call.function) c
+  initial = result_taken (block scene) (Local n) (pointee (return_of (world_classes w) call.function)) (result_class w.setup call.function) c
 
   record IsDeclared (h : Classes) (e : Scope) (x : Converted) : Type 0 where
     type : ValueType ClassId
@@ -129,7 +129,7 @@ module _ (n : ℕ) (call : TypedCall) (c : Conversion) (line next : ℕ) (scene 
   -- the local is unset before the call
   declared_calling : Calling scene (set f.locals n Unset) call (taker (Local n) c) initial
   declared_calling =
-      let h = classes_in w in
+      let h = world_classes w in
       let x = declared_type h (scope scene) (call_right call c) (kind_typed scene) in
       let k = right_typed h (scope scene) call c x.type x.typed in
       let seen = sees_unset scene n x.type x.there in

@@ -14,7 +14,7 @@ use Rattle.abi_slots.proofs.Dynamics.{dynamic_whole, virtual_dynamic}
 use Rattle.agree_relation.proofs.Moved.{moved_to_part}
 use Rattle.agree_relation.specs.Columns.{ColumnsStand}
 use Rattle.agree_relation.specs.Words.{register_word}
-use Rattle.agree_relation.specs.Worlds.{IsWorld, World, classes_in, fixed, places_in}
+use Rattle.agree_relation.specs.Worlds.{IsProgramWorld, World, world_classes, fixed, places_in}
 use Rattle.code_statements.specs.Rights.{call_used, call_views, qualifier_distance, through_class}
 use Rattle.agree_statements.proofs.Checks.{decides_inside, heap, idle_null, idle_unset, laid, part_some}
 use Rattle.agree_statements.proofs.PlaceTests.{plain_root}
@@ -42,8 +42,8 @@ use Rattle.path_model.specs.Outs.{class_or_first}
 use Rattle.path_model.specs.Rules.{breaks, is_outside, is_unready, names}
 use Rattle.path_model.specs.Typed.{AllSettled}
 use Rattle.path_model.specs.TypedStates.{IsValue}
-use Rattle.path_model.specs.Uses.{Guards, Reads, Use, Views, argument_uses, arrow, goes_to, is_shared, is_shared_way, views}
-use Rattle.path_model.specs.Values.{Null, Number, Pointer, Sight, Unset, Value, inner_part, to_base, value}
+use Rattle.path_model.specs.Uses.{Guards, Reads, StatementUse, Views, argument_uses, arrow, goes_to, is_shared, is_shared_way, uses_of_view}
+use Rattle.path_model.specs.Values.{Null, Number, Pointer, Sight, Unset, Value, inner_part, to_base, value_of_operand}
 use Rattle.path_rules.specs.Rules.{undefined_no}
 use Rattle.path_rules.specs.declared.Undefined.{Undefined}
 use Rattle.path_rules.specs.declared.Undefined.TheVariants.{Dangling, NotReady, OutsideView}
@@ -64,58 +64,58 @@ pointer_dynamic h e call d c need = split call.is_dispatched (λ x. call.is_disp
     by_way None way far = absurd (let k : false ≡ true = far in cc)
     by_way (Some i) way far = shared_dynamic h call.class i way.valid far
 
-module _ (w : World) (see : Sight) (b : Running) (P : Running → Stop → Type 0) (world : IsWorld w) (columns : ColumnsStand w see.objects b.memory b.objects b.heap b.notes) (all : List Use) where
-  abbrev Tests : List Use → List Used → Type 0
-  Tests us ds = Along (fixed w) b P (classes_in w) see.objects all us ds
+module _ (w : World) (see : Sight) (b : Running) (P : Running → Stop → Type 0) (world : IsProgramWorld w) (columns : ColumnsStand w see.objects b.memory b.objects b.heap b.notes) (all : List StatementUse) where
+  abbrev Tests : List StatementUse → List Used → Type 0
+  Tests us ds = Along (fixed w) b P (world_classes w) see.objects all us ds
 
   abbrev Holds : ℕ → Value → Type 0
   Holds r v = register b r ≡ register_word w (heap w see.objects b P world columns) v
 
   -- the view of the class before `::`, which lies so far behind the pointer
-  decides_behind : (r : ℕ) (v : Value) (c k : ClassId) (i : Subobject) → TellsViews w see.objects b → AllSettled (classes_in w) see.objects → names (is_unready see.objects) v ≡ false → names (λ p. see.objects.is_closed p.object) v ≡ false → IsWay (classes_in w) c (Some i) k → is_shared i ≡ false → IsDynamic (classes_in w) k
-      → IsValue (classes_in w) see.objects.classes v (PointerType c) → register b r ≡ register_word w (heap w see.objects b P world columns) v → Decides (fixed w) b P 4 (InView r ((places_in w).place c i) k.0) (names (is_outside (classes_in w) see.objects) (to_base i v))
+  decides_behind : (r : ℕ) (v : Value) (c k : ClassId) (i : Subobject) → TellsViews w see.objects b → AllSettled (world_classes w) see.objects → names (is_unready see.objects) v ≡ false → names (λ p. see.objects.is_closed p.object) v ≡ false → IsWay (world_classes w) c (Some i) k → is_shared i ≡ false → IsDynamic (world_classes w) k
+      → IsValue (world_classes w) see.objects.classes v (PointerType c) → register b r ≡ register_word w (heap w see.objects b P world columns) v → Decides (fixed w) b P 4 (InView r ((places_in w).place c i) k.0) (names (is_outside (world_classes w) see.objects) (to_base i v))
   decides_behind r Unset c k i tells settled ready opened way plain dynamic typed e = record { leads = λ ops goes refuses. leads_idle (fixed w) (InView r ((places_in w).place c i) k.0) r refl (idle_unset (register b r) e) (goes refl) }
   decides_behind r (Number z) c k i tells settled ready opened way plain dynamic typed e = absurd typed
   decides_behind r Null c k i tells settled ready opened way plain dynamic typed e = record { leads = λ ops goes refuses. leads_idle (fixed w) (InView r ((places_in w).place c i) k.0) r refl (idle_null (register b r) e) (goes refl) }
   decides_behind r (Pointer p) c k i tells settled ready opened way plain dynamic typed e =
-      let h = classes_in w in
+      let h = world_classes w in
       let g = heap w see.objects b P world columns in
       let made = inner_made h see.objects.classes p c k i typed way.valid way.class in
       let fine = inner_ready h see.objects p c i typed.of_class (settled p.object typed.class typed.made) way.valid ready in
       decides_inside w see.objects b P world columns r ((places_in w).place c i) (address h (places_in w) g p) (inner_part p i) k (tells.of (inner_part p i) k made opened fine dynamic) e (part_some w see.objects b P world columns p c typed)
       (moved_to_part h w.setup.rows g (address h (places_in w) g p) ((places_in w).place c i) (inner_part p i) k (laid w see.objects b P world columns) made (to_inner h w.setup.rows g p c i typed way.valid (plain_root h c i way.valid plain)))
 
-  viewed_way : (body : TypedBody) (call : TypedCall) (q : Option Subobject) (k : ClassId) (r : ℕ) (v : Value) → TellsViews w see.objects b → AllSettled (classes_in w) see.objects → Has all (Reads v) → Has all (Guards v) → IsWay (classes_in w) call.class q k → is_shared_way q ≡ false → IsDynamic (classes_in w) k
-      → IsValue (classes_in w) see.objects.classes v (PointerType call.class) → register b r ≡ register_word w (heap w see.objects b P world columns) v
-      → IsTested (fixed w) b P (classes_in w) see.objects all (Views (goes_to q v)) (ViewsWord r (qualifier_distance (block_in w.setup body) (record call { qualifier = q })) (through_class (record call { qualifier = q })).0)
+  viewed_way : (body : TypedBody) (call : TypedCall) (q : Option Subobject) (k : ClassId) (r : ℕ) (v : Value) → TellsViews w see.objects b → AllSettled (world_classes w) see.objects → Has all (Reads v) → Has all (Guards v) → IsWay (world_classes w) call.class q k → is_shared_way q ≡ false → IsDynamic (world_classes w) k
+      → IsValue (world_classes w) see.objects.classes v (PointerType call.class) → register b r ≡ register_word w (heap w see.objects b P world columns) v
+      → IsTested (fixed w) b P (world_classes w) see.objects all (Views (goes_to q v)) (ViewsWord r (qualifier_distance (block_in w.setup body) (record call { qualifier = q })) (through_class (record call { qualifier = q })).0)
   viewed_way body call None k r v tells settled reads guards way plain dynamic typed e =
-      viewed w see b P world columns all r v call.class tells (open_read w see b P world columns all v reads) guards (subst (λ (c : ClassId). IsDynamic (classes_in w) c) (sym way) dynamic) typed e
+      viewed w see b P world columns all r v call.class tells (open_read w see b P world columns all v reads) guards (subst (λ (c : ClassId). IsDynamic (world_classes w) c) (sym way) dynamic) typed e
   viewed_way body call (Some i) k r v tells settled reads guards way plain dynamic typed e =
-      subst (λ (c : ClassId). IsTested (fixed w) b P (classes_in w) see.objects all (Views (to_base i v)) (ViewsWord r ((places_in w).place call.class i) c.0)) (sym (ap class_or_first way.class)) (record { each = by_rule })
+      subst (λ (c : ClassId). IsTested (fixed w) b P (world_classes w) see.objects all (Views (to_base i v)) (ViewsWord r ((places_in w).place call.class i) c.0)) (sym (ap class_or_first way.class)) (record { each = by_rule })
     where
-      by_rule : (rule : Undefined) → NoneBefore (classes_in w) see.objects all rule → Decide (fixed w) b P (undefined_no rule) (checks_of rule (ViewsWord r ((places_in w).place call.class i) k.0)) (breaks (classes_in w) see.objects rule (Views (to_base i v)))
+      by_rule : (rule : Undefined) → NoneBefore (world_classes w) see.objects all rule → Decide (fixed w) b P (undefined_no rule) (checks_of rule (ViewsWord r ((places_in w).place call.class i) k.0)) (breaks (world_classes w) see.objects rule (Views (to_base i v)))
       by_rule OutsideView before = decides_behind r v call.class k i tells settled
-          (unbroken (fixed w) b P (classes_in w) see.objects all (Guards v) NotReady (before NotReady (omega arith)) guards) (unbroken (fixed w) b P (classes_in w) see.objects all (Reads v) Dangling (before Dangling (omega arith)) reads)
+          (unbroken (fixed w) b P (world_classes w) see.objects all (Guards v) NotReady (before NotReady (omega arith)) guards) (unbroken (fixed w) b P (world_classes w) see.objects all (Reads v) Dangling (before Dangling (omega arith)) reads)
           way plain dynamic typed e
       by_rule rule before = refl
 
-  along_arguments : (k : Block) (n : ℕ) (arguments : List Argument) (types : Types) → IsTypedSight (classes_in w) k.scope see → TellsViews w see.objects b → ((u : Use) → Has (flat_map (argument_uses see) arguments) u → Has all u) → AllZip (IsArgument (classes_in w) k.scope) arguments types
-      → AreHeld w (heap w see.objects b P world columns) k see n arguments b.top.registers → Along (fixed w) b P (classes_in w) see.objects all (flat_map (argument_uses see) arguments) (arguments_used k n arguments)
+  along_arguments : (k : Block) (n : ℕ) (arguments : List Argument) (types : Types) → IsTypedSight (world_classes w) k.scope see → TellsViews w see.objects b → ((u : StatementUse) → Has (flat_map (argument_uses see) arguments) u → Has all u) → AllZip (IsArgument (world_classes w) k.scope) arguments types
+      → AreHeld w (heap w see.objects b P world columns) k see n arguments b.top.registers → Along (fixed w) b P (world_classes w) see.objects all (flat_map (argument_uses see) arguments) (arguments_used k n arguments)
   along_arguments k n [] types sees tells within typed held = nothing
   along_arguments k n (a ∷ more) [] sees tells within typed held = absurd typed
   along_arguments k n (a ∷ more) (t ∷ types) sees tells within typed held =
-      along_append (fixed w) b P (classes_in w) see.objects all (argument_uses see a) (flat_map (argument_uses see) more) (argument_used k a (argument_read k n)) (arguments_used k (suc n) more)
+      along_append (fixed w) b P (world_classes w) see.objects all (argument_uses see a) (flat_map (argument_uses see) more) (argument_used k a (argument_read k n)) (arguments_used k (suc n) more)
       (along_argument w see b P world columns all k (argument_read k n) a t sees tells (λ u has. within u (has_left (argument_uses see a) (flat_map (argument_uses see) more) u has)) typed.0 held.0)
       (along_arguments k (suc n) more types sees tells (λ u has. within u (has_right (argument_uses see a) (flat_map (argument_uses see) more) u has)) typed.1 held.1)
 
   -- all tests of a call but the sixth rule's
-  pub along_call : (body : TypedBody) (call : TypedCall) (d : FunctionRecord ClassId) → IsTypedSight (classes_in w) (scope_of (classes_in w) w.setup.program.globals body) see → TellsViews w see.objects b → AllSettled (classes_in w) see.objects → ((u : Use) → Has (front_uses see call) u → Has all u)
-      → IsCall (classes_in w) (scope_of (classes_in w) w.setup.program.globals body) call d → register b (operand_register (free (block_in w.setup body) 0) call.pointer) ≡ register_word w (heap w see.objects b P world columns) (value see call.pointer)
-      → AreHeld w (heap w see.objects b P world columns) (block_in w.setup body) see 0 call.arguments b.top.registers → Along (fixed w) b P (classes_in w) see.objects all (front_uses see call) (call_used (block_in w.setup body) call)
+  pub along_call : (body : TypedBody) (call : TypedCall) (d : FunctionRecord ClassId) → IsTypedSight (world_classes w) (scope_of (world_classes w) w.setup.program.globals body) see → TellsViews w see.objects b → AllSettled (world_classes w) see.objects → ((u : StatementUse) → Has (front_uses see call) u → Has all u)
+      → IsCall (world_classes w) (scope_of (world_classes w) w.setup.program.globals body) call d → register b (operand_register (free (block_in w.setup body) 0) call.pointer) ≡ register_word w (heap w see.objects b P world columns) (value_of_operand see call.pointer)
+      → AreHeld w (heap w see.objects b P world columns) (block_in w.setup body) see 0 call.arguments b.top.registers → Along (fixed w) b P (world_classes w) see.objects all (front_uses see call) (call_used (block_in w.setup body) call)
   along_call body call d sees tells settled within c word held =
-      along_append (fixed w) b P (classes_in w) see.objects all (arrow v) (asked_views needed call v ++ flat_map (argument_uses see) call.arguments) (arrow_used k.scope (free k 0) call.pointer call.class) (call_views k needed call r ++ arguments_used k 0 call.arguments)
+      along_append (fixed w) b P (world_classes w) see.objects all (arrow v) (asked_views needed call v ++ flat_map (argument_uses see) call.arguments) (arrow_used k.scope (free k 0) call.pointer call.class) (call_views k needed call r ++ arguments_used k 0 call.arguments)
       (along_arrow w see b P world columns all k.scope (free k 0) call.pointer call.class sees c.pointer word)
-      (along_append (fixed w) b P (classes_in w) see.objects all (asked_views needed call v) (flat_map (argument_uses see) call.arguments) (call_views k needed call r) (arguments_used k 0 call.arguments)
+      (along_append (fixed w) b P (world_classes w) see.objects all (asked_views needed call v) (flat_map (argument_uses see) call.arguments) (call_views k needed call r) (arguments_used k 0 call.arguments)
       (by_need needed refl)
       (along_arguments k 0 call.arguments _ sees tells (λ u has. within u (has_right (arrow v) (asked_views needed call v ++ flat_map (argument_uses see) call.arguments) u (has_right (asked_views needed call v) (flat_map (argument_uses see) call.arguments) u has))) c.arguments held))
     where
@@ -123,7 +123,7 @@ module _ (w : World) (see : Sight) (b : Running) (P : Running → Stop → Type 
       k = block_in w.setup body
 
       v : Value
-      v = value see call.pointer
+      v = value_of_operand see call.pointer
 
       r : ℕ
       r = operand_register (free (block_in w.setup body) 0) call.pointer
@@ -131,17 +131,17 @@ module _ (w : World) (see : Sight) (b : Running) (P : Running → Stop → Type 
       needed : Bool
       needed = call.is_dispatched || is_shared_way call.qualifier
 
-      typed : IsValue (classes_in w) see.objects.classes (value see call.pointer) (PointerType call.class)
-      typed = operand_typed (classes_in w) (scope_of (classes_in w) w.setup.program.globals body) see sees call.pointer (PointerType call.class) c.pointer
+      typed : IsValue (world_classes w) see.objects.classes (value_of_operand see call.pointer) (PointerType call.class)
+      typed = operand_typed (world_classes w) (scope_of (world_classes w) w.setup.program.globals body) see sees call.pointer (PointerType call.class) c.pointer
 
-      by_base : (x : Bool) → is_shared call.base ≡ x → is_shared_way call.qualifier ≡ false → Along (fixed w) b P (classes_in w) see.objects all (views x (goes_to call.qualifier (value see call.pointer))) (views_if x (operand_register (free (block_in w.setup body) 0) call.pointer) (qualifier_distance (block_in w.setup body) call) (through_class call))
+      by_base : (x : Bool) → is_shared call.base ≡ x → is_shared_way call.qualifier ≡ false → Along (fixed w) b P (world_classes w) see.objects all (uses_of_view x (goes_to call.qualifier (value_of_operand see call.pointer))) (views_if x (operand_register (free (block_in w.setup body) 0) call.pointer) (qualifier_distance (block_in w.setup body) call) (through_class call))
       by_base true is plain = tested (Views (goes_to call.qualifier v)) (ViewsWord r (qualifier_distance (block_in w.setup body) call) (through_class call).0)
-          (viewed_way body call call.qualifier c.through r v tells settled (within (Reads v) (inl refl)) (within (Guards v) (inr (inr (inl refl)))) c.way plain (shared_dynamic (classes_in w) c.through call.base c.base is) typed word) nothing
+          (viewed_way body call call.qualifier c.through r v tells settled (within (Reads v) (inl refl)) (within (Guards v) (inr (inr (inl refl)))) c.way plain (shared_dynamic (world_classes w) c.through call.base c.base is) typed word) nothing
       by_base false is plain = nothing
 
-      by_need : (x : Bool) → (call.is_dispatched || is_shared_way call.qualifier) ≡ x → Along (fixed w) b P (classes_in w) see.objects all (asked_views x call (value see call.pointer)) (call_views (block_in w.setup body) x call (operand_register (free (block_in w.setup body) 0) call.pointer))
+      by_need : (x : Bool) → (call.is_dispatched || is_shared_way call.qualifier) ≡ x → Along (fixed w) b P (world_classes w) see.objects all (asked_views x call (value_of_operand see call.pointer)) (call_views (block_in w.setup body) x call (operand_register (free (block_in w.setup body) 0) call.pointer))
       by_need true is = tested (Views v) (ViewsWord r 0 call.class.0)
-          (viewed w see b P world columns all r v call.class tells (open_read w see b P world columns all v (within (Reads v) (inl refl))) (within (Guards v) (inr (inr (inl refl)))) (pointer_dynamic (classes_in w) (scope_of (classes_in w) w.setup.program.globals body) call d c is) typed word) nothing
+          (viewed w see b P world columns all r v call.class tells (open_read w see b P world columns all v (within (Reads v) (inl refl))) (within (Guards v) (inr (inr (inl refl)))) (pointer_dynamic (world_classes w) (scope_of (world_classes w) w.setup.program.globals body) call d c is) typed word) nothing
       by_need false is = by_base (is_shared call.base) refl (second call.is_dispatched (is_shared_way call.qualifier) is)
         where
           second : (x y : Bool) → (x || y) ≡ false → y ≡ false

@@ -27,8 +27,8 @@ use Rattle.path_model.proofs.TypedOverriders.{final_runs as overrider_fits}
 use Rattle.path_model.proofs.TypedUses.{has_view}
 use Rattle.path_model.proofs.TypedViews.{AreRunningParts, view_valid}
 use Rattle.path_model.specs.Effects.{overrider_by}
-use Rattle.path_model.specs.Rules.{is_outside, is_pure_at}
-use Rattle.path_model.specs.States.{body_of}
+use Rattle.path_model.specs.Rules.{is_outside, is_pure_in_view}
+use Rattle.path_model.specs.States.{owned_body}
 use Rattle.path_model.specs.TypedStates.{IsPartMade}
 use Rattle.path_model.specs.Uses.{view_of}
 use Rattle.path_model.specs.Values.{Objects}
@@ -48,14 +48,14 @@ plain_kind h f d there = by_class (class_at h f.class) there
 -- a function that has a body
 pub record HasCode (program : TypedProgram) (f : FunctionId) : Type 0 where
   pub body : TypedBody
-  pub there : body_of program (Function f) ≡ Some body
+  pub there : owned_body program (Function f) ≡ Some body
 
 -- the final overrider of a call's function, in the view of the part to which the call goes
 pub record IsOverridden (h : Classes) (program : TypedProgram) (s : Objects) (f : FunctionId) (q : ObjectPart) : Type 0 where
   pub overrider : Overrider
   pub is : overrider_by h (view_of h s q) q.at f ≡ Some overrider
   pub runs : RunsFor h overrider.function f
-  pub pure : is_pure_at h s f q ≡ is_pure h overrider.function
+  pub pure : is_pure_in_view h s f q ≡ is_pure h overrider.function
   pub made : is_pure h overrider.function ≡ false → IsPartMade h s.classes (part q.object q.owner overrider.at) overrider.function.class
   pub code : is_pure h overrider.function ≡ false → HasCode program overrider.function
 

@@ -5,13 +5,13 @@ use Rattle.code_ops.specs.Setups.{FunctionCode}
 use Rattle.agree_parts.specs.Addresses.{address}
 use Rattle.agree_parts.specs.Heaps.{Heap}
 use Rattle.abi_slots.specs.Listing.{pointee}
-use Rattle.agree_relation.specs.Frames.{BodyStands, HasVariables, KeepsCall, Numbers, StandOver, body_below, call_kept, owner_result}
+use Rattle.agree_relation.specs.Frames.{BodyStandsOver, HasVariables, KeepsCall, PlaceNumbers, StandOver, body_below, call_kept, owner_result}
 use Rattle.agree_relation.specs.Goings.{Going}
 use Rattle.agree_relation.specs.Words.{register_word}
-use Rattle.agree_relation.specs.Worlds.{World, classes_in, fixed, places_in}
+use Rattle.agree_relation.specs.Worlds.{World, world_classes, fixed, places_in}
 use Rattle.byte_machine.proofs.Registers.{entered_argument, entered_this, entered_unset, length-entered}
 use Rattle.byte_machine.specs.Calls.{frame_at}
-use Rattle.byte_machine.specs.Frames.{Frame, Kept, entered, register_of, register_in}
+use Rattle.byte_machine.specs.Frames.{MachineFrame, Kept, entry_registers, register_of, register_in}
 use Rattle.cxx_hierarchy.proofs.Listed.{get_map}
 use Rattle.cxx_overrider.specs.Functions.{return_of}
 use Rattle.cxx_overrider.specs.declared.FunctionId.{FunctionId}
@@ -21,7 +21,7 @@ use Rattle.cxx_program.specs.declared.program.Owner.TheVariants.{Function}
 use Rattle.cxx_program.specs.declared.program.TypedBody.{TypedBody}
 use Rattle.cxx_subobject.specs.Locations.{ObjectPart}
 use Rattle.path_model.specs.Runs.{open_count, opened_by, opened_for}
-use Rattle.path_model.specs.States.{Frame as PathFrame, InBody, Running as Body, Target, body_of, entered as path_entered, start_locals}
+use Rattle.path_model.specs.States.{Frame as PathFrame, InBody, RunningBody as Body, Target, owned_body, entered_body as path_entered, start_locals}
 use Rattle.path_model.specs.Values.{Pointer, Unset, Value}
 use Rattle.std.proofs.lemmas.List.{length-map}
 use Rattle.std.proofs.lemmas.List.Sums.{sum_by-cons}
@@ -47,41 +47,41 @@ at_next words n v e = let same : suc n ≡ n + 1 = omega arith in subst (λ k. r
 
 -- the registers of the frame have `this` and the locals
 pub entered_variables : (w : World) (g : Heap) (body : TypedBody) (p : ObjectPart) (values : List Value) (words : List (Option ℕ)) (found : Conversion) (target : Option Target) → words ≡ map (register_word w g) values → length values < w.code.registers
-    → HasVariables w g (path_entered body (Pointer p) values found target) (entered w.code.registers (address (classes_in w) (places_in w) g p) words)
+    → HasVariables w g (path_entered body (Pointer p) values found target) (entry_registers w.code.registers (address (world_classes w) (places_in w) g p) words)
 entered_variables w g body p values words found target are few = record {
   size = length-entered w.code.registers at words (omega (arith, count));
   this = entered_this w.code.registers at words;
-  local = λ n v there. at_next (entered w.code.registers at words) n (register_word w g v) (⊎_elim
+  local = λ n v there. at_next (entry_registers w.code.registers at words) n (register_word w g v) (⊎_elim
       (λ (is : slice_get values n ≡ Some v). let inside = slice_get_within values n v is in entered_argument w.code.registers at words n (omega (arith, count, inside)) ∙ (ap (λ (ws : List (Option ℕ)). register_of ws n) are ∙ ap register_in (get_map (register_word w g) values n v is)))
       (λ (past : (length values ≤ n) × (v ≡ Unset)). let far = past.0 in entered_unset w.code.registers at words n (omega (arith, count, far)) ∙ ap (register_word w g) (sym past.1))
       (started values (length body.locals - length values) n v there));
-  spare = let least = at_least values (length body.locals - length values) in at_next (entered w.code.registers at words) (length (start_locals body values)) None (entered_unset w.code.registers at words (length (start_locals body values)) (omega (arith, count, least)));
+  spare = let least = at_least values (length body.locals - length values) in at_next (entry_registers w.code.registers at words) (length (start_locals body values)) None (entered_unset w.code.registers at words (length (start_locals body values)) (omega (arith, count, least)));
 }
   where
     at : ℕ
-    at = address (classes_in w) (places_in w) g p
+    at = address (world_classes w) (places_in w) g p
 
     count : length words ≡ length values
     count = ap length are ∙ simp length-map
 
-module _ (w : World) (at : Numbers) (g : Heap) where
+module _ (w : World) (at : PlaceNumbers) (g : Heap) where
   -- the frame of a function on top of those that wait
-  pub callee_stands : (n : FunctionId) (body : TypedBody) (p : ObjectPart) (values : List Value) (words : List (Option ℕ)) (found : Conversion) (target : Option Target) (kept : Kept) (below : List PathFrame) (gs : List Going) (stack : List Frame) →
+  pub callee_stands : (n : FunctionId) (body : TypedBody) (p : ObjectPart) (values : List Value) (words : List (Option ℕ)) (found : Conversion) (target : Option Target) (kept : Kept) (below : List PathFrame) (gs : List Going) (stack : List MachineFrame) →
       body.owner ≡ Function n → words ≡ map (register_word w g) values → length values < w.code.registers → KeepsCall w (path_entered body (Pointer p) values found target) (body_below w below) kept → StandOver w at g None below gs stack
-      → StandOver w at g None (InBody (path_entered body (Pointer p) values found target) ∷ below) gs (frame_at (fixed w) (at (AtStatement (FunctionCode n) 0)) (address (classes_in w) (places_in w) g p) words kept ∷ stack)
+      → StandOver w at g None (InBody (path_entered body (Pointer p) values found target) ∷ below) gs (frame_at (fixed w) (at (AtStatement (FunctionCode n) 0)) (address (world_classes w) (places_in w) g p) words kept ∷ stack)
   callee_stands n body p values words found target kept below gs stack owner are few keeps stands =
-      subst (λ (o : Owner). BodyStands w at g callee o below (StandOver w at g None below) (StandOver w at g (Some callee) below) gs (frame ∷ stack)) (sym owner)
+      subst (λ (o : Owner). BodyStandsOver w at g callee o below (StandOver w at g None below) (StandOver w at g (Some callee) below) gs (frame ∷ stack)) (sym owner)
       (record { body = record { variables = entered_variables w g body p values words found target are few; block = refl }; again = refl; is_call = refl; keeps = keeps }, stands)
     where
       callee : Body
       callee = path_entered body (Pointer p) values found target
 
-      frame : Frame
-      frame = frame_at (fixed w) (at (AtStatement (FunctionCode n) 0)) (address (classes_in w) (places_in w) g p) words kept
+      frame : MachineFrame
+      frame = frame_at (fixed w) (at (AtStatement (FunctionCode n) 0)) (address (world_classes w) (places_in w) g p) words kept
 
   -- a function is called from a body: what it keeps, by who waits
   pub callee_keeps : (n : FunctionId) (body caller_body : TypedBody) (p : ObjectPart) (values : List Value) (found : Conversion) (target : Option Target) (kept : Kept) (caller : Body) (below : List PathFrame) →
-      body.owner ≡ Function n → body_of w.setup.program caller.owner ≡ Some caller_body → kept ≡ call_kept w caller_body (pointee (return_of (classes_in w) n)) found target
+      body.owner ≡ Function n → owned_body w.setup.program caller.owner ≡ Some caller_body → kept ≡ call_kept w caller_body (pointee (return_of (world_classes w) n)) found target
       → KeepsCall w (path_entered body (Pointer p) values found target) (body_below w (InBody caller ∷ below)) kept
   callee_keeps n body caller_body p values found target kept caller below owner there is =
       subst (λ (o : Option TypedBody). KeepsCall w (path_entered body (Pointer p) values found target) o kept) (sym there) (is ∙ ap (λ (o : Owner). call_kept w caller_body (owner_result w o) found target) (sym owner))

@@ -17,7 +17,7 @@ use Rattle.abi_slots.specs.Listing.{pointee}
 use Rattle.agree_relation.specs.Agrees.{Agrees}
 use Rattle.agree_relation.specs.Frames.{call_kept}
 use Rattle.agree_relation.specs.Words.{register_word}
-use Rattle.agree_relation.specs.Worlds.{classes_in, fixed}
+use Rattle.agree_relation.specs.Worlds.{world_classes, fixed}
 use Rattle.code_statements.specs.Statements.{class_number, returned_front, returned_ops, returned_used}
 use Rattle.agree_statements.proofs.Finish.{Reaches, refused}
 use Rattle.agree_statements.proofs.Moves.{move_fine, move_in, move_refused}
@@ -29,8 +29,8 @@ use Rattle.agree_statements.proofs.Tests.{unbroken}
 use Rattle.agree_statements.proofs.Useds.{TellsViews}
 use Rattle.agree_statements.specs.Registers.{at_registers}
 use Rattle.byte_code.specs.declared.op.Op.TheVariants.{Return as ReturnOp}
-use Rattle.byte_machine.specs.Frames.{Frame, register_of}
-use Rattle.byte_machine.specs.Leads.{Leads}
+use Rattle.byte_machine.specs.Frames.{MachineFrame, register_of}
+use Rattle.byte_machine.specs.Leads.{OpsLead}
 use Rattle.byte_machine.specs.declared.turn.MachineTurn.TheVariants.{Went}
 use Rattle.cxx_hierarchy.specs.declared.records.ClassId.{ClassId}
 use Rattle.cxx_hierarchy.specs.declared.records.ReturnType.TheVariants.{Value as ValueReturn}
@@ -48,14 +48,14 @@ use Rattle.cxx_program.specs.declared.statement.TypedKind.TheVariants.{Return}
 use Rattle.cxx_program.specs.declared.statement.TypedStatement.{TypedStatement}
 use Rattle.path_model.proofs.Sorted.{broken_append}
 use Rattle.path_model.proofs.TypedValues.{argument_typed}
-use Rattle.path_model.specs.Effects.{given, left_by}
+use Rattle.path_model.specs.Effects.{given_to_target, left_by}
 use Rattle.path_model.specs.Order.{first_broken, return_order, sorted}
 use Rattle.path_model.specs.Runs.{IsRefused, Move, Moves, move_by}
-use Rattle.path_model.specs.States.{Target, sight, target_conversion, wanted, with_frames}
+use Rattle.path_model.specs.States.{Target, sight, target_conversion, wanted_result, with_frames}
 use Rattle.path_model.specs.Typed.{IsReturn}
 use Rattle.path_model.specs.TypedStates.{FitsTarget}
 use Rattle.path_model.specs.Uses.{Reads, argument_uses, convert}
-use Rattle.path_model.specs.Values.{Null, Number, Objects, Pointer, Unset, Value, argument_value, converted, value}
+use Rattle.path_model.specs.Values.{Null, Number, Objects, Pointer, Unset, Value, argument_value, converted_to, value_of_operand}
 use Rattle.path_rules.specs.declared.Undefined.{Undefined}
 use Rattle.path_rules.specs.declared.Undefined.TheVariants.{Dangling}
 use Rattle.std.proofs.Common.{◌≡◌, ℕ, inl, inr, Option, Some, None, List, [], ◌∷◌, ◌++◌, refl, ap, sym, subst, ◌∙◌, arith}
@@ -63,7 +63,7 @@ use Rattle.std.specs.Option.{option_or}
 use Rattle.std.specs.Prelude.{slice_set}
 
 -- a value that was converted leads to the same object
-open_converted : (s : Objects) (v : Value) (c : Conversion) → NamesOpen s v → NamesOpen s (converted v c)
+open_converted : (s : Objects) (v : Value) (c : Conversion) → NamesOpen s v → NamesOpen s (converted_to v c)
 open_converted s Unset (ToNumber t) e = refl
 open_converted s (Number z) (ToNumber t) e = refl
 open_converted s Null (ToNumber t) e = refl
@@ -86,7 +86,7 @@ pointee_of (PointerType c) = refl
 
 -- a result
 module _ (a : Argument) (line next : ℕ) (scene : Scene (record { kind = Return (Some a); line = line; next = next })) (n : FunctionId) (owned : scene.f.owner ≡ Function n) (moves : MovesResult scene.f.found)
-    (t : ValueType ClassId) (typed : IsArgument (classes_in scene.w) (scope scene) a t) (returns : returns_of (classes_in scene.w) (Function n) ≡ Some (ValueReturn t)) where
+    (t : ValueType ClassId) (typed : IsArgument (world_classes scene.w) (scope scene) a t) (returns : returns_of (world_classes scene.w) (Function n) ≡ Some (ValueReturn t)) where
   open scene use {w, at, s, f, below, body, b}
 
   abbrev statement : TypedStatement
@@ -98,25 +98,25 @@ module _ (a : Argument) (line next : ℕ) (scene : Scene (record { kind = Return
   k : IsCalled w at s f below b scene.begins n
   k = is_called w at s f below body b scene.world scene.next.frames scene.next.typed scene.begins n owned
 
-  fits : (u : ValueType ClassId) × Converts (classes_in w) t f.found u × FitsTarget (classes_in w) w.setup.program.globals k.waits.waiting u f.target
+  fits : (u : ValueType ClassId) × Converts (world_classes w) t f.found u × FitsTarget (world_classes w) w.setup.program.globals k.waits.waiting u f.target
   fits = k.waits.fits_it.result t returns
 
-  given_classes : IsReturn (classes_in w) (sight s f) (wanted f) (Some a)
-  given_classes = return_given (classes_in w) (scope scene) (sight s f) a t fits.0 f.found f.target w.setup.program.globals k.waits.waiting (sees scene) typed fits.1 fits.2
+  given_classes : IsReturn (world_classes w) (sight s f) (wanted_result f) (Some a)
+  given_classes = return_given (world_classes w) (scope scene) (sight s f) a t fits.0 f.found f.target w.setup.program.globals k.waits.waiting (sees scene) typed fits.1 fits.2
 
   -- the state behind
-  moved : first_broken (classes_in w) s.objects (return_order (sight s f) (wanted f) (Some a)) ≡ None → move_in w s ≡ Moves (given (with_frames s below) (converted v f.found) f.target) []
-  moved e = move_fine w s f below body statement scene.world scene.next given_classes e refl ∙ ap (λ (o : Owner). move_by (left_by o (given (with_frames s below) (converted v f.found) f.target)) None) owned
+  moved : first_broken (world_classes w) s.objects (return_order (sight s f) (wanted_result f) (Some a)) ≡ None → move_in w s ≡ Moves (given_to_target (with_frames s below) (converted_to v f.found) f.target) []
+  moved e = move_fine w s f below body statement scene.world scene.next given_classes e refl ∙ ap (λ (o : Owner). move_by (left_by o (given_to_target (with_frames s below) (converted_to v f.found) f.target)) None) owned
 
-  refuses : (rule : Undefined) → first_broken (classes_in w) s.objects (return_order (sight s f) (wanted f) (Some a)) ≡ Some rule → move_in w s ≡ IsRefused rule line
+  refuses : (rule : Undefined) → first_broken (world_classes w) s.objects (return_order (sight s f) (wanted_result f) (Some a)) ≡ Some rule → move_in w s ≡ IsRefused rule line
   refuses rule e = move_refused w s f below body statement scene.world scene.next rule given_classes e
 
-  tell : (last : List (Option ℕ)) (first : Frame) (rest : List Frame) (calls : ℕ) → TellsViews w s.objects (record (at_registers b last) { top = first; below = rest; calls = calls })
+  tell : (last : List (Option ℕ)) (first : MachineFrame) (rest : List MachineFrame) (calls : ℕ) → TellsViews w s.objects (record (at_registers b last) { top = first; below = rest; calls = calls })
   tell last first rest calls = tells_views w s.objects (top scene).goings (record (at_registers b last) { top = first; below = rest; calls = calls }) scene.world scene.begins.stands.columns (top scene).planned scene.next.settled scene.next.seen
 
   -- who waits takes the result
-  takes : (target : Option Target) (x : Value) (last : List (Option ℕ)) → FitsTarget (classes_in w) w.setup.program.globals k.waits.waiting fits.0 target
-      → IsDone w s.objects (at_registers b last) (Agrees w at (Moves (given (with_frames s below) x target) [])) scene.world scene.begins.stands.columns (shows scene f.locals) (tell last) k.waits.waiting target x k.waits.under k.waits.rest
+  takes : (target : Option Target) (x : Value) (last : List (Option ℕ)) → FitsTarget (world_classes w) w.setup.program.globals k.waits.waiting fits.0 target
+      → IsDone w s.objects (at_registers b last) (Agrees w at (Moves (given_to_target (with_frames s below) x target) [])) scene.world scene.begins.stands.columns (shows scene f.locals) (tell last) k.waits.waiting target x k.waits.under k.waits.rest
   takes None x last fit = nothing_left w at s f below b scene.next.typed scene.begins n k
   takes (Some target) x last fit = λ new wrote is.
       let g = here scene in
@@ -126,23 +126,23 @@ module _ (a : Argument) (line next : ℕ) (scene : Scene (record { kind = Return
       let first = slice_set old (free block_below 2) (register_word w g x) in
       let kept = variables_kept w g k.waits.caller (free block_below 2) old first (omega (arith, count)) k.waits.variables (wrote_set b old (free block_below 2) (register_word w g x)) in
       let variables = variables_kept w g k.waits.caller (free block_below 3) first new (omega (arith, count)) kept wrote in
-      let done = variable_left w at s f below b scene.next.typed scene.begins n k target.variable fit.0 (converted x target.conversion) first new fit.1 variables in
-      (done.0, subst (λ (word : Option ℕ). Agrees w at (Moves (given (with_frames s below) x (Some target)) []) (variable_set (given_to w at s f below b scene.next.typed scene.begins n k first) new target.variable word) Went) (sym is) done.1)
+      let done = variable_left w at s f below b scene.next.typed scene.begins n k target.variable fit.0 (converted_to x target.conversion) first new fit.1 variables in
+      (done.0, subst (λ (word : Option ℕ). Agrees w at (Moves (given_to_target (with_frames s below) x (Some target)) []) (variable_set (given_to w at s f below b scene.next.typed scene.begins n k first) new target.variable word) Went) (sym is) done.1)
 
-  first_stage : (o : Option Undefined) → first_broken (classes_in w) s.objects (sorted (argument_uses (sight s f) a)) ≡ o
-      → first_broken (classes_in w) s.objects (return_order (sight s f) (wanted f) (Some a)) ≡ option_or o (first_broken (classes_in w) s.objects (sorted (convert v f.found) ++ sorted (convert (converted v f.found) (target_conversion f.target))))
-  first_stage o e = broken_append (classes_in w) s.objects (sorted (argument_uses (sight s f) a)) (sorted (convert v f.found) ++ sorted (convert (converted v f.found) (target_conversion f.target)))
-      ∙ ap (λ (x : Option Undefined). option_or x (first_broken (classes_in w) s.objects (sorted (convert v f.found) ++ sorted (convert (converted v f.found) (target_conversion f.target))))) e
+  first_stage : (o : Option Undefined) → first_broken (world_classes w) s.objects (sorted (argument_uses (sight s f) a)) ≡ o
+      → first_broken (world_classes w) s.objects (return_order (sight s f) (wanted_result f) (Some a)) ≡ option_or o (first_broken (world_classes w) s.objects (sorted (convert v f.found) ++ sorted (convert (converted_to v f.found) (target_conversion f.target))))
+  first_stage o e = broken_append (world_classes w) s.objects (sorted (argument_uses (sight s f) a)) (sorted (convert v f.found) ++ sorted (convert (converted_to v f.found) (target_conversion f.target)))
+      ∙ ap (λ (x : Option Undefined). option_or x (first_broken (world_classes w) s.objects (sorted (convert v f.found) ++ sorted (convert (converted_to v f.found) (target_conversion f.target))))) e
 
   -- the return itself
-  leads_given_back : (last : List (Option ℕ)) → register_of last (free (block scene) 1) ≡ register_word w (here scene) v → NamesOpen s.objects v → first_broken (classes_in w) s.objects (sorted (argument_uses (sight s f) a)) ≡ None
-      → Leads (fixed w) (ReturnOp (Some (free (block scene) 1)) (class_number (pointee (return_of (classes_in w) n))) ∷ []) (at_registers b last) (Reaches scene)
+  leads_given_back : (last : List (Option ℕ)) → register_of last (free (block scene) 1) ≡ register_word w (here scene) v → NamesOpen s.objects v → first_broken (world_classes w) s.objects (sorted (argument_uses (sight s f) a)) ≡ None
+      → OpsLead (fixed w) (ReturnOp (Some (free (block scene) 1)) (class_number (pointee (return_of (world_classes w) n))) ∷ []) (at_registers b last) (Reaches scene)
   leads_given_back last is unclosed clear =
-      let h = classes_in w in
-      let x = converted v f.found in
+      let h = world_classes w in
+      let x = converted_to v f.found in
       let room = k.waits.room in
       let class : pointee (return_of h n) ≡ pointed t = ap pointee (sym (returns_are h n) ∙ returns) ∙ pointee_of t in
-      subst (λ (o : Option ClassId). Leads (fixed w) (ReturnOp (Some (free (block scene) 1)) (class_number o) ∷ []) (at_registers b last) (Reaches scene)) (sym class)
+      subst (λ (o : Option ClassId). OpsLead (fixed w) (ReturnOp (Some (free (block scene) 1)) (class_number o) ∷ []) (at_registers b last) (Reaches scene)) (sym class)
       (leads_result w s.objects (at_registers b last) (Agrees w at (move_in w s)) scene.world scene.begins.stands.columns (shows scene f.locals) (tell last) k.waits.waiting t fits.0 f.found f.target (free (block scene) 1) v k.waits.under k.waits.rest
       moves fits.1 fits.2 (argument_typed h (scope scene) (sight s f) (sees scene) a t typed) unclosed
       (record {
@@ -156,14 +156,14 @@ module _ (a : Argument) (line next : ℕ) (scene : Scene (record { kind = Return
       (λ none. subst (λ (m : Move). IsDone w s.objects (at_registers b last) (Agrees w at m) scene.world scene.begins.stands.columns (shows scene f.locals) (tell last) k.waits.waiting f.target x k.waits.under k.waits.rest) (sym (moved (first_stage None clear ∙ none))) (takes f.target x last fits.2))
       (λ rule new same_line broken. refused scene rule new same_line (refuses rule (first_stage None clear ∙ broken))))
 
-  pub function_returns : Leads (fixed w) (returned_front (block scene) (Some a) ++ (check_ops (returned_used (block scene) (Some a)) ++ returned_ops (block scene) (FunctionCode n) (Some a))) b (Reaches scene)
+  pub function_returns : OpsLead (fixed w) (returned_front (block scene) (Some a) ++ (check_ops (returned_used (block scene) (Some a)) ++ returned_ops (block scene) (FunctionCode n) (Some a))) b (Reaches scene)
   function_returns =
-      let h = classes_in w in
+      let h = world_classes w in
       let uses = argument_uses (sight s f) a in
       leads_returned scene a t typed
       (λ rule broken. refuses rule (first_stage (Some rule) broken))
       (λ new variables word clear none.
-      let unclosed = unbroken (fixed w) b (Reaches scene) h s.objects uses (Reads (value (sight s f) a.operand)) Dangling (none Dangling) (inl refl) in
+      let unclosed = unbroken (fixed w) b (Reaches scene) h s.objects uses (Reads (value_of_operand (sight s f) a.operand)) Dangling (none Dangling) (inl refl) in
       leads_argument w s.objects b (Reaches scene) scene.world scene.begins.stands.columns (shows scene f.locals) (block scene) (sight s f) a t (free (block scene) 1) (free (block scene) 0) new refl refl (sees scene) typed word (free_in scene f.locals new 1 (omega arith) variables) unclosed
-      (λ r. none_broken h s.objects (convert (value (sight s f) a.operand) a.conversion) r (λ u has. unbroken (fixed w) b (Reaches scene) h s.objects uses u r (none r) (inr has)))
-      (λ last wrote is. leads_given_back last is (open_converted s.objects (value (sight s f) a.operand) a.conversion unclosed) clear))
+      (λ r. none_broken h s.objects (convert (value_of_operand (sight s f) a.operand) a.conversion) r (λ u has. unbroken (fixed w) b (Reaches scene) h s.objects uses u r (none r) (inr has)))
+      (λ last wrote is. leads_given_back last is (open_converted s.objects (value_of_operand (sight s f) a.operand) a.conversion unclosed) clear))

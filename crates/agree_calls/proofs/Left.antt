@@ -5,16 +5,16 @@ use Rattle.agree_calls.proofs.TakenResults.{HasPlace, variable_set}
 use Rattle.code_ops.specs.Setups.{local_register}
 use Rattle.agree_parts.specs.Heaps.{Heap}
 use Rattle.agree_relation.specs.Agrees.{Agrees, ReadAs, StandsNow}
-use Rattle.agree_relation.specs.Frames.{HasVariables, Numbers, StandOver}
-use Rattle.agree_relation.specs.Stands.{Stands}
+use Rattle.agree_relation.specs.Frames.{HasVariables, PlaceNumbers, StandOver}
+use Rattle.agree_relation.specs.Stands.{StateStands}
 use Rattle.agree_relation.specs.Words.{heap_of, register_word}
-use Rattle.agree_relation.specs.Worlds.{World, classes_in}
+use Rattle.agree_relation.specs.Worlds.{World, world_classes}
 use Rattle.agree_statements.proofs.Scenes.{values_count}
 use Rattle.agree_statements.proofs.Taken.{variables_set}
 use Rattle.agree_statements.specs.Registers.{body_on, frame_on}
-use Rattle.agree_statements.specs.Statements.{BeginsAt}
+use Rattle.agree_statements.specs.Statements.{BeginsBlock}
 use Rattle.byte_machine.specs.Calls.{left_calls}
-use Rattle.byte_machine.specs.Frames.{Frame}
+use Rattle.byte_machine.specs.Frames.{MachineFrame}
 use Rattle.byte_machine.specs.Running.{Running}
 use Rattle.byte_machine.specs.declared.turn.MachineTurn.TheVariants.{Went}
 use Rattle.byte_machine.specs.declared.turn.RawOut.{RawOut}
@@ -25,7 +25,7 @@ use Rattle.cxx_program.specs.Typed.{scope_of, variable_type}
 use Rattle.cxx_program.specs.declared.operand.Variable.{Variable}
 use Rattle.cxx_program.specs.declared.operand.Variable.TheVariants.{Global, Local}
 use Rattle.path_model.specs.Runs.{Moves, open_count}
-use Rattle.path_model.specs.States.{Frame as PathFrame, InBody, Running as Body, State, assigned, with_frames}
+use Rattle.path_model.specs.States.{Frame as PathFrame, InBody, RunningBody as Body, ProgramState, assigned, with_frames}
 use Rattle.path_model.specs.TypedStates.{IsTypedState}
 use Rattle.path_model.specs.Values.{Value}
 use Rattle.std.proofs.Common.{◌≡◌, ℕ, ◌+◌, ◌<◌, Option, Some, None, List, [], ◌∷◌, ◌++◌, length, map, refl, ap, sym, subst, ◌∙◌, arith}
@@ -33,14 +33,14 @@ use Rattle.std.proofs.lemmas.List.{length-map, map-set}
 use Rattle.std.proofs.lemmas.Option.{slice_get_within}
 use Rattle.std.specs.Prelude.{slice_set}
 
-module _ (w : World) (at : Numbers) (s : State) (f : Body) (below : List PathFrame) (b : Running) (typed : IsTypedState (classes_in w) w.setup.program s) (begins : BeginsAt w at s b) (n : FunctionId) (k : IsCalled w at s f below b begins n) where
+module _ (w : World) (at : PlaceNumbers) (s : ProgramState) (f : Body) (below : List PathFrame) (b : Running) (typed : IsTypedState (world_classes w) w.setup.program s) (begins : BeginsBlock w at s b) (n : FunctionId) (k : IsCalled w at s f below b begins n) where
   abbrev g : Heap
   g = heap_of s.objects.classes b.memory.regions
 
   abbrev caller : Body
   caller = k.waits.caller
 
-  abbrev under : Frame
+  abbrev under : MachineFrame
   under = k.waits.under
 
   -- the frame below on top, with other registers and globals
@@ -48,16 +48,16 @@ module _ (w : World) (at : Numbers) (s : State) (f : Body) (below : List PathFra
   left registers words = record b { top = frame_on k.waits.under registers k.waits.under.block; below = k.waits.rest; calls = left_calls b; globals = words }
 
   -- and the body that waits, with other locals and globals
-  abbrev pub state_left : List Value → List Value → State
+  abbrev pub state_left : List Value → List Value → ProgramState
   state_left locals globals = record { objects = s.objects; globals = globals; frames = InBody (body_on k.waits.caller locals k.waits.caller.next) ∷ k.waits.further }
 
   left_stands : (locals globals : List Value) (registers words : List (Option ℕ)) → words ≡ map (register_word w (heap_of s.objects.classes b.memory.regions)) globals → HasVariables w (heap_of s.objects.classes b.memory.regions) (body_on k.waits.caller locals k.waits.caller.next) registers
       → StandsNow w at (state_left locals globals) (left registers words)
   left_stands locals globals registers words has variables =
-      let stack : frame_on under registers under.block ∷ k.waits.rest ≡ b.opened ++ frame_on under registers under.block ∷ k.waits.rest = ap (λ (o : List Frame). o ++ frame_on under registers under.block ∷ k.waits.rest) (sym begins.opened) in
+      let stack : frame_on under registers under.block ∷ k.waits.rest ≡ b.opened ++ frame_on under registers under.block ∷ k.waits.rest = ap (λ (o : List MachineFrame). o ++ frame_on under registers under.block ∷ k.waits.rest) (sym begins.opened) in
       let over : StandOver w at g None (InBody (body_on caller locals caller.next) ∷ k.waits.further) begins.stands.frames.goings (frame_on under registers under.block ∷ k.waits.rest) = caller_takes w at g caller k.waits.further begins.stands.frames.goings under k.waits.rest locals registers k.waits.stands variables in
       let count : left_calls b ≡ open_count (InBody caller ∷ k.waits.further) = k.calls ∙ ap open_count k.waits.is in
-      subst (λ (bs : List Frame). Stands w at (state_left locals globals) b.memory b.objects b.heap b.notes words bs (left_calls b)) stack
+      subst (λ (bs : List MachineFrame). StateStands w at (state_left locals globals) b.memory b.objects b.heap b.notes words bs (left_calls b)) stack
       (record { columns = begins.stands.columns; globals = has; frames = record { goings = begins.stands.frames.goings; planned = begins.stands.frames.planned; frames = over; calls = count } })
 
   left_agrees : (locals globals : List Value) (registers words : List (Option ℕ)) → words ≡ map (register_word w (heap_of s.objects.classes b.memory.regions)) globals → HasVariables w (heap_of s.objects.classes b.memory.regions) (body_on k.waits.caller locals k.waits.caller.next) registers
@@ -76,11 +76,11 @@ module _ (w : World) (at : Numbers) (s : State) (f : Body) (below : List PathFra
   given_to first = record b { top = record k.waits.under { registers = first }; below = k.waits.rest; calls = left_calls b }
 
   -- a variable takes a value
-  pub variable_left : (variable : Variable) (t : ValueType ClassId) (v : Value) (first registers : List (Option ℕ)) → variable_type (scope_of (classes_in w) w.setup.program.globals k.waits.waiting) variable ≡ Some t → HasVariables w (heap_of s.objects.classes b.memory.regions) k.waits.caller registers
+  pub variable_left : (variable : Variable) (t : ValueType ClassId) (v : Value) (first registers : List (Option ℕ)) → variable_type (scope_of (world_classes w) w.setup.program.globals k.waits.waiting) variable ≡ Some t → HasVariables w (heap_of s.objects.classes b.memory.regions) k.waits.caller registers
       → HasPlace (given_to first) registers variable × Agrees w at (Moves (assigned (with_frames s below) variable v) []) (variable_set (given_to first) registers variable (register_word w (heap_of s.objects.classes b.memory.regions) v)) Went
   variable_left (Global m) t v first registers there variables =
       let inside = slice_get_within w.setup.program.globals m t there in
-      let known = values_count (classes_in w) s.objects.classes s.globals w.setup.program.globals typed.globals in
+      let known = values_count (world_classes w) s.objects.classes s.globals w.setup.program.globals typed.globals in
       let size : length b.globals ≡ length s.globals = ap length begins.stands.globals ∙ length-map s.globals (register_word w g) in
       let words : slice_set b.globals m (register_word w g v) ≡ map (register_word w g) (slice_set s.globals m v) = ap (λ (ws : List (Option ℕ)). slice_set ws m (register_word w g v)) begins.stands.globals ∙ sym (map-set (register_word w g) s.globals m v) in (
         omega (arith, inside, known, size),

@@ -19,12 +19,12 @@ use Rattle.path_model.proofs.Ranks.{rank, rank_append, rank_full}
 use Rattle.path_model.proofs.Sorted.{by_rank, by_sort}
 use Rattle.path_model.proofs.TypedValues.{IsTypedSight, argument_typed, operand_typed}
 use Rattle.path_model.specs.Order.{first_broken, sorted}
-use Rattle.path_model.specs.Rules.{refusal}
+use Rattle.path_model.specs.Rules.{statement_refusal}
 use Rattle.path_model.specs.States.{Target, target_conversion}
-use Rattle.path_model.specs.Typed.{Converts as Leads, IsOf, IsReturn}
+use Rattle.path_model.specs.Typed.{ConvertsClass as Leads, IsOf, IsReturn}
 use Rattle.path_model.specs.TypedStates.{FitsTarget, IsValue}
 use Rattle.path_model.specs.Uses.{Wanted, argument_uses, convert}
-use Rattle.path_model.specs.Values.{Null, Number, Objects, Pointer, Sight, Unset, Value, argument_value, converted, value}
+use Rattle.path_model.specs.Values.{Null, Number, Objects, Pointer, Sight, Unset, Value, argument_value, converted_to, value_of_operand}
 use Rattle.std.proofs.Common.{◌≡◌, false, Option, Some, None, ◌++◌, refl, arith}
 
 -- the class of a pointer type, and any class of numbers
@@ -53,7 +53,7 @@ pub return_given : (h : Classes) (e : Scope) (see : Sight) (a : Argument) (t u :
     → IsReturn h see (record { found = found; target = target_conversion target }) (Some a)
 return_given h e see _ _ u found target globals waiting sees (a_value a s t has to) converts fits =
     let last = target_given h globals waiting u target fits in
-    (type_class s, type_class t, type_class u, last.0, value_given h see.objects (value see a.operand) s (operand_typed h e see sees a.operand s has), converts_given h s t a.conversion to, converts_given h t u found converts, last.1)
+    (type_class s, type_class t, type_class u, last.0, value_given h see.objects (value_of_operand see a.operand) s (operand_typed h e see sees a.operand s has), converts_given h s t a.conversion to, converts_given h t u found converts, last.1)
 return_given h e see _ _ u found target globals waiting sees (a_null d) converts fits =
     let last = target_given h globals waiting u target fits in
     (d, d, type_class u, last.0, tt, refl, converts_given h (PointerType d) u found converts, last.1)
@@ -66,16 +66,16 @@ number_off h s Null t typed = refl
 number_off h s (Pointer p) t typed = absurd typed
 
 -- the rule that refuses a return whose result is a number
-pub number_refusal : (h : Classes) (e : Scope) (see : Sight) (w : Wanted) (a : Argument) (t : Scalar) → IsTypedSight h e see → IsArgument h e a (NumberType t) → refusal h see w (Return (Some a)) ≡ first_broken h see.objects (sorted (argument_uses see a))
+pub number_refusal : (h : Classes) (e : Scope) (see : Sight) (w : Wanted) (a : Argument) (t : Scalar) → IsTypedSight h e see → IsArgument h e a (NumberType t) → statement_refusal h see w (Return (Some a)) ≡ first_broken h see.objects (sorted (argument_uses see a))
 number_refusal h e see w a t sees typed =
     let s = see.objects in
     let v = argument_value see a in
     let off = number_off h s v t (argument_typed h e see sees a (NumberType t) typed) in
     let uses = argument_uses see a in
     let second = convert v w.found in
-    let third = convert (converted v w.found) w.target in
+    let third = convert (converted_to v w.found) w.target in
     let none_second = convert_off h s v w.found off in
-    let none_third = convert_off h s (converted v w.found) w.target (off_converted v w.found off) in
+    let none_third = convert_off h s (converted_to v w.found) w.target (off_converted v w.found off) in
     let r = rank_append h s uses (second ++ third) in
     let q = rank_append h s second third in
     let full = rank_full h s uses in

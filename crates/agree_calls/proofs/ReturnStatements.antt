@@ -7,12 +7,12 @@ use Rattle.agree_calls.proofs.StatementMoves.{statement_move}
 use Rattle.agree_calls.proofs.Waiting.{is_called}
 use Rattle.agree_calls.proofs.Returns.{MovesResult}
 use Rattle.code_blocks.specs.Blocks.{statement_ops}
-use Rattle.code_ops.specs.Setups.{FunctionCode, MainCode, PlanCode, Routine, owner_of, plan_owner}
+use Rattle.code_ops.specs.Setups.{FunctionCode, MainCode, PlanCode, Routine, routine_owner, plan_owner}
 use Rattle.code_ops.specs.Uses.{check_ops}
 use Rattle.code_ops.specs.declared.routines.Course.{Course}
 use Rattle.code_ops.specs.declared.routines.Course.TheVariants.{Constructs, Deletes, Destroys}
 use Rattle.agree_relation.specs.Agrees.{Agrees}
-use Rattle.agree_relation.specs.Worlds.{classes_in, fixed}
+use Rattle.agree_relation.specs.Worlds.{world_classes, fixed}
 use Rattle.code_statements.specs.Statements.{returned_front, returned_ops, returned_used}
 use Rattle.agree_statements.proofs.Assignments.{none_asked}
 use Rattle.agree_statements.proofs.Finish.{Reaches}
@@ -22,7 +22,7 @@ use Rattle.agree_statements.proofs.Tests.{leads_checks}
 use Rattle.agree_statements.specs.Registers.{at_registers}
 use Rattle.agree_statements.specs.Tests.{nothing}
 use Rattle.byte_machine.proofs.ControlLeads.{leads_stop}
-use Rattle.byte_machine.specs.Leads.{Leads, LeadsBlock}
+use Rattle.byte_machine.specs.Leads.{OpsLead, LeadsBlock}
 use Rattle.byte_machine.specs.declared.turn.MachineTurn.TheVariants.{Ended}
 use Rattle.cxx_hierarchy.specs.Classes.{Classes}
 use Rattle.cxx_hierarchy.specs.declared.records.ClassId.{ClassId}
@@ -38,13 +38,13 @@ use Rattle.cxx_program.specs.declared.program.Owner.{Owner}
 use Rattle.cxx_program.specs.declared.program.Owner.TheVariants.{Function, Main}
 use Rattle.cxx_program.specs.declared.statement.TypedKind.TheVariants.{Return}
 use Rattle.cxx_program.specs.declared.statement.TypedStatement.{TypedStatement}
-use Rattle.path_model.specs.Effects.{given, left_by}
+use Rattle.path_model.specs.Effects.{given_to_target, left_by}
 use Rattle.path_model.specs.Order.{first_broken, sorted}
 use Rattle.path_model.specs.Runs.{Move, move_by}
-use Rattle.path_model.specs.States.{sight, wanted, with_frames}
+use Rattle.path_model.specs.States.{sight, wanted_result, with_frames}
 use Rattle.path_model.specs.Steps.{unless}
 use Rattle.path_model.specs.Uses.{argument_uses}
-use Rattle.path_model.specs.Values.{argument_value, converted}
+use Rattle.path_model.specs.Values.{argument_value, converted_to}
 use Rattle.path_rules.specs.declared.Undefined.{Undefined}
 use Rattle.std.proofs.Common.{◌≡◌, ℕ, Option, Some, None, [], ◌++◌, refl, ap, subst, sym, ◌∙◌}
 
@@ -73,37 +73,37 @@ module _ (a : Argument) (line next : ℕ) (scene : Scene (record { kind = Return
   statement = record { kind = Return (Some a); line = line; next = next }
 
   abbrev ops : Routine → Type 0
-  ops r = Leads (fixed w) (returned_front (block scene) (Some a) ++ (check_ops (returned_used (block scene) (Some a)) ++ returned_ops (block scene) r (Some a))) b (Reaches scene)
+  ops r = OpsLead (fixed w) (returned_front (block scene) (Some a) ++ (check_ops (returned_used (block scene) (Some a)) ++ returned_ops (block scene) r (Some a))) b (Reaches scene)
 
-  is : IsReturned (classes_in w) (scope scene) a
-  is = returned_typed (classes_in w) (scope scene) a (kind_typed scene)
+  is : IsReturned (world_classes w) (scope scene) a
+  is = returned_typed (world_classes w) (scope scene) a (kind_typed scene)
 
   -- what the owner of a routine returns
-  owner_returns : (o : Owner) → o ≡ f.owner → returns_of (classes_in w) o ≡ Some (ValueReturn is.type)
-  owner_returns o same = ap (returns_of (classes_in w)) (same ∙ sym (the_body scene).0) ∙ is.returns
+  owner_returns : (o : Owner) → o ≡ f.owner → returns_of (world_classes w) o ≡ Some (ValueReturn is.type)
+  owner_returns o same = ap (returns_of (world_classes w)) (same ∙ sym (the_body scene).0) ∙ is.returns
 
   -- `main`, whose result is a number
-  main_over : IsArgument (classes_in w) (scope scene) a (NumberType Int) → f.owner ≡ Main → (o : Option Undefined) → first_broken (classes_in w) s.objects (sorted (argument_uses (sight s f) a)) ≡ o
-      → move_in w s ≡ move_by (unless o line (left_by Main (given (with_frames s below) (converted (argument_value (sight s f) a) f.found) f.target))) None
+  main_over : IsArgument (world_classes w) (scope scene) a (NumberType Int) → f.owner ≡ Main → (o : Option Undefined) → first_broken (world_classes w) s.objects (sorted (argument_uses (sight s f) a)) ≡ o
+      → move_in w s ≡ move_by (unless o line (left_by Main (given_to_target (with_frames s below) (converted_to (argument_value (sight s f) a) f.found) f.target))) None
   main_over typed owned o e =
-      let h = classes_in w in
+      let h = world_classes w in
       statement_move w s f below body statement scene.world scene.next
-      ∙ ap (λ (x : Option Undefined). move_by (unless x line (effect_here w s f below body statement scene.world scene.next)) None) (number_refusal h (scope scene) (sight s f) (wanted f) a Int (sees scene) typed ∙ e)
-      ∙ ap (λ (x : Owner). move_by (unless o line (left_by x (given (with_frames s below) (converted (argument_value (sight s f) a) f.found) f.target))) None) owned
+      ∙ ap (λ (x : Option Undefined). move_by (unless x line (effect_here w s f below body statement scene.world scene.next)) None) (number_refusal h (scope scene) (sight s f) (wanted_result f) a Int (sees scene) typed ∙ e)
+      ∙ ap (λ (x : Owner). move_by (unless o line (left_by x (given_to_target (with_frames s below) (converted_to (argument_value (sight s f) a) f.found) f.target))) None) owned
 
-  main_returns : f.owner ≡ Main → Leads (fixed w) (returned_front (block scene) (Some a) ++ (check_ops (returned_used (block scene) (Some a)) ++ returned_ops (block scene) MainCode (Some a))) b (Reaches scene)
+  main_returns : f.owner ≡ Main → OpsLead (fixed w) (returned_front (block scene) (Some a) ++ (check_ops (returned_used (block scene) (Some a)) ++ returned_ops (block scene) MainCode (Some a))) b (Reaches scene)
   main_returns owned =
       let returns = owner_returns Main (sym owned) in
       let same : NumberType Int ≡ is.type = cc in
-      let typed : IsArgument (classes_in w) (scope scene) a (NumberType Int) = subst (λ (t : ValueType ClassId). IsArgument (classes_in w) (scope scene) a t) (sym same) is.typed in
+      let typed : IsArgument (world_classes w) (scope scene) a (NumberType Int) = subst (λ (t : ValueType ClassId). IsArgument (world_classes w) (scope scene) a t) (sym same) is.typed in
       leads_returned scene a (NumberType Int) typed
       (λ rule broken. main_over typed owned (Some rule) broken)
       (λ new variables word clear none. leads_stop (fixed w) (subst (λ (m : Move). Agrees w at m (at_registers b new) Ended) (sym (main_over typed owned None clear)) refl))
 
-  value_does : MovesResult f.found → (r : Routine) → owner_of r ≡ f.owner → Leads (fixed w) (returned_front (block scene) (Some a) ++ (check_ops (returned_used (block scene) (Some a)) ++ returned_ops (block scene) r (Some a))) b (Reaches scene)
+  value_does : MovesResult f.found → (r : Routine) → routine_owner r ≡ f.owner → OpsLead (fixed w) (returned_front (block scene) (Some a) ++ (check_ops (returned_used (block scene) (Some a)) ++ returned_ops (block scene) r (Some a))) b (Reaches scene)
   value_does moves MainCode owned = main_returns (sym owned)
   value_does moves (FunctionCode n) owned = function_returns a line next scene n (sym owned) moves is.type is.typed (owner_returns (Function n) owned)
-  value_does moves (PlanCode course form c) owned = absurd (no_return (classes_in w) course c (ValueReturn is.type) (owner_returns (plan_owner course c) owned))
+  value_does moves (PlanCode course form c) owned = absurd (no_return (world_classes w) course c (ValueReturn is.type) (owner_returns (plan_owner course c) owned))
 
 module _ (line next : ℕ) (scene : Scene (record { kind = Return None; line = line; next = next })) where
   open scene use {w, at, s, f, below, body, b}
@@ -111,12 +111,12 @@ module _ (line next : ℕ) (scene : Scene (record { kind = Return None; line = l
   abbrev plain : TypedStatement
   plain = record { kind = Return None; line = line; next = next }
 
-  owner_returns_nothing : (o : Owner) → o ≡ f.owner → returns_of (classes_in w) o ≡ Some Void
-  owner_returns_nothing o same = ap (returns_of (classes_in w)) (same ∙ sym (the_body scene).0) ∙ nothing_typed (classes_in w) (scope scene) (kind_typed scene)
+  owner_returns_nothing : (o : Owner) → o ≡ f.owner → returns_of (world_classes w) o ≡ Some Void
+  owner_returns_nothing o same = ap (returns_of (world_classes w)) (same ∙ sym (the_body scene).0) ∙ nothing_typed (world_classes w) (scope scene) (kind_typed scene)
 
-  function_leaves : (n : FunctionId) → f.owner ≡ Function n → Leads (fixed w) (returned_front (block scene) None ++ (check_ops (returned_used (block scene) None) ++ returned_ops (block scene) (FunctionCode n) None)) b (Reaches scene)
+  function_leaves : (n : FunctionId) → f.owner ≡ Function n → OpsLead (fixed w) (returned_front (block scene) None ++ (check_ops (returned_used (block scene) None) ++ returned_ops (block scene) (FunctionCode n) None)) b (Reaches scene)
   function_leaves n owned =
-      let h = classes_in w in
+      let h = world_classes w in
       let k = is_called w at s f below body b scene.world scene.next.frames scene.next.typed scene.begins n owned in
       let returns = owner_returns_nothing (Function n) (sym owned) in
       let untaken = k.waits.fits_it.nothing (λ t is. let same : Some Void ≡ Some (ValueReturn t) = sym returns ∙ is in cc) in
@@ -125,10 +125,10 @@ module _ (line next : ℕ) (scene : Scene (record { kind = Return None; line = l
       (move_fine w s f below body plain scene.world scene.next tt refl refl ∙ ap (λ (o : Owner). move_by (left_by o (with_frames s below)) None) owned))
       (λ rule broken. absurd (let no_rule : None ≡ Some rule = sym (none_asked h s.objects) ∙ broken in cc))
 
-  nothing_does : (r : Routine) → owner_of r ≡ f.owner → Leads (fixed w) (returned_front (block scene) None ++ (check_ops (returned_used (block scene) None) ++ returned_ops (block scene) r None)) b (Reaches scene)
+  nothing_does : (r : Routine) → routine_owner r ≡ f.owner → OpsLead (fixed w) (returned_front (block scene) None ++ (check_ops (returned_used (block scene) None) ++ returned_ops (block scene) r None)) b (Reaches scene)
   nothing_does MainCode owned = absurd (let e = owner_returns_nothing Main owned in cc)
   nothing_does (FunctionCode n) owned = function_leaves n (sym owned)
-  nothing_does (PlanCode course form c) owned = absurd (no_return (classes_in w) course c Void (owner_returns_nothing (plan_owner course c) owned))
+  nothing_does (PlanCode course form c) owned = absurd (no_return (world_classes w) course c Void (owner_returns_nothing (plan_owner course c) owned))
 
 pub return_does : (a : Option Argument) (line next : ℕ) (scene : Scene (record { kind = Return a; line = line; next = next })) → MovesResult scene.f.found
     → LeadsBlock (fixed scene.w) (statement_ops scene.w.setup scene.at (top scene).on.routine scene.body scene.f.next (record { kind = Return a; line = line; next = next })) scene.b (Agrees scene.w scene.at (move_in scene.w scene.s))

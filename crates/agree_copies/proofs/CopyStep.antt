@@ -21,15 +21,15 @@ use Rattle.cxx_program.specs.declared.statement.TypedStatement.{TypedStatement}
 use Rattle.cxx_program.specs.Typed.{Scope, HasType, IsTyped, copies}
 use Rattle.path_rules.specs.declared.Undefined.{Undefined}
 use Rattle.path_rules.specs.declared.Undefined.TheVariants.{Dangling, NotReady, OutsideView}
-use Rattle.path_model.specs.Values.{Value, Pointer, Leaf, Sight, value}
-use Rattle.path_model.specs.Uses.{Use, Reads, Guards, Views, arrow, views, is_shared}
+use Rattle.path_model.specs.Values.{Value, Pointer, Leaf, Sight, value_of_operand}
+use Rattle.path_model.specs.Uses.{StatementUse, Reads, Guards, Views, arrow, uses_of_view, is_shared}
 use Rattle.path_model.specs.Rules.{is_broken, is_unready, is_outside, names, uses_of, refused as refused_by}
 use Rattle.path_model.specs.Order.{asked_covered}
-use Rattle.path_model.specs.States.{sight, wanted}
+use Rattle.path_model.specs.States.{sight, wanted_result}
 use Rattle.path_model.specs.Effects.{copied, copied_at}
 use Rattle.path_model.specs.Runs.{move_by}
 use Rattle.path_model.specs.TypedStates.{IsPartMade, IsValue}
-use Rattle.path_model.specs.Typed.{IsTyped as IsGiven}
+use Rattle.path_model.specs.Typed.{IsStatementAt as IsGiven}
 use Rattle.path_model.proofs.Statements.{statement_answers}
 use Rattle.path_model.proofs.TypedValues.{operand_typed}
 use Rattle.path_model.proofs.TypedUses.{followed}
@@ -37,7 +37,7 @@ use Rattle.abi_primary.specs.Kinds.{IsDynamic}
 use Rattle.abi_primary.proofs.KindLemmas.{base_dynamic}
 use Rattle.byte_machine.specs.Frames.{register_of}
 use Rattle.byte_code.specs.declared.op.Op.TheVariants.{Jump}
-use Rattle.byte_machine.specs.Leads.{Leads, LeadsBlock}
+use Rattle.byte_machine.specs.Leads.{OpsLead, LeadsBlock}
 use Rattle.byte_machine.proofs.Leads.{leads_end}
 use Rattle.byte_machine.proofs.ControlLeads.{leads_jump}
 use Rattle.code_blocks.specs.Blocks.{statement_ops}
@@ -46,7 +46,7 @@ use Rattle.code_ops.specs.Operands.{operand_ops, operand_register}
 use Rattle.code_ops.specs.Uses.{arrow_used, views_if}
 use Rattle.code_statements.specs.CopyTests.{copy_used, covered_used}
 use Rattle.code_statements.specs.CopyOps.{copy_ops, copy_sides}
-use Rattle.agree_relation.specs.Worlds.{classes_in, fixed}
+use Rattle.agree_relation.specs.Worlds.{world_classes, fixed}
 use Rattle.agree_relation.specs.Words.{register_word}
 use Rattle.agree_relation.specs.Columns.{ColumnsStand}
 use Rattle.agree_relation.specs.Frames.{HasVariables}
@@ -93,17 +93,17 @@ module _ (to from : TypedOperand) (c : ClassId) (line next : ℕ) (scene : Scene
   copying = record { kind = Copy to from c; line = line; next = next }
 
   abbrev h : Classes
-  h = classes_in w
+  h = world_classes w
 
   abbrev see : Sight
   see = sight s f
 
   -- the two pointers, and their registers
   abbrev target : Value
-  target = value see to
+  target = value_of_operand see to
 
   abbrev source : Value
-  source = value see from
+  source = value_of_operand see from
 
   abbrev to_register : ℕ
   to_register = operand_register (free (block scene) 0) to
@@ -114,8 +114,8 @@ module _ (to from : TypedOperand) (c : ClassId) (line next : ℕ) (scene : Scene
   abbrev needed : Bool
   needed = has_virtual_base h c
 
-  abbrev asked : List Use
-  asked = arrow target ++ (arrow source ++ (views needed target ++ (views needed source ++ (asked_covered h c target ++ asked_covered h c source))))
+  abbrev asked : List StatementUse
+  asked = arrow target ++ (arrow source ++ (uses_of_view needed target ++ (uses_of_view needed source ++ (asked_covered h c target ++ asked_covered h c source))))
 
   -- what is asked among all
   reads_target : Has asked (Reads target)
@@ -130,15 +130,15 @@ module _ (to from : TypedOperand) (c : ClassId) (line next : ℕ) (scene : Scene
   guards_source : Has asked (Guards source)
   guards_source = inr (inr (inr (inr (inr (inl refl)))))
 
-  viewed : (v : Value) → needed ≡ true → Has (views needed v) (Views v)
-  viewed v e = subst (λ (x : Bool). Has (views x v) (Views v)) (sym e) (inl refl)
+  viewed : (v : Value) → needed ≡ true → Has (uses_of_view needed v) (Views v)
+  viewed v e = subst (λ (x : Bool). Has (uses_of_view x v) (Views v)) (sym e) (inl refl)
 
   views_target : needed ≡ true → Has asked (Views target)
-  views_target e = inr (inr (inr (inr (inr (inr (has_left (views needed target) (views needed source ++ (asked_covered h c target ++ asked_covered h c source)) (Views target) (viewed target e)))))))
+  views_target e = inr (inr (inr (inr (inr (inr (has_left (uses_of_view needed target) (uses_of_view needed source ++ (asked_covered h c target ++ asked_covered h c source)) (Views target) (viewed target e)))))))
 
   views_source : needed ≡ true → Has asked (Views source)
-  views_source e = inr (inr (inr (inr (inr (inr (has_right (views needed target) (views needed source ++ (asked_covered h c target ++ asked_covered h c source)) (Views source)
-      (has_left (views needed source) (asked_covered h c target ++ asked_covered h c source) (Views source) (viewed source e))))))))
+  views_source e = inr (inr (inr (inr (inr (inr (has_right (uses_of_view needed target) (uses_of_view needed source ++ (asked_covered h c target ++ asked_covered h c source)) (Views source)
+      (has_left (uses_of_view needed source) (asked_covered h c target ++ asked_covered h c source) (Views source) (viewed source e))))))))
 
   types : IsCopied (scope scene) to from c
   types = copied_typed h (scope scene) to from c (kind_typed scene)
@@ -156,7 +156,7 @@ module _ (to from : TypedOperand) (c : ClassId) (line next : ℕ) (scene : Scene
     variables : HasVariables w (here scene) f registers
 
   -- the tests of the block are those that the rules ask
-  abbrev Tests : List (Option ℕ) → List Use → List Used → Type 0
+  abbrev Tests : List (Option ℕ) → List StatementUse → List Used → Type 0
   Tests new us ds = Along (fixed w) (at_registers b new) (Reaches scene) h s.objects asked us ds
 
   along_copy : (new : List (Option ℕ)) → Holds new → Tests new asked (copy_used (block scene) to from c)
@@ -170,14 +170,14 @@ module _ (to from : TypedOperand) (c : ClassId) (line next : ℕ) (scene : Scene
       let views_from = views_if needed from_register 0 c in
       let cover_to = covered_used w.setup to_register (c.0 + 1) c 0 in
       let cover_from = covered_used w.setup from_register (c.0 + 1) c 0 in
-      let append = λ (us vs : List Use) (ds es : List Used) (a : Tests new us ds) (x : Tests new vs es). along_append (fixed w) state (Reaches scene) h s.objects asked us vs ds es a x in
-      append (arrow target) (arrow source ++ (views needed target ++ (views needed source ++ (asked_covered h c target ++ asked_covered h c source)))) (arrow_used e first to c) (arrow_used e second from c ++ (views_to ++ (views_from ++ (cover_to ++ cover_from))))
+      let append = λ (us vs : List StatementUse) (ds es : List Used) (a : Tests new us ds) (x : Tests new vs es). along_append (fixed w) state (Reaches scene) h s.objects asked us vs ds es a x in
+      append (arrow target) (arrow source ++ (uses_of_view needed target ++ (uses_of_view needed source ++ (asked_covered h c target ++ asked_covered h c source)))) (arrow_used e first to c) (arrow_used e second from c ++ (views_to ++ (views_from ++ (cover_to ++ cover_from))))
       (along_arrow w see state (Reaches scene) scene.world columns asked e first to c (sees scene) types.to_typed k.to_word)
-      (append (arrow source) (views needed target ++ (views needed source ++ (asked_covered h c target ++ asked_covered h c source))) (arrow_used e second from c) (views_to ++ (views_from ++ (cover_to ++ cover_from)))
+      (append (arrow source) (uses_of_view needed target ++ (uses_of_view needed source ++ (asked_covered h c target ++ asked_covered h c source))) (arrow_used e second from c) (views_to ++ (views_from ++ (cover_to ++ cover_from)))
       (along_arrow w see state (Reaches scene) scene.world columns asked e second from c (sees scene) types.from_typed k.from_word)
-      (append (views needed target) (views needed source ++ (asked_covered h c target ++ asked_covered h c source)) views_to (views_from ++ (cover_to ++ cover_from))
+      (append (uses_of_view needed target) (uses_of_view needed source ++ (asked_covered h c target ++ asked_covered h c source)) views_to (views_from ++ (cover_to ++ cover_from))
       (along_views w see state (Reaches scene) scene.world columns asked needed to_register target c (tells scene new) (open_read w see state (Reaches scene) scene.world columns asked target reads_target) guards_target (virtual_dynamic h c) target_typed k.to_word)
-      (append (views needed source) (asked_covered h c target ++ asked_covered h c source) views_from (cover_to ++ cover_from)
+      (append (uses_of_view needed source) (asked_covered h c target ++ asked_covered h c source) views_from (cover_to ++ cover_from)
       (along_views w see state (Reaches scene) scene.world columns asked needed from_register source c (tells scene new) (open_read w see state (Reaches scene) scene.world columns asked source reads_source) guards_source (virtual_dynamic h c) source_typed k.from_word)
       (append (asked_covered h c target) (asked_covered h c source) cover_to cover_from
       (along_covered w see state (Reaches scene) scene.world columns asked to_register (c.0 + 1) target c target_typed k.to_word)
@@ -186,7 +186,7 @@ module _ (to from : TypedOperand) (c : ClassId) (line next : ℕ) (scene : Scene
   -- what the tests say of a part that a pointer names
   usable : (v : Value) (p : ObjectPart) → v ≡ Pointer p → IsPartMade h s.objects.classes p c → ((r : Undefined) → is_broken h s.objects asked r ≡ false) → Has asked (Reads v) → Has asked (Guards v) → (needed ≡ true → Has asked (Views v)) → IsUsable w s.objects c p
   usable v p is made none reads guards viewed =
-      let clear = λ (u : Use) (has : Has asked u) (r : Undefined). unbroken (fixed w) b (Reaches scene) h s.objects asked u r (none r) has in
+      let clear = λ (u : StatementUse) (has : Has asked u) (r : Undefined). unbroken (fixed w) b (Reaches scene) h s.objects asked u r (none r) has in
       record {
         made = made;
         is_open = subst (λ (y : Value). names (λ q. s.objects.is_closed q.object) y ≡ false) is (clear (Reads v) reads Dangling);
@@ -219,7 +219,7 @@ module _ (to from : TypedOperand) (c : ClassId) (line next : ℕ) (scene : Scene
   -- all leaves are copied, and control goes on
   leads_copies : (new : List (Option ℕ)) (p q : ObjectPart) → target ≡ Pointer p → source ≡ Pointer q → IsUsable w s.objects c p → IsUsable w s.objects c q → Holds new
       → move_in w s ≡ move_by (copied_at h (state_on s s.objects s.globals (body_on f f.locals next) below) c target source) None
-      → Leads (fixed w) (copy_ops (block scene) to from c ++ (Jump (to_next scene next) ∷ [])) (at_registers b new) (Reaches scene)
+      → OpsLead (fixed w) (copy_ops (block scene) to from c ++ (Jump (to_next scene next) ∷ [])) (at_registers b new) (Reaches scene)
   leads_copies new p q is_p is_q usable_p usable_q k moves =
       let g = here scene in
       let list = preorder h c in
@@ -245,9 +245,9 @@ module _ (to from : TypedOperand) (c : ClassId) (line next : ℕ) (scene : Scene
 
   pub copy_does : LeadsBlock (fixed w) (statement_ops w.setup at (top scene).on.routine body f.next (record { kind = Copy to from c; line = line; next = next })) b (Agrees w at (move_in w s))
   copy_does =
-      let given : IsGiven h see (wanted f) (Copy to from c) = (value_of h s.objects target c target_typed, value_of h s.objects source c source_typed) in
-      let us = uses_of h see (wanted f) (Copy to from c) in
-      let answers = statement_answers h scene.world.hierarchy see (wanted f) scene.next.settled (Copy to from c) given in
+      let given : IsGiven h see (wanted_result f) (Copy to from c) = (value_of h s.objects target c target_typed, value_of h s.objects source c source_typed) in
+      let us = uses_of h see (wanted_result f) (Copy to from c) in
+      let answers = statement_answers h scene.world.hierarchy see (wanted_result f) scene.next.settled (Copy to from c) given in
       leads_grouped (fixed w) (operand_ops (free (block scene) 0) to) (operand_ops (free (block scene) 1) from) _
       (leads_operand (fixed w) w (here scene) s f (scope scene) b to (PointerType c) (free (block scene) 0) b.top.registers (sees scene) scene.begins.stands.globals (variables scene) types.to_typed (free_in scene f.locals b.top.registers 0 (omega arith) (variables scene))
       (λ mid read. let kept = variables_kept w (here scene) f (free (block scene) 0) b.top.registers mid (is_free scene 0) (variables scene) read.wrote in

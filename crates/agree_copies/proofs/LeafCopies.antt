@@ -18,10 +18,10 @@ use Rattle.byte_shadow.specs.Shadows.{Notes}
 use Rattle.byte_machine.specs.declared.heap.Opened.{Opened}
 use Rattle.agree_parts.specs.Heaps.{Heap}
 use Rattle.agree_parts.specs.Addresses.{address, span, leaf_bits}
-use Rattle.agree_parts.specs.Placed.{IsLaid}
+use Rattle.agree_parts.specs.Placed.{AreObjectsLaid}
 use Rattle.agree_parts.proofs.Made.{inner_is_made}
 use Rattle.agree_parts.proofs.Apart.{leaves_apart, leaf_and_pointer}
-use Rattle.agree_relation.specs.Worlds.{World, IsWorld, classes_in, places_in}
+use Rattle.agree_relation.specs.Worlds.{World, IsProgramWorld, world_classes, places_in}
 use Rattle.agree_relation.specs.Words.{heap_of, AreBitsOf}
 use Rattle.agree_relation.specs.Columns.{LeavesStand, PointersStand, ColumnsStand}
 use Rattle.agree_relation.proofs.StoredBits.{copy_span}
@@ -34,20 +34,20 @@ leaf_itself a = rw (part_itself a.part, eq-eqb a.member a.member refl, eq-eqb a.
 
 -- two leaves of one type are made, one in the part that is copied to and one in the other, and can be reached
 pub record IsCopy (w : World) (s : Objects) (c : ClassId) (to from : ObjectPart) (a b : Leaf) (t : ValueType ClassId) : Type 0 where
-  pub like : AreLike (classes_in w) c to from a b
-  pub made_a : IsLeafMade (classes_in w) s.classes a t
-  pub made_b : IsLeafMade (classes_in w) s.classes b t
+  pub like : AreLike (world_classes w) c to from a b
+  pub made_a : IsLeafMade (world_classes w) s.classes a t
+  pub made_b : IsLeafMade (world_classes w) s.classes b t
   pub open_a : s.is_closed a.part.object ≡ false
   pub open_b : s.is_closed b.part.object ≡ false
 
-module _ (w : World) (s : Objects) (c : ClassId) (to from : ObjectPart) (memory : Store) (done : List (Leaf × Leaf)) (a b : Leaf) (t : ValueType ClassId) (world : IsWorld w) (made_to : IsPartMade (classes_in w) s.classes to c) (made_from : IsPartMade (classes_in w) s.classes from c)
-    (all : AreCopied (classes_in w) c to from done) (k : IsCopy w s c to from a b t) (laid : IsLaid (classes_in w) w.setup.rows (heap_of s.classes memory.regions))
-    (x y : Span) (source_is : leaf_bits (classes_in w) (places_in w) (heap_of s.classes memory.regions) b ≡ x) (target_is : leaf_bits (classes_in w) (places_in w) (heap_of s.classes memory.regions) a ≡ y) (long : x.length ≡ y.length) where
+module _ (w : World) (s : Objects) (c : ClassId) (to from : ObjectPart) (memory : Store) (done : List (Leaf × Leaf)) (a b : Leaf) (t : ValueType ClassId) (world : IsProgramWorld w) (made_to : IsPartMade (world_classes w) s.classes to c) (made_from : IsPartMade (world_classes w) s.classes from c)
+    (all : AreCopied (world_classes w) c to from done) (k : IsCopy w s c to from a b t) (laid : AreObjectsLaid (world_classes w) w.setup.rows (heap_of s.classes memory.regions))
+    (x y : Span) (source_is : leaf_bits (world_classes w) (places_in w) (heap_of s.classes memory.regions) b ≡ x) (target_is : leaf_bits (world_classes w) (places_in w) (heap_of s.classes memory.regions) a ≡ y) (long : x.length ≡ y.length) where
   abbrev g : Heap
   g = heap_of s.classes memory.regions
 
   abbrev bits_of : Leaf → Span
-  bits_of l = leaf_bits (classes_in w) (places_in w) g l
+  bits_of l = leaf_bits (world_classes w) (places_in w) g l
 
   abbrev before : Objects
   before = copied_by s done
@@ -68,7 +68,7 @@ module _ (w : World) (s : Objects) (c : ClassId) (to from : ObjectPart) (memory 
   -- its own bits are those of the other leaf, which has its old value
   own_bits : AreBitsOf w g (before.leaf b) memory.bit x → AreBitsOf w g (s.leaf b) after.bit y
   own_bits there =
-      let source = source_old (classes_in w) world.hierarchy s.classes c to from made_to made_from s done all a b k.like in
+      let source = source_old (world_classes w) world.hierarchy s.classes c to from made_to made_from s done all a b k.like in
       let old : AreBitsOf w g (before.leaf b) memory.bit (span x.start y.length) = subst (λ (n : ℕ). AreBitsOf w g (before.leaf b) memory.bit (span x.start n)) long there in
       subst (λ (v : Value). AreBitsOf w g v after.bit y) source
       (record {
@@ -81,16 +81,16 @@ module _ (w : World) (s : Objects) (c : ClassId) (to from : ObjectPart) (memory 
     leaf = λ l u there_made open_there. split (same_leaf a l)
         (λ same. same_leaf a l ≡ same → AreBitsOf w g (now.leaf l) after.bit (bits_of l))
         (λ _ e.
-        let value = target_new (classes_in w) world.hierarchy s.classes c to from made_to made_from s done all a b k.like l e in
+        let value = target_new (world_classes w) world.hierarchy s.classes c to from made_to made_from s done all a b k.like l e in
         let source : AreBitsOf w g (before.leaf b) memory.bit x = subst (AreBitsOf w g (before.leaf b) memory.bit) source_is (leaves.leaf b t k.made_b k.open_b) in
         subst (λ (v : Value). AreBitsOf w g v after.bit (bits_of l)) (sym value)
         (subst (λ (z : Leaf). AreBitsOf w g (s.leaf b) after.bit (bits_of z)) (leaf_is a l e) (subst (AreBitsOf w g (s.leaf b) after.bit) (sym target_is) (own_bits source))))
         (λ _ e.
         let other : a ≡ l → ⊥ = λ one. not_both (ap (same_leaf a) (sym one) ∙ leaf_itself a) e in
-        let value = other_kept (classes_in w) world.hierarchy s.classes c to from made_to made_from s done all a b k.like l e in
+        let value = other_kept (world_classes w) world.hierarchy s.classes c to from made_to made_from s done all a b k.like l e in
         subst (λ (v : Value). AreBitsOf w g v after.bit (bits_of l)) (sym value)
         (bits_same w g (before.leaf l) memory.bit after.bit (bits_of l)
-        (kept_apart (bits_of l) (target_apart (bits_of l) (leaves_apart (classes_in w) w.setup.rows g a l t u laid k.made_a there_made other))) (leaves.leaf l u there_made open_there))) refl;
+        (kept_apart (bits_of l) (target_apart (bits_of l) (leaves_apart (world_classes w) w.setup.rows g a l t u laid k.made_a there_made other))) (leaves.leaf l u there_made open_there))) refl;
   }
 
   pointers_copied : PointersStand w g before memory → PointersStand w g now after
@@ -99,9 +99,9 @@ module _ (w : World) (s : Objects) (c : ClassId) (to from : ObjectPart) (memory 
         pointers_kept w g memory after (part k' o z) e d
         (record {
           each = λ i d' valid class dynamic_base.
-              let at = address (classes_in w) (places_in w) g (inner_part (part k' o z) i) in
-              let inner = inner_is_made (classes_in w) g (part k' o z) e d' i seen_made valid class in
-              let apart = target_apart (pointer_span at) (leaf_and_pointer (classes_in w) w.setup.rows g a t (inner_part (part k' o z) i) d' laid k.made_a inner dynamic_base) in
+              let at = address (world_classes w) (places_in w) g (inner_part (part k' o z) i) in
+              let inner = inner_is_made (world_classes w) g (part k' o z) e d' i seen_made valid class in
+              let apart = target_apart (pointer_span at) (leaf_and_pointer (world_classes w) w.setup.rows g a t (inner_part (part k' o z) i) d' laid k.made_a inner dynamic_base) in
               table_same memory after at refl (number_from-copied_other y.length (8 * 8) memory.bit x.start y.start (8 * at) (⊎_elim (λ before. inr (omega arith)) (λ behind. inl (omega arith)) apart));
         })
         (pointers.pointers k' o d e z whole seen_made open_there seen ready dynamic);

@@ -19,13 +19,13 @@ use Rattle.path_model.specs.TypedStates.{IsPartMade}
 use Rattle.byte_machine.specs.Frames.{register_of}
 use Rattle.byte_code.specs.declared.op.Op.{Op}
 use Rattle.byte_machine.specs.Running.{Running, Stop}
-use Rattle.byte_machine.specs.Leads.{Leads}
+use Rattle.byte_machine.specs.Leads.{OpsLead}
 use Rattle.code_ops.specs.Arguments.{Block, free, block_in}
 use Rattle.code_ops.specs.Operands.{base_ops, ops_of}
 use Rattle.code_statements.specs.CopyOps.{own_copies, object_copies, copy_sides, subobject_copies}
 use Rattle.agree_parts.specs.Heaps.{Heap}
 use Rattle.agree_parts.specs.Addresses.{address}
-use Rattle.agree_relation.specs.Worlds.{World, IsWorld, classes_in, places_in, fixed}
+use Rattle.agree_relation.specs.Worlds.{World, IsProgramWorld, world_classes, places_in, fixed}
 use Rattle.agree_relation.specs.Words.{heap_of}
 use Rattle.agree_relation.specs.Goings.{Going, ArePlanned}
 use Rattle.agree_statements.specs.Registers.{at_registers}
@@ -39,10 +39,10 @@ use Rattle.agree_copies.proofs.LeafRuns.{with_bits, CopiedSo, leads_leaves}
 
 -- a part of class c that a copy may use: it was made, is open and ready, and where its class has a virtual base it is in view
 pub record IsUsable (w : World) (s : Objects) (c : ClassId) (p : ObjectPart) : Type 0 where
-  pub made : IsPartMade (classes_in w) s.classes p c
+  pub made : IsPartMade (world_classes w) s.classes p c
   pub is_open : s.is_closed p.object ≡ false
   pub ready : is_unready s p ≡ false
-  pub in_view : (i : Subobject) → IsSubobject (classes_in w) c i → is_shared i ≡ true → is_outside (classes_in w) s p ≡ false
+  pub in_view : (i : Subobject) → IsSubobject (world_classes w) c i → is_shared i ≡ true → is_outside (world_classes w) s p ≡ false
 
 -- two registers were written at most
 pub record WroteTwo (r q : ℕ) (old new : List (Option ℕ)) : Type 0 where
@@ -59,10 +59,10 @@ pub record AreApart (to from first second : ℕ) (old : List (Option ℕ)) : Typ
   pub first_there : first < length old
   pub second_there : second < length old
 
-module _ (w : World) (s : Objects) (goings : List Going) (b : Running) (P : Running → Stop → Type 0) (c : ClassId) (to from : ObjectPart) (world : IsWorld w) (planned : ArePlanned w s.classes s.phases goings) (settled : AllSettled (classes_in w) s) (seen : AreSeen (classes_in w) s)
+module _ (w : World) (s : Objects) (goings : List Going) (b : Running) (P : Running → Stop → Type 0) (c : ClassId) (to from : ObjectPart) (world : IsProgramWorld w) (planned : ArePlanned w s.classes s.phases goings) (settled : AllSettled (world_classes w) s) (seen : AreSeen (world_classes w) s)
     (usable_to : IsUsable w s c to) (usable_from : IsUsable w s c from) (body : TypedBody) (to_register from_register : ℕ) (start : List (Option ℕ))
     (apart : AreApart to_register from_register (free (block_in w.setup body) 2) (free (block_in w.setup body) 3) start)
-    (has_to : register_of start to_register ≡ Some (address (classes_in w) (places_in w) (heap_of s.classes b.memory.regions) to)) (has_from : register_of start from_register ≡ Some (address (classes_in w) (places_in w) (heap_of s.classes b.memory.regions) from)) where
+    (has_to : register_of start to_register ≡ Some (address (world_classes w) (places_in w) (heap_of s.classes b.memory.regions) to)) (has_from : register_of start from_register ≡ Some (address (world_classes w) (places_in w) (heap_of s.classes b.memory.regions) from)) where
   abbrev g : Heap
   g = heap_of s.classes b.memory.regions
 
@@ -79,27 +79,27 @@ module _ (w : World) (s : Objects) (goings : List Going) (b : Running) (P : Runn
   Copies = CopiedSo w s b P c to from world usable_to.made usable_from.made
 
   -- what other leaves hold does not matter to the way to a base
-  still_under : (p : ObjectPart) (i : Subobject) (done : List (Leaf × Leaf)) (bit : ℕ → Option Bool) → IsUsable w s c p → IsSubobject (classes_in w) c i → is_shared i ≡ true → Copies done bit → IsUnder w (copied_by s done) (with_bits b bit) p c
+  still_under : (p : ObjectPart) (i : Subobject) (done : List (Leaf × Leaf)) (bit : ℕ → Option Bool) → IsUsable w s c p → IsSubobject (world_classes w) c i → is_shared i ≡ true → Copies done bit → IsUnder w (copied_by s done) (with_bits b bit) p c
   still_under p i done bit k valid through before =
       under w (copied_by s done) (with_bits b bit) world before.columns p c
-      (in_sight w (copied_by s done) goings p c planned settled (record { view = seen.view; around = seen.around }) k.made k.ready) k.made k.is_open (k.in_view i valid through) (shared_dynamic (classes_in w) c i valid through)
+      (in_sight w (copied_by s done) goings p c planned settled (record { view = seen.view; around = seen.around }) k.made k.ready) k.made k.is_open (k.in_view i valid through) (shared_dynamic (world_classes w) c i valid through)
 
   -- the leaves of a subobject's own members in both parts
   abbrev pub own_pairs : Subobject → List (Leaf × Leaf)
-  own_pairs i = zip (own_leaves (classes_in w) (leaves_within (classes_in w) c.0) (class_of i) (inner_part to i)) (own_leaves (classes_in w) (leaves_within (classes_in w) c.0) (class_of i) (inner_part from i))
+  own_pairs i = zip (own_leaves (world_classes w) (leaves_within (world_classes w) c.0) (class_of i) (inner_part to i)) (own_leaves (world_classes w) (leaves_within (world_classes w) c.0) (class_of i) (inner_part from i))
 
-  leads_subobject : {ops : List Op} (i : Subobject) (old : List (Option ℕ)) (done : List (Leaf × Leaf)) (bit : ℕ → Option Bool) → IsSubobject (classes_in w) c i → WroteTwo first second start old → Copies done bit
-      → ((new : List (Option ℕ)) (bit' : ℕ → Option Bool) → WroteTwo first second start new → Copies (done ++ own_pairs i) bit' → Leads (fixed w) ops (at_registers (with_bits b bit') new) P)
-      → Leads (fixed w) (subobject_copies blk to_register from_register c i ++ ops) (at_registers (with_bits b bit) old) P
+  leads_subobject : {ops : List Op} (i : Subobject) (old : List (Option ℕ)) (done : List (Leaf × Leaf)) (bit : ℕ → Option Bool) → IsSubobject (world_classes w) c i → WroteTwo first second start old → Copies done bit
+      → ((new : List (Option ℕ)) (bit' : ℕ → Option Bool) → WroteTwo first second start new → Copies (done ++ own_pairs i) bit' → OpsLead (fixed w) ops (at_registers (with_bits b bit') new) P)
+      → OpsLead (fixed w) (subobject_copies blk to_register from_register c i ++ ops) (at_registers (with_bits b bit) old) P
   leads_subobject {ops} i old done bit valid wrote before rest =
-      let h = classes_in w in
+      let h = world_classes w in
       let k = class_there h c i valid in
       let own = own_copies w.setup (object_copies w.setup (copy_sides blk) c.0) (copy_sides blk) (class_of i) 0 in
       let to_there = wrote.other to_register apart.to_first apart.to_second ∙ has_to in
       let from_there = wrote.other from_register apart.from_first apart.from_second ∙ has_from in
       let inside_first : first < length old = subst (λ (n : ℕ). first < n) (sym wrote.size) apart.first_there in
       let inside_second : second < length old = subst (λ (n : ℕ). second < n) (sym wrote.size) apart.second_there in
-      subst (λ (list : List Op). Leads (fixed w) list (at_registers (with_bits b bit) old) P)
+      subst (λ (list : List Op). OpsLead (fixed w) list (at_registers (with_bits b bit) old) P)
       (sym (append_assoc (ops_of (base_ops w.setup c i first to_register)) (ops_of (base_ops w.setup c i second from_register) ++ own) ops ∙ ap (λ (list : List Op). ops_of (base_ops w.setup c i first to_register) ++ list) (append_assoc (ops_of (base_ops w.setup c i second from_register)) own ops)))
       (leads_base w (copied_by s done) (with_bits b bit) world before.columns P to c k.0 i first to_register old usable_to.made valid k.1 (λ through. seen_from w (copied_by s done) (with_bits b bit) to c (still_under to i done bit usable_to valid through before)) to_there inside_first
       (λ mid wrote_first is_first.
@@ -116,12 +116,12 @@ module _ (w : World) (s : Objects) (goings : List Going) (b : Running) (P : Runn
       }) after))))
 
   -- some subobjects in turn
-  pub leads_subobjects : {ops : List Op} (list : List Subobject) (old : List (Option ℕ)) (done : List (Leaf × Leaf)) (bit : ℕ → Option Bool) → ((i : Subobject) → Has list i → IsSubobject (classes_in w) c i) → WroteTwo (free (block_in w.setup body) 2) (free (block_in w.setup body) 3) start old → CopiedSo w s b P c to from world usable_to.made usable_from.made done bit
-      → ((new : List (Option ℕ)) (bit' : ℕ → Option Bool) → WroteTwo (free (block_in w.setup body) 2) (free (block_in w.setup body) 3) start new → CopiedSo w s b P c to from world usable_to.made usable_from.made (done ++ flat_map own_pairs list) bit' → Leads (fixed w) ops (at_registers (with_bits b bit') new) P)
-      → Leads (fixed w) (flat_map (subobject_copies (block_in w.setup body) to_register from_register c) list ++ ops) (at_registers (with_bits b bit) old) P
+  pub leads_subobjects : {ops : List Op} (list : List Subobject) (old : List (Option ℕ)) (done : List (Leaf × Leaf)) (bit : ℕ → Option Bool) → ((i : Subobject) → Has list i → IsSubobject (world_classes w) c i) → WroteTwo (free (block_in w.setup body) 2) (free (block_in w.setup body) 3) start old → CopiedSo w s b P c to from world usable_to.made usable_from.made done bit
+      → ((new : List (Option ℕ)) (bit' : ℕ → Option Bool) → WroteTwo (free (block_in w.setup body) 2) (free (block_in w.setup body) 3) start new → CopiedSo w s b P c to from world usable_to.made usable_from.made (done ++ flat_map own_pairs list) bit' → OpsLead (fixed w) ops (at_registers (with_bits b bit') new) P)
+      → OpsLead (fixed w) (flat_map (subobject_copies (block_in w.setup body) to_register from_register c) list ++ ops) (at_registers (with_bits b bit) old) P
   leads_subobjects [] old done bit valid wrote before rest = rest old bit wrote (subst (λ (pairs : List (Leaf × Leaf)). Copies pairs bit) (sym (append-nil done)) before)
   leads_subobjects {ops} (i ∷ list) old done bit valid wrote before rest =
-      subst (λ (o : List Op). Leads (fixed w) o (at_registers (with_bits b bit) old) P) (sym (append_assoc (subobject_copies blk to_register from_register c i) (flat_map (subobject_copies blk to_register from_register c) list) ops))
+      subst (λ (o : List Op). OpsLead (fixed w) o (at_registers (with_bits b bit) old) P) (sym (append_assoc (subobject_copies blk to_register from_register c i) (flat_map (subobject_copies blk to_register from_register c) list) ops))
       (leads_subobject i old done bit (valid i (inl refl)) wrote before
       (λ mid bit' wrote' after. leads_subobjects list mid (done ++ own_pairs i) bit' (λ j has. valid j (inr has)) wrote' after
       (λ new bit'' wrote'' last. rest new bit'' wrote'' (subst (λ (pairs : List (Leaf × Leaf)). Copies pairs bit'') (append_assoc done (own_pairs i) (flat_map own_pairs list)) last))))

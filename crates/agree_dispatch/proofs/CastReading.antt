@@ -8,7 +8,7 @@ use Rattle.foundation.proofs.Members.{Has, contains_from_has, has_from_contains}
 use Rattle.std.proofs.lemmas.Bool.{cases_lt}
 use Rattle.byte_memory.specs.Store.{Store, load_of}
 use Rattle.byte_code.specs.Numbers.{word_of, IsInBytes}
-use Rattle.byte_code.specs.Records.{IsInfoAt, IsBaseAt, IsClearOf, IsTableWord}
+use Rattle.byte_code.specs.Records.{IsInfoAt, HasBaseRecord, IsClearOf, IsTableWord}
 use Rattle.byte_code.specs.declared.image.InfoRecord.{InfoRecord}
 use Rattle.byte_code.specs.declared.image.BaseRecord.{BaseRecord}
 use Rattle.cxx_hierarchy.specs.declared.records.ClassId.{ClassId}
@@ -25,7 +25,7 @@ use Rattle.cxx_subobject.proofs.TestLemmas.{base_class}
 use Rattle.cxx_subobject.proofs.InsideLemmas.{join_class, inside_through, inside_valid}
 use Rattle.abi_primary.specs.Kinds.{IsDynamic, shares}
 use Rattle.abi_sound.specs.declared.class_layout.ClassLayout.{ClassLayout}
-use Rattle.abi_sound.specs.Places.{Places, places_of, base_place}
+use Rattle.abi_sound.specs.Places.{Places, places_of, direct_base_place}
 use Rattle.abi_sound.proofs.PlaceLemmas.{direct_place}
 use Rattle.abi_sound.proofs.Depth.{below, distinct}
 use Rattle.abi_slots.specs.Views.{View, seen, place}
@@ -37,11 +37,11 @@ use Rattle.abi_slots.proofs.Listings.{ArePrimaries}
 use Rattle.abi_rtti.specs.TypeInfos.{type_info, info_base, offset_flags, place_of_base}
 use Rattle.abi_dyncast.specs.declared.parts.Part.{Part}
 use Rattle.abi_dyncast.specs.declared.parts.Edge.{Edge}
-use Rattle.abi_dyncast.specs.Graph.{Graph, graph_of, moved, info_at, is_virtual, is_public, vbase_at, distance_word, edge_by, record_at, base_of}
+use Rattle.abi_dyncast.specs.Graph.{Graph, graph_of, moved_address, info_at, has_virtual_flag, is_public, vbase_at, distance_word, edge_by, record_at, base_record}
 use Rattle.abi_dyncast.specs.Casts.{CanStep}
 use Rattle.abi_dyncast.proofs.Keeping.{info_read, base_read}
 use Rattle.abi_dyncast.proofs.Distances.{moved_between, moved_along}
-use Rattle.agree_dispatch.specs.CastStanding.{IsStanding}
+use Rattle.agree_dispatch.specs.CastStanding.{StandsInMemory}
 use Rattle.agree_dispatch.proofs.CastNumbers.{moved_back}
 use Rattle.agree_dispatch.proofs.Distances.{IsFar, far_plain, far_virtual}
 use Rattle.agree_dispatch.proofs.Bases.{inside_base}
@@ -79,7 +79,7 @@ infos_some info (suc n) some = omega arith
 abbrev pub part_of : Places → View → PlacedTables → ℕ → Subobject → Part
 part_of l x placed start u = record { at = start + l.place x.complete u; info = record_for placed.info (class_of u) }
 
-module _ (h : Classes) (rows : List ClassLayout) (x : View) (placed : PlacedTables) (memory : Store) (start : ℕ) (stands : IsStanding h rows x placed memory start) where
+module _ (h : Classes) (rows : List ClassLayout) (x : View) (placed : PlacedTables) (memory : Store) (start : ℕ) (stands : StandsInMemory h rows x placed memory start) where
   abbrev l : Places
   l = places_of h rows
 
@@ -222,12 +222,12 @@ module _ (h : Classes) (rows : List ClassLayout) (x : View) (placed : PlacedTabl
       down v inside =
           let n = place_of_base l c base in
           let high = low (base_subobject u base) (valid (base_subobject u base) inside) in
-          let behind : l.place x.complete (base_subobject u base) ≡ l.place x.complete u + base_place h rows c base.class = ap (l.place x.complete) (base_down u base v) ∙ direct_place h rows x.complete c base.class u e in
-          let same : n ≡ base_place h rows c base.class = omega arith in
+          let behind : l.place x.complete (base_subobject u base) ≡ l.place x.complete u + direct_base_place h rows c base.class = ap (l.place x.complete) (base_down u base v) ∙ direct_place h rows x.complete c base.class u e in
+          let same : n ≡ direct_base_place h rows c base.class = omega arith in
           let r = plain_read h l c (placed.info base.class) base v (place_low c base (known u c k e) listed v) in
           let sum : pos ((part u).at) +ℤ pos n ≡ pos (part (base_subobject u base)).at = omega (arith, ints) in
           far_plain placed.image memory (part u).at (part (base_subobject u base)).at (written c base) r.virtual_is
-          (ap (moved (part u).at) r.offset_is ∙ moved_along (part u).at (part (base_subobject u base)).at (pos n) sum (omega arith) (omega arith))
+          (ap (moved_address (part u).at) r.offset_is ∙ moved_along (part u).at (part (base_subobject u base)).at (pos n) sum (omega arith) (omega arith))
 
       across : base.is_virtual ≡ true → IsInside h x.at_sub (base_subobject u base) → IsFar placed.image memory (part u).at (part (base_subobject u base)).at (written c base)
       across v inside =
@@ -238,20 +238,20 @@ module _ (h : Classes) (rows : List ClassLayout) (x : View) (placed : PlacedTabl
           let r = virtual_read h l stands.keeps primaries c (known u c k e) (placed.info base.class) base v in
           let lowest = stands.typed.low d.at (word_of d.distance) d.there in
           let back = d.before in
-          let spot : moved p.point (word_of (negsuc (8 * n + 23))) ≡ d.at = moved_back p.point d.at (8 * n + 23) (omega arith) lowest in
+          let spot : moved_address p.point (word_of (negsuc (8 * n + 23))) ≡ d.at = moved_back p.point d.at (8 * n + 23) (omega arith) lowest in
           let a = low u (valid u k) in
           let b = low (base_subobject u base) (valid (base_subobject u base) inside) in
           let there : l.place x.complete (base_subobject u base) ≡ l.place x.complete (shared_base base.class) = ap (l.place x.complete) (base_across u base v) in
           let from : l.place x.complete u ≡ place l x p.of.here = ap (l.place x.complete) p.of.is in
           let leads : pos (l.place x.complete u) +ℤ d.distance ≡ pos (l.place x.complete (base_subobject u base)) = ap (λ m. pos m +ℤ d.distance) from ∙ (d.leads ∙ ap pos (sym there)) in
-          far_virtual placed.image memory (part u).at (part (base_subobject u base)).at p.point d.at (word_of d.distance) (written c base) r.virtual_is p.load (ap (moved p.point) r.offset_is ∙ spot) d.there
+          far_virtual placed.image memory (part u).at (part (base_subobject u base)).at p.point d.at (word_of d.distance) (written c base) r.virtual_is p.load (ap (moved_address p.point) r.offset_is ∙ spot) d.there
           (moved_between start (l.place x.complete u) (l.place x.complete (base_subobject u base)) d.distance leads a b)
           (let highest = stands.below p.of.here p.point p.is_point in table_word d.at (omega arith))
 
   -- the record of a base stands in the image
   record IsWritten (u : Subobject) (i : ℕ) (base : BaseRecord) : Type 0 where
     low : record_at placed.image (part u) i < 2 ^ 64
-    there : IsBaseAt placed.image (record_at placed.image (part u) i) base
+    there : HasBaseRecord placed.image (record_at placed.image (part u) i) base
 
   written_at : (u : Subobject) (c : ClassId) (i : ℕ) (base : Base ClassId) → IsInside h x.at_sub u → class_of u ≡ Some c → slice_get (bases_of h c) i ≡ Some base → IsWritten u i (written c base)
   written_at u c i base k e at =
@@ -262,10 +262,10 @@ module _ (h : Classes) (rows : List ClassLayout) (x : View) (placed : PlacedTabl
       let fits = base_fits c base (known u c k e) (contains_at (bases_of h c) i base at) in
       record {
         low = subst (λ n. n < 18446744073709551616) (sym first) lowest;
-        there = subst (λ n. IsBaseAt placed.image n (written c base)) (sym first) (base_reads placed.image placed.info (info_base h l c base) (has.first + 16 * i) fits stands_there);
+        there = subst (λ n. HasBaseRecord placed.image n (written c base)) (sym first) (base_reads placed.image placed.info (info_base h l c base) (has.first + 16 * i) fits stands_there);
       }
 
-  base_is : (u : Subobject) (c : ClassId) (i : ℕ) (base : Base ClassId) → IsInside h x.at_sub u → class_of u ≡ Some c → slice_get (bases_of h c) i ≡ Some base → base_of placed.image (part u) i ≡ written c base
+  base_is : (u : Subobject) (c : ClassId) (i : ℕ) (base : Base ClassId) → IsInside h x.at_sub u → class_of u ≡ Some c → slice_get (bases_of h c) i ≡ Some base → base_record placed.image (part u) i ≡ written c base
   base_is u c i base k e at = base_read placed.image (record_at placed.image (part u) i) (written c base) (written_at u c i base k e at).there
 
   pub step_stands : (u : Subobject) (c : ClassId) (i : ℕ) (base : Base ClassId) → IsInside h x.at_sub u → class_of u ≡ Some c → slice_get (bases_of h c) i ≡ Some base → CanStep placed.image memory (part u) i
@@ -275,10 +275,10 @@ module _ (h : Classes) (rows : List ClassLayout) (x : View) (placed : PlacedTabl
       let is = base_is u c i base k e at in
       record {
         low = w.low;
-        base = subst (λ b. IsBaseAt placed.image (record_at placed.image (part u) i) b) (sym is) w.there;
-        pointer = λ v. f.pointer (ap is_virtual (sym is) ∙ v);
-        word = λ v. subst (λ b. IsSome (placed.image (vbase_at memory (part u).at b))) (sym is) (f.word (ap is_virtual (sym is) ∙ v));
-        table = λ v. subst (λ b. IsTableWord placed.image (vbase_at memory (part u).at b)) (sym is) (f.table (ap is_virtual (sym is) ∙ v));
+        base = subst (λ b. HasBaseRecord placed.image (record_at placed.image (part u) i) b) (sym is) w.there;
+        pointer = λ v. f.pointer (ap has_virtual_flag (sym is) ∙ v);
+        word = λ v. subst (λ b. IsSome (placed.image (vbase_at memory (part u).at b))) (sym is) (f.word (ap has_virtual_flag (sym is) ∙ v));
+        table = λ v. subst (λ b. IsTableWord placed.image (vbase_at memory (part u).at b)) (sym is) (f.table (ap has_virtual_flag (sym is) ∙ v));
       }
 
   edge_is : (u : Subobject) (c : ClassId) (i : ℕ) (base : Base ClassId) → IsInside h x.at_sub u → class_of u ≡ Some c → slice_get (bases_of h c) i ≡ Some base → g.edge (part u) i ≡ record { part = part (base_subobject u base); is_public = base.is_public }
@@ -292,7 +292,7 @@ module _ (h : Classes) (rows : List ClassLayout) (x : View) (placed : PlacedTabl
       (λ t v. (virtual_read h l stands.keeps primaries c (known u c k e) (placed.info base.class) base v).public_is)
       (λ t v. (plain_read h l c (placed.info base.class) base v (place_low c base (known u c k e) listed v)).public_is)
       refl in
-      let same : make (moved (part u).at (distance_word placed.image memory (part u).at (written c base))) (placed.info base.class) (is_public (written c base)) ≡ make (part to).at (record_for placed.info (class_of to)) base.is_public =
+      let same : make (moved_address (part u).at (distance_word placed.image memory (part u).at (written c base))) (placed.info base.class) (is_public (written c base)) ≡ make (part to).at (record_for placed.info (class_of to)) base.is_public =
       ap (λ n. make n (placed.info base.class) (is_public (written c base))) f.there ∙ (ap (λ m. make (part to).at m (is_public (written c base))) info ∙ ap (make (part to).at (record_for placed.info (class_of to))) public) in
       ap (λ b. edge_by placed.image memory (part u).at b) (base_is u c i base k e at) ∙ same
 

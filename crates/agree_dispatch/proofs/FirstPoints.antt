@@ -26,9 +26,9 @@ use Rattle.abi_slots.specs.declared.words.GroupName.{GroupName}
 use Rattle.abi_slots.specs.declared.words.TypeInfo.{TypeInfo}
 use Rattle.abi_slots.specs.declared.words.VttWord.{VttWord}
 use Rattle.abi_slots.specs.Views.{View, of_root, by_part, is_head, heads}
-use Rattle.abi_slots.specs.Groups.{view_of, IsGroup}
+use Rattle.abi_slots.specs.Groups.{view_of_group, IsGroup}
 use Rattle.abi_slots.specs.Images.{Image, Addresses, StandsAt, point_at, whole_name, IsFirstPoint, first, no_group, HasTables}
-use Rattle.abi_slots.specs.Seen.{PlacedTables, IsPointOf, HasType, IsSeen}
+use Rattle.abi_slots.specs.Seen.{PlacedTables, IsPointOf, HasTypeInfo, IsSeen}
 use Rattle.abi_slots.proofs.Seeing as views
 use Rattle.abi_slots.proofs.Settings.{setting_of}
 use Rattle.agree_dispatch.specs.CastStanding.{HasFirstPoint}
@@ -45,7 +45,7 @@ head_valid h l x t has =
     )
 
 -- 8 bytes before the first address point of a group stands the address of the record of the view's class
-first_typed : (h : Classes) (l : Places) (x : View) (placed : PlacedTables) → IsSubobject h x.class (whole_of x.class) → (point : ℕ) × IsPointOf h l x placed (whole_of x.class) point → IsSeen h l x placed → HasType placed x.class (point_at placed.at placed.tables 0)
+first_typed : (h : Classes) (l : Places) (x : View) (placed : PlacedTables) → IsSubobject h x.class (whole_of x.class) → (point : ℕ) × IsPointOf h l x placed (whole_of x.class) point → IsSeen h l x placed → HasTypeInfo placed x.class (point_at placed.at placed.tables 0)
 first_typed h l x placed valid p seen =
     let some = slice_get_within (heads h l x) p.1.number p.1.head p.1.at_head in
     let t = get_within (heads h l x) 0 (omega arith) in
@@ -55,16 +55,16 @@ first_typed h l x placed valid p seen =
     (seen.sees t.0 c.0 (point_at placed.at placed.tables 0) k.0 c.1 of).type_of
 
 group_typed : (h : Classes) (rows : List ClassLayout) (group : Group) (image : Image) (codes : List CodeRow) (info : ClassId → ℕ) (at : ℕ) (c : ClassId) → IsHierarchy h → HasNoFault h → IsSoundLayout h rows → IsGroup h (places_of h rows) group → StandsAt image codes info group at → group.name ≡ whole_name c →
-    HasType (record { image = image; codes = codes; info = info; tables = group.tables; at = at }) c (point_at at group.tables 0)
+    HasTypeInfo (record { image = image; codes = codes; info = info; tables = group.tables; at = at }) c (point_at at group.tables 0)
 group_typed h rows group image codes info at c keeps fine sound of stands name =
     let l = places_of h rows in
-    let x = view_of group of.class in
+    let x = view_of_group group of.class in
     let placed : PlacedTables = record { image = image; codes = codes; info = info; tables = group.tables; at = at } in
     let seen = views.seen h l group of (setting_of h rows keeps sound x of.view) image codes info at stands fine in
     let valid : IsSubobject h of.class (whole_of of.class) = whole [] tt in
     let both : Some c ≡ Some of.class = ap (λ (n : GroupName). class_of n.view) (sym name) ∙ of.view.of_class in
     let same : of.class ≡ c = cc in
-    subst (λ d. HasType placed d (point_at at group.tables 0)) same (first_typed h l x placed valid (seen.some_point (whole_of of.class) of.class valid refl of.view.dynamic) seen)
+    subst (λ d. HasTypeInfo placed d (point_at at group.tables 0)) same (first_typed h l x placed valid (seen.some_point (whole_of of.class) of.class valid refl of.view.dynamic) seen)
 
 pub first_point : (h : Classes) (rows : List ClassLayout) (codes : List CodeRow) (groups : List Group) (vtts : List (List VttWord)) (infos : List TypeInfo) (a : Addresses) (base : ℕ) (image : Image) (c : ClassId) (words : List VttWord) (i : ℕ) (group : Group) → IsHierarchy h → HasNoFault h → IsSoundLayout h rows →
     ((n : ℕ) (other : Group) → slice_get groups n ≡ Some other → IsGroup h (places_of h rows) other) → HasTables codes groups vtts infos a base image → slice_get vtts c.0 ≡ Some words → slice_get groups i ≡ Some group → group.name ≡ whole_name c → HasFirstPoint image a.info base c

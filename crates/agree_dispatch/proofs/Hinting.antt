@@ -17,9 +17,9 @@ use Rattle.abi_sound.proofs.PlaceLemmas.{joined}
 use Rattle.abi_slots.specs.Views.{View, place}
 use Rattle.abi_slots.specs.Seen.{PlacedTables}
 use Rattle.abi_dyncast.specs.declared.parts.Part.{Part}
-use Rattle.abi_dyncast.specs.Graph.{Graph, Leads, any_edge, public_edge, graph_of}
-use Rattle.abi_dyncast.specs.Casts.{IsTrueHint, view_of}
-use Rattle.agree_dispatch.specs.CastStanding.{IsStanding, IsPlainBase}
+use Rattle.abi_dyncast.specs.Graph.{Graph, LeadsByEdges, any_edge, public_edge, graph_of}
+use Rattle.abi_dyncast.specs.Casts.{IsTrueHint, view_at_address}
+use Rattle.agree_dispatch.specs.CastStanding.{StandsInMemory, IsPlainBase}
 use Rattle.agree_dispatch.proofs.Bases.{inside_base}
 use Rattle.agree_dispatch.proofs.Showing.{Shows, view_in, ends_inside, walk_leads}
 use Rattle.agree_dispatch.proofs.Answering.{class_is}
@@ -59,16 +59,16 @@ module _ (h : Classes) (root : ClassId) (x : Subobject) (part : Subobject → Pa
       let leads = walk_leads h root x part g shown t (join t b) walk e.there in
       record {
         end = part (join t b);
-        leads = subst (λ p. Leads g public_edge p (part (join t b))) (sym e.is) leads;
+        leads = subst (λ p. LeadsByEdges g public_edge p (part (join t b))) (sym e.is) leads;
         is = record {
           same_place = apart t e.there class ∙ ap (λ (p : Part). p.at + n) (sym e.is);
           same_class = shown.class (join t b) c there (join_class h target t b class base.valid ∙ base.class);
         };
       }
 
-module _ (h : Classes) (rows : List ClassLayout) (x : View) (placed : PlacedTables) (memory : Store) (start : ℕ) (stands : IsStanding h rows x placed memory start) where
+module _ (h : Classes) (rows : List ClassLayout) (x : View) (placed : PlacedTables) (memory : Store) (start : ℕ) (stands : StandsInMemory h rows x placed memory start) where
   -- and so in a view that stands, by the place of the base in an object of the target's class
-  pub standing_hint : (s : Subobject) (c e target : ClassId) (b : Subobject) → IsSubobject h x.class s → class_of s ≡ Some e → IsDynamic h e → IsPlainBase h target c b → IsTrueHint (graph_of placed.image memory) (view_of placed.image memory (start + place (places_of h rows) x s)) c.0 target.0 (pos ((places_of h rows).place target b))
+  pub standing_hint : (s : Subobject) (c e target : ClassId) (b : Subobject) → IsSubobject h x.class s → class_of s ≡ Some e → IsDynamic h e → IsPlainBase h target c b → IsTrueHint (graph_of placed.image memory) (view_at_address placed.image memory (start + place (places_of h rows) x s)) c.0 target.0 (pos ((places_of h rows).place target b))
   standing_hint s c e target b there class dynamic base =
       let part = part_of (places_of h rows) x placed start in
       let g = graph_of placed.image memory in

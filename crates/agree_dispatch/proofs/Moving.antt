@@ -37,8 +37,8 @@ use Rattle.byte_code.specs.Numbers.{word_of}
 use Rattle.abi_dyncast.proofs.Distances.{moved_between}
 use Rattle.byte_machine.specs.Running.{moved}
 use Rattle.byte_machine.specs.Calls.{moved_by_word}
-use Rattle.byte_machine.specs.Plans.{word_bytes}
-use Rattle.agree_dispatch.specs.Standing.{IsViewAt, part_at}
+use Rattle.byte_machine.specs.Plans.{word_offset}
+use Rattle.agree_dispatch.specs.Standing.{IsViewAt, address_in_object}
 use Rattle.agree_dispatch.specs.Results.{Returns, IsMoved}
 use Rattle.agree_dispatch.proofs.Numbers.{moved_up, small_word, number_word, offset_word}
 use Rattle.agree_dispatch.proofs.Bounds.{vbase_small}
@@ -109,7 +109,7 @@ module _ (h : Classes) (rows : List ClassLayout) (keeps : IsHierarchy h) (fine :
 
   -- the path lies in a virtual base
   record SharedWords (g f : FunctionId) (e v : ClassId) (i : Subobject) : Type 0 where
-    vbase : word_of (return_vbase (return_for h (places_of h rows) g f)) ≡ word_bytes (word_number (vbase_number h (places_of h rows) e v))
+    vbase : word_of (return_vbase (return_for h (places_of h rows) g f)) ≡ word_offset (word_number (vbase_number h (places_of h rows) e v))
     some : 0 < word_of (return_vbase (return_for h (places_of h rows) g f))
     constant : return_constant (return_for h (places_of h rows) g f) ≡ pos ((places_of h rows).place e i) -ℤ pos ((places_of h rows).place e (shared_base v))
 
@@ -126,16 +126,16 @@ module _ (h : Classes) (rows : List ClassLayout) (keeps : IsHierarchy h) (fine :
       }
 
   pub shared_result : (g f : FunctionId) (e v : ClassId) (i : Subobject) → Returns h g f e i → i.root ≡ Shared v →
-      (word_of (return_vbase (return_for h (places_of h rows) g f)) ≡ word_bytes (word_number (vbase_number h (places_of h rows) e v))) × (0 < word_of (return_vbase (return_for h (places_of h rows) g f)))
+      (word_of (return_vbase (return_for h (places_of h rows) g f)) ≡ word_offset (word_number (vbase_number h (places_of h rows) e v))) × (0 < word_of (return_vbase (return_for h (places_of h rows) g f)))
   shared_result g f e v i r root = let s = shared_words g f e v i r root in (s.vbase, s.some)
 
   pub moved_plain : (image : ImageBytes) (memory : Store) (d : ClassId) (at : ℕ) (p : Subobject) (g f : FunctionId) (e : ClassId) (i : Subobject) → d.0 < length h → at + (places_of h rows).size d < 2 ^ 63 → IsSubobject h d p → class_of p ≡ Some e → Returns h g f e i → i.root ≡ Whole →
-      IsMoved image memory (at + (places_of h rows).place d p) (word_of (return_vbase (return_for h (places_of h rows) g f))) (word_of (return_constant (return_for h (places_of h rows) g f))) (part_at (places_of h rows) d at p i)
+      IsMoved image memory (at + (places_of h rows).place d p) (word_of (return_vbase (return_for h (places_of h rows) g f))) (word_of (return_constant (return_for h (places_of h rows) g f))) (address_in_object (places_of h rows) d at p i)
   moved_plain image memory d at p g f e i known fits there class r root =
       let w = plain_words g f e i r root in
       let sum : l.place d (join p i) ≡ l.place d p + l.place e i = joined h rows d e p i there class r.valid root in
       let low = below h rows sound d (join p i) known (join_valid h d e p i there class r.valid) in
-      let at_end : at + l.place d p + l.place e i ≡ part_at l d at p i = omega (arith, sum) in
+      let at_end : at + l.place d p + l.place e i ≡ address_in_object l d at p i = omega (arith, sum) in
       record {
         base = at + l.place d p;
         by_word = ap (moved_by_word image memory (at + l.place d p)) w.0;
@@ -155,13 +155,13 @@ module _ (h : Classes) (rows : List ClassLayout) (keeps : IsHierarchy h) (fine :
   joined_shared e v s _ (shared u path has leads) root = refl
 
   pub moved_shared : (image : ImageBytes) (memory : Store) (d : ClassId) (at : ℕ) (y : Subobject) (x : View) (placed : PlacedTables) (s : Subobject) (g f : FunctionId) (e v : ClassId) (i : Subobject) → IsViewAt h rows image memory d at y x placed → IsSubobject h x.class s → class_of s ≡ Some e → Returns h g f e i → i.root ≡ Shared v →
-      IsMoved image memory (part_at (places_of h rows) d at y s) (word_of (return_vbase (return_for h (places_of h rows) g f))) (word_of (return_constant (return_for h (places_of h rows) g f))) (part_at (places_of h rows) d at y (join s i))
+      IsMoved image memory (address_in_object (places_of h rows) d at y s) (word_of (return_vbase (return_for h (places_of h rows) g f))) (word_of (return_constant (return_for h (places_of h rows) g f))) (address_in_object (places_of h rows) d at y (join s i))
   moved_shared image memory d at y x placed s g f e v i stands there class r root =
       let w = shared_words g f e v i r root in
       let m = to_vbase h rows image memory d at y x placed stands s e v there class (base_of_root e v i r.valid root) in
       let some = w.some in
       let word = w.vbase in
-      let first = word_moves image memory (part_at l d at y s) (word_bytes (word_number (vbase_number h l e v))) m.by (at + l.place d (shared_base v)) (omega (arith, word)) m.there m.leads in
+      let first = word_moves image memory (address_in_object l d at y s) (word_offset (word_number (vbase_number h l e v))) m.by (at + l.place d (shared_base v)) (omega (arith, word)) m.there m.leads in
       let inner : join y (join s i) ≡ i = ap (join y) (joined_shared e v s i r.valid root) ∙ joined_shared e v y i r.valid root in
       let valid = join_valid h d x.class y (join s i) stands.valid stands.of_class (join_valid h x.class e s i there class r.valid) in
       let low = below h rows sound d i stands.known (subst (λ a. IsSubobject h d a) inner valid) in
@@ -169,7 +169,7 @@ module _ (h : Classes) (rows : List ClassLayout) (keeps : IsHierarchy h) (fine :
       let fits = stands.fits in
       record {
         base = at + l.place d (shared_base v);
-        by_word = ap (moved_by_word image memory (part_at l d at y s)) w.vbase ∙ first;
+        by_word = ap (moved_by_word image memory (address_in_object l d at y s)) w.vbase ∙ first;
         by_constant = ap (λ n. moved (at + l.place d (shared_base v)) (word_of n)) w.constant ∙ (moved_between at (l.place d (shared_base v)) (l.place d i) (pos (l.place e i) -ℤ pos (l.place e (shared_base v))) (same_way d e v i r.valid root) (omega arith) (omega arith)
             ∙ ap (λ (a : Subobject). at + l.place d a) (sym inner));
       }

@@ -7,7 +7,7 @@ use Rattle.byte_code.specs.Numbers.{word_of}
 use Rattle.abi_slots.specs.Groups.{offset_bytes}
 use Rattle.abi_slots.specs.Slots.{word_number}
 use Rattle.byte_machine.specs.Running.{moved}
-use Rattle.byte_machine.specs.Plans.{word_bytes}
+use Rattle.byte_machine.specs.Plans.{word_offset}
 
 -- distances
 
@@ -31,7 +31,7 @@ back_word (negsuc a) n e some low =
     let small : a % 18446744073709551616 ≡ a = mod-eq_of_lt (omega arith) in
     ap (λ w. 18446744073709551616 - 1 - w) small ∙ omega arith
 
-pub number_word : (n : ℕ) → 8 * (n + 3) < 2 ^ 64 → word_bytes (word_number n) ≡ 18446744073709551616 - 8 * (n + 3)
+pub number_word : (n : ℕ) → 8 * (n + 3) < 2 ^ 64 → word_offset (word_number n) ≡ 18446744073709551616 - 8 * (n + 3)
 number_word n low = back_word (pos 8 *ℤ (pos 0 -ℤ pos (n + 3))) (8 * (n + 3)) (omega (arith, ints)) (omega arith) low
 
 pub offset_word : (n : ℕ) → 8 * (n + 3) < 2 ^ 64 → word_of (offset_bytes n) ≡ 18446744073709551616 - 8 * (n + 3)

@@ -13,7 +13,7 @@ use Rattle.abi_sound.specs.declared.class_layout.ClassLayout.{ClassLayout}
 use Rattle.abi_sound.specs.Places.{Places, places_of}
 use Rattle.abi_sound.proofs.Depth.{below}
 use Rattle.abi_slots.specs.declared.words.TypeInfo.{TypeInfo}
-use Rattle.abi_slots.specs.Dispatch.{Leads}
+use Rattle.abi_slots.specs.Dispatch.{LeadsByDistance}
 use Rattle.abi_slots.specs.Images.{Image, HasInfo}
 use Rattle.abi_slots.specs.Listing.{vbase_number}
 use Rattle.abi_slots.specs.Slots.{word_number}
@@ -26,8 +26,8 @@ use Rattle.byte_code.specs.Numbers.{word_of}
 use Rattle.byte_code.proofs.Numbers.{word_inside}
 use Rattle.abi_dyncast.proofs.Distances.{moved_between}
 use Rattle.byte_machine.specs.Running.{moved, table_of, table_word, word_behind}
-use Rattle.byte_machine.specs.Plans.{word_bytes}
-use Rattle.agree_dispatch.specs.Standing.{IsViewAt, part_at}
+use Rattle.byte_machine.specs.Plans.{word_offset}
+use Rattle.agree_dispatch.specs.Standing.{IsViewAt, address_in_object}
 use Rattle.agree_dispatch.specs.Words.{MovesTo, NamesClass}
 use Rattle.agree_dispatch.proofs.Numbers.{moved_back, number_word}
 
@@ -41,13 +41,13 @@ module _ (h : Classes) (rows : List ClassLayout) (image : ImageBytes) (memory : 
 
   -- the address of a subobject of the view
   abbrev address : Subobject → ℕ
-  address s = part_at (places_of h rows) d at y s
+  address s = address_in_object (places_of h rows) d at y s
 
-  pub low_part : (s : Subobject) → IsSubobject h x.class s → part_at (places_of h rows) d at y s < 2 ^ 63
+  pub low_part : (s : Subobject) → IsSubobject h x.class s → address_in_object (places_of h rows) d at y s < 2 ^ 63
   low_part s there = let b = below h rows stands.sound d (join y s) stands.known (join_valid h d x.class y s stands.valid stands.of_class there) in let f = stands.fits in omega arith
 
   -- a distance between places of the view is one between addresses
-  pub moves : (s o : Subobject) → IsSubobject h x.class s → IsSubobject h x.class o → (n : ℤ) → Leads (places_of h rows) x s n o → moved (part_at (places_of h rows) d at y s) (word_of n) ≡ part_at (places_of h rows) d at y o
+  pub moves : (s o : Subobject) → IsSubobject h x.class s → IsSubobject h x.class o → (n : ℤ) → LeadsByDistance (places_of h rows) x s n o → moved (address_in_object (places_of h rows) d at y s) (word_of n) ≡ address_in_object (places_of h rows) d at y o
   moves s o there other n leads =
       let a = stands.alike.each s there in
       let b = stands.alike.each o other in
@@ -58,7 +58,7 @@ module _ (h : Classes) (rows : List ClassLayout) (image : ImageBytes) (memory : 
   -- what the virtual pointer of a dynamic subobject leads to
   pub record IsPointing (s : Subobject) (c : ClassId) : Type 0 where
     pub point : ℕ
-    pub pointer : table_of memory (part_at (places_of h rows) d at y s) ≡ Some point
+    pub pointer : table_of memory (address_in_object (places_of h rows) d at y s) ≡ Some point
     pub of : IsPointOf h (places_of h rows) x placed s point
     pub sees : Sees h (places_of h rows) x placed s c point
     pub low : point < 2 ^ 64
@@ -84,17 +84,17 @@ module _ (h : Classes) (rows : List ClassLayout) (image : ImageBytes) (memory : 
       table_read image memory from point (18446744073709551616 - k) place word pointer (moved_back point place k before some low) (placed_word place word is)
 
   -- a distance that stands before the address point moves there
-  pub moves_to : (s o : Subobject) (point k : ℕ) → IsSubobject h x.class s → IsSubobject h x.class o → table_of memory (part_at (places_of h rows) d at y s) ≡ Some point → HasDistance (places_of h rows) x placed.image s o k point → 0 < k → point < 2 ^ 64 → MovesTo image memory (part_at (places_of h rows) d at y s) (18446744073709551616 - k) (part_at (places_of h rows) d at y o)
+  pub moves_to : (s o : Subobject) (point k : ℕ) → IsSubobject h x.class s → IsSubobject h x.class o → table_of memory (address_in_object (places_of h rows) d at y s) ≡ Some point → HasDistance (places_of h rows) x placed.image s o k point → 0 < k → point < 2 ^ 64 → MovesTo image memory (address_in_object (places_of h rows) d at y s) (18446744073709551616 - k) (address_in_object (places_of h rows) d at y o)
   moves_to s o point k there other pointer has some low = record {
     by = word_of has.distance;
-    there = word_before (part_at (places_of h rows) d at y s) point k has.at (word_of has.distance) pointer has.before some low has.there;
+    there = word_before (address_in_object (places_of h rows) d at y s) point k has.at (word_of has.distance) pointer has.before some low has.there;
     leads = moves s o there other has.distance has.leads;
   }
 
   pub base_valid : (s : Subobject) (c v : ClassId) → IsSubobject h x.class s → class_of s ≡ Some c → HasVirtualBase h c v → IsSubobject h x.class (shared_base v)
   base_valid s c v there class has = shared v [] (part_virtual h x.class c v s there class has) tt
 
-  pub to_vbase : (s : Subobject) (c v : ClassId) → IsSubobject h x.class s → class_of s ≡ Some c → HasVirtualBase h c v → MovesTo image memory (part_at (places_of h rows) d at y s) (word_bytes (word_number (vbase_number h (places_of h rows) c v))) (at + (places_of h rows).place d (shared_base v))
+  pub to_vbase : (s : Subobject) (c v : ClassId) → IsSubobject h x.class s → class_of s ≡ Some c → HasVirtualBase h c v → MovesTo image memory (address_in_object (places_of h rows) d at y s) (word_offset (word_number (vbase_number h (places_of h rows) c v))) (at + (places_of h rows).place d (shared_base v))
   to_vbase s c v there class has =
       let p = pointing s c there class (base_dynamic h c v has) in
       let n = vbase_number h l c v in
@@ -103,13 +103,13 @@ module _ (h : Classes) (rows : List ClassLayout) (image : ImageBytes) (memory : 
       let read = moves_to s (shared_base v) p.point (8 * (n + 3)) there (base_valid s c v there class has) p.pointer (p.sees.converts v has) (omega arith) p.low in
       subst (λ w. MovesTo image memory (address s) w (address (shared_base v))) (sym (number_word n (omega arith))) read
 
-  pub to_top : (s : Subobject) (c : ClassId) → IsSubobject h x.class s → class_of s ≡ Some c → IsDynamic h c → MovesTo image memory (part_at (places_of h rows) d at y s) 18446744073709551600 (at + (places_of h rows).place d y)
+  pub to_top : (s : Subobject) (c : ClassId) → IsSubobject h x.class s → class_of s ≡ Some c → IsDynamic h c → MovesTo image memory (address_in_object (places_of h rows) d at y s) 18446744073709551600 (at + (places_of h rows).place d y)
   to_top s c there class dynamic =
       let p = pointing s c there class dynamic in
       let read = moves_to s (whole_of x.class) p.point 16 there (whole [] tt) p.pointer p.sees.top (omega arith) p.low in
       subst (λ (t : Subobject). MovesTo image memory (address s) 18446744073709551600 (at + (places_of h rows).place d t)) (join_whole y x.class) read
 
-  pub to_type : (s : Subobject) (c : ClassId) (type_info : TypeInfo) → IsSubobject h x.class s → class_of s ≡ Some c → IsDynamic h c → HasInfo placed.image placed.info x.class type_info (placed.info x.class) → NamesClass image memory (part_at (places_of h rows) d at y s) x.class.0
+  pub to_type : (s : Subobject) (c : ClassId) (type_info : TypeInfo) → IsSubobject h x.class s → class_of s ≡ Some c → IsDynamic h c → HasInfo placed.image placed.info x.class type_info (placed.info x.class) → NamesClass image memory (address_in_object (places_of h rows) d at y s) x.class.0
   to_type s c type_info there class dynamic info =
       let p = pointing s c there class dynamic in
       let has = p.sees.type_of in

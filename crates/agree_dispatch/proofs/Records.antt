@@ -18,7 +18,7 @@ use Rattle.abi_sound.specs.Places.{Places}
 use Rattle.abi_slots.specs.declared.words.Offset.TheVariants.{ToBase}
 use Rattle.abi_slots.specs.declared.words.InfoBase.{InfoBase}
 use Rattle.abi_slots.specs.declared.words.TypeInfo.TheVariants.{Single}
-use Rattle.abi_slots.specs.Images.{Image, info_bases, HasBase, HasBases}
+use Rattle.abi_slots.specs.Images.{Image, info_bases, HasBaseWords, HasBases}
 use Rattle.abi_slots.specs.Limits.{most_offsets}
 use Rattle.abi_slots.specs.Listing.{offsets, vbase_number, is_base}
 use Rattle.abi_slots.specs.Slots.{word_number}
@@ -27,7 +27,7 @@ use Rattle.abi_slots.proofs.EntryPlaces.{place_found, place_missing}
 use Rattle.abi_slots.proofs.OffsetBounds.{few_offsets}
 use Rattle.abi_slots.proofs.WordSteps.{negative}
 use Rattle.abi_rtti.specs.TypeInfos.{bit, offset_flags, info_base, all_bases, is_simple, place_of_base, info_by, type_info}
-use Rattle.abi_dyncast.specs.Graph.{is_virtual, is_public, offset_word}
+use Rattle.abi_dyncast.specs.Graph.{has_virtual_flag, is_public, offset_word}
 use Rattle.agree_dispatch.proofs.CastNumbers.{IsFlagged, flagged_up, flagged_down}
 
 -- the one base that is simple is described as it would be among others
@@ -52,7 +52,7 @@ lists_bases h l c = by_bases (bases_of h c) refl
     by_bases (base ∷ other ∷ rest) e = ap (map (info_base h l c)) e
 
 -- a base of the record, by its place
-pub base_stands : (image : Image) (info : ClassId → ℕ) (bases : List InfoBase) (first i : ℕ) (b : InfoBase) → HasBases image info bases first → slice_get bases i ≡ Some b → HasBase image info b (first + 16 * i)
+pub base_stands : (image : Image) (info : ClassId → ℕ) (bases : List InfoBase) (first i : ℕ) (b : InfoBase) → HasBases image info bases first → slice_get bases i ≡ Some b → HasBaseWords image info b (first + 16 * i)
 base_stands image info [] first i b has e = absurd (cc)
 base_stands image info (x ∷ xs) first i b has e = has.1 i b e
 
@@ -75,7 +75,7 @@ few_numbers h l keeps are c v known = by_place (position (is_base v) (offsets h 
 
 -- how the record of a base is read
 pub record IsBaseRead (base : BaseRecord) (virtual public : Bool) (offset : ℤ) : Type 0 where
-  pub virtual_is : is_virtual base ≡ virtual
+  pub virtual_is : has_virtual_flag base ≡ virtual
   pub public_is : is_public base ≡ public
   pub offset_is : offset_word base ≡ word_of offset
   pub fits : IsInBytes 8 true base.offset_flags

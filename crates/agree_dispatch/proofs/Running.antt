@@ -32,7 +32,7 @@ use Rattle.byte_code.specs.Numbers.{word_of}
 use Rattle.byte_code.proofs.Numbers.{word_inside}
 use Rattle.byte_machine.specs.Running.{moved, table_of}
 use Rattle.byte_machine.specs.Calls.{Callee, moved_by_word}
-use Rattle.agree_dispatch.specs.Standing.{IsViewAt, part_at}
+use Rattle.agree_dispatch.specs.Standing.{IsViewAt, address_in_object}
 use Rattle.agree_dispatch.specs.Words.{HasEntryWord}
 use Rattle.agree_dispatch.proofs.Numbers.{moved_up, offset_word}
 use Rattle.agree_dispatch.proofs.Reading.{table_read, low_part, moves, pointing, moves_to}
@@ -44,18 +44,18 @@ module _ (h : Classes) (rows : List ClassLayout) (image : ImageBytes) (memory : 
   l = places_of h rows
 
   abbrev address : Subobject → ℕ
-  address s = part_at (places_of h rows) d at y s
+  address s = address_in_object (places_of h rows) d at y s
 
-  same_address : (s o : Subobject) → IsSubobject h x.class s → IsSubobject h x.class o → place (places_of h rows) x s ≡ place (places_of h rows) x o → part_at (places_of h rows) d at y s ≡ part_at (places_of h rows) d at y o
+  same_address : (s o : Subobject) → IsSubobject h x.class s → IsSubobject h x.class o → place (places_of h rows) x s ≡ place (places_of h rows) x o → address_in_object (places_of h rows) d at y s ≡ address_in_object (places_of h rows) d at y o
   same_address s o there other same = stands.alike.each s there ∙ (ap (λ n. stands.alike.start + n) same ∙ sym (stands.alike.each o other))
 
   -- an address moved by nothing
-  stays : (s : Subobject) → IsSubobject h x.class s → moved (part_at (places_of h rows) d at y s) 0 ≡ part_at (places_of h rows) d at y s
+  stays : (s : Subobject) → IsSubobject h x.class s → moved (address_in_object (places_of h rows) d at y s) 0 ≡ address_in_object (places_of h rows) d at y s
   stays s there = let low = low_part h rows image memory d at y x placed stands s there in omega arith
 
   -- the vcall word of a virtual base leads on
-  moves_on : (o : Subobject) (v : ClassId) (n point : ℕ) → IsSubobject h x.class (shared_base v) → IsSubobject h x.class o → table_of memory (part_at (places_of h rows) d at y (shared_base v)) ≡ Some point → point < 2 ^ 64 →
-      HasDistance (places_of h rows) x placed.image (shared_base v) o (8 * (n + 3)) point → moved_by_word image memory (part_at (places_of h rows) d at y (shared_base v)) (word_of (offset_bytes n)) ≡ Some (part_at (places_of h rows) d at y o)
+  moves_on : (o : Subobject) (v : ClassId) (n point : ℕ) → IsSubobject h x.class (shared_base v) → IsSubobject h x.class o → table_of memory (address_in_object (places_of h rows) d at y (shared_base v)) ≡ Some point → point < 2 ^ 64 →
+      HasDistance (places_of h rows) x placed.image (shared_base v) o (8 * (n + 3)) point → moved_by_word image memory (address_in_object (places_of h rows) d at y (shared_base v)) (word_of (offset_bytes n)) ≡ Some (address_in_object (places_of h rows) d at y o)
   moves_on o v n point base other pointer low has =
       let before = has.before in
       let k : ℕ = 8 * (n + 3) in
@@ -64,7 +64,7 @@ module _ (h : Classes) (rows : List ClassLayout) (image : ImageBytes) (memory : 
       ap (moved_by_word image memory (address (shared_base v))) (offset_word n (omega arith)) ∙ moved_there
 
   thunk_does : (s o : Subobject) (thunk : ℕ) (this : Option ThisAdjust) (result : Option ReturnAdjust) → IsSubobject h x.class s → IsSubobject h x.class o → Adjusts h (places_of h rows) x placed s o this → HasThunk (word_at image) thunk this result →
-      ThunkDoes image memory (part_at (places_of h rows) d at y s) (part_at (places_of h rows) d at y o) thunk result
+      ThunkDoes image memory (address_in_object (places_of h rows) d at y s) (address_in_object (places_of h rows) d at y o) thunk result
   thunk_does s o thunk _ None there other (as_it_stands same) has = no_thunk image memory (address s) (address o) thunk has (same_address s o there other same)
   thunk_does s o thunk _ (Some result) there other (as_it_stands same) has =
       some_thunk image memory (address s) (address s) (address o) thunk None (Some result) has (stays s there) (ap (λ a. Some a) (same_address s o there other same))
@@ -78,10 +78,10 @@ module _ (h : Classes) (rows : List ClassLayout) (image : ImageBytes) (memory : 
       (moves_on o v n p.point valid other p.pointer p.low (next p.point p.of))
 
   -- the word of an entry and what runs by it
-  entry_word : (s : Subobject) (k : EntryKey) (o : Overrider) (point : ℕ) (word : EntryWord) → IsSubobject h x.class s → IsSubobject h x.class o.at → table_of memory (part_at (places_of h rows) d at y s) ≡ Some point → point < 2 ^ 64 →
+  entry_word : (s : Subobject) (k : EntryKey) (o : Overrider) (point : ℕ) (word : EntryWord) → IsSubobject h x.class s → IsSubobject h x.class o.at → table_of memory (address_in_object (places_of h rows) d at y s) ≡ Some point → point < 2 ^ 64 →
       HasEntry (word_at image) placed.codes (point + 8 * entry_number h (places_of h rows) k) word → Calls h (places_of h rows) x placed s k o word →
       return_for h (places_of h rows) o.function (listing h (places_of h rows) k).function ≡ return_for h (places_of h rows) o.function k.function →
-      HasEntryWord h (places_of h rows) image placed.codes memory k (record { at = join y o.at; function = o.function }) (part_at (places_of h rows) d at y s) (part_at (places_of h rows) d at y o.at)
+      HasEntryWord h (places_of h rows) image placed.codes memory k (record { at = join y o.at; function = o.function }) (address_in_object (places_of h rows) d at y s) (address_in_object (places_of h rows) d at y o.at)
   entry_word s k o point _ there other pointer low has (calls_pure pure) same =
       let n = 8 * entry_number h l k in
       let at_word = pure_word (word_at image) placed.codes (point + n) o.function has in
@@ -114,7 +114,7 @@ module _ (h : Classes) (rows : List ClassLayout) (image : ImageBytes) (memory : 
 
   -- the entry of a function that the class of a subobject declares
   pub entry_runs : (s : Subobject) (k : EntryKey) (o : Overrider) → IsSubobject h x.class s → class_of s ≡ Some k.function.class → Contains (own_keys h k.function.class) k → final_in h y (join y s) k.function ≡ Some o →
-      HasEntryWord h (places_of h rows) image placed.codes memory k o (part_at (places_of h rows) d at y s) (at + (places_of h rows).place d o.at)
+      HasEntryWord h (places_of h rows) image placed.codes memory k o (address_in_object (places_of h rows) d at y s) (at + (places_of h rows).place d o.at)
   entry_runs s k o there class own found =
       let mine = own_key h k.function.class k (item_contains (own_keys h k.function.class) k own) in
       let is = own_virtual h stands.keeps k.function.class k.function mine.1.declares in

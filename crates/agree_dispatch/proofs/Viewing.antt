@@ -14,7 +14,7 @@ use Rattle.abi_sound.specs.Sound.{IsSoundLayout}
 use Rattle.abi_sound.proofs.PlaceLemmas.{joined}
 use Rattle.abi_slots.specs.declared.words.Group.{Group}
 use Rattle.abi_slots.specs.declared.words.Table.{Table}
-use Rattle.abi_slots.specs.Groups.{IsGroup, view_of}
+use Rattle.abi_slots.specs.Groups.{IsGroup, view_of_group}
 use Rattle.abi_slots.specs.Images.{StandsAt}
 use Rattle.abi_slots.specs.Views.{View}
 use Rattle.abi_slots.specs.Seen.{IsSeen, PlacedTables}
@@ -45,7 +45,7 @@ seen_placed h rows group x placed keeps fine sound of complete view class tables
     let both : Some of.class ≡ Some x.class = sym of.view.of_class ∙ (ap class_of view ∙ class) in
     let same : of.class ≡ x.class = cc in
     let make : ClassId → Subobject → ClassId → View = λ c s e. record { complete = c; at_sub = s; class = e } in
-    let is : view_of group of.class ≡ x = ap (λ c. make c group.name.view of.class) complete ∙ (ap (λ s. make x.complete s of.class) view ∙ ap (make x.complete x.at_sub) same) in
+    let is : view_of_group group of.class ≡ x = ap (λ c. make c group.name.view of.class) complete ∙ (ap (λ s. make x.complete s of.class) view ∙ ap (make x.complete x.at_sub) same) in
     let put : List Table → PlacedTables = λ ts. record { image = placed.image; codes = placed.codes; info = placed.info; tables = ts; at = placed.at } in
-    let seen = views.seen h (places_of h rows) group of (setting_of h rows keeps sound (view_of group of.class) of.view) placed.image placed.codes placed.info placed.at stands fine in
-    subst (λ (v : View). IsSeen h (places_of h rows) v placed) is (subst (λ ts. IsSeen h (places_of h rows) (view_of group of.class) (put ts)) (sym tables) seen)
+    let seen = views.seen h (places_of h rows) group of (setting_of h rows keeps sound (view_of_group group of.class) of.view) placed.image placed.codes placed.info placed.at stands fine in
+    subst (λ (v : View). IsSeen h (places_of h rows) v placed) is (subst (λ ts. IsSeen h (places_of h rows) (view_of_group group of.class) (put ts)) (sym tables) seen)

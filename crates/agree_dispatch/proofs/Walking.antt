@@ -24,14 +24,14 @@ use Rattle.abi_slots.specs.Views.{View, seen, place}
 use Rattle.abi_slots.specs.Seen.{PlacedTables}
 use Rattle.abi_dyncast.specs.declared.parts.Part.{Part}
 use Rattle.abi_dyncast.specs.declared.parts.Edge.{Edge}
-use Rattle.abi_dyncast.specs.Graph.{Graph, graph_of, word_in, loaded, pointer_at, moved, info_at}
-use Rattle.abi_dyncast.specs.Casts.{AreRead, AreParts, CanStep, CanWalk, view_of, CanCast}
+use Rattle.abi_dyncast.specs.Graph.{Graph, graph_of, word_in, loaded_or_zero, pointer_at, moved_address, info_at}
+use Rattle.abi_dyncast.specs.Casts.{CanReadParts, AreClosedParts, CanStep, CanWalk, view_at_address, CanCast}
 use Rattle.abi_dyncast.proofs.Distances.{moved_between}
-use Rattle.agree_dispatch.specs.CastStanding.{IsStanding}
+use Rattle.agree_dispatch.specs.CastStanding.{StandsInMemory}
 use Rattle.agree_dispatch.proofs.Showing.{IsEdge, edge_from, class_in}
 use Rattle.agree_dispatch.proofs.CastReading.{part_of, record_for, low, pointing, table_word, class_read, info_stands, step_stands, shows}
 
-module _ (h : Classes) (rows : List ClassLayout) (x : View) (placed : PlacedTables) (memory : Store) (start : ℕ) (stands : IsStanding h rows x placed memory start) where
+module _ (h : Classes) (rows : List ClassLayout) (x : View) (placed : PlacedTables) (memory : Store) (start : ℕ) (stands : StandsInMemory h rows x placed memory start) where
   abbrev l : Places
   l = places_of h rows
 
@@ -66,7 +66,7 @@ module _ (h : Classes) (rows : List ClassLayout) (x : View) (placed : PlacedTabl
   edge_at : (p : Part) (i : ℕ) → (o : IsOrigin p) → i < g.count p → IsEdge h x.complete x.at_sub part g (shows h rows x placed memory start stands) o.of p i
   edge_at p i o lt = edge_from h x.complete x.at_sub part g (shows h rows x placed memory start stands) o.of p i o.there (sym o.is) lt
 
-  are_parts : AreParts g parts
+  are_parts : AreClosedParts g parts
   are_parts = record {
     inside = λ p i has lt.
         let o = origin p has in
@@ -81,7 +81,7 @@ module _ (h : Classes) (rows : List ClassLayout) (x : View) (placed : PlacedTabl
         subst (λ n. g.class (g.edge p i).part < n) (sym here) (subst (λ m. m < e.class.0) (sym next) less);
   }
 
-  are_read : AreRead placed.image memory parts
+  are_read : CanReadParts placed.image memory parts
   are_read = record {
     info = λ p has.
         let o = origin p has in
@@ -122,7 +122,7 @@ module _ (h : Classes) (rows : List ClassLayout) (x : View) (placed : PlacedTabl
     pub info : IsSome (placed.image (pointer_at memory (part u).at - 8))
     pub top_word : IsTableWord placed.image (pointer_at memory (part u).at - 16)
     pub info_word : IsTableWord placed.image (pointer_at memory (part u).at - 8)
-    pub is : view_of placed.image memory (part u).at ≡ part x.at_sub
+    pub is : view_at_address placed.image memory (part u).at ≡ part x.at_sub
 
   pub finds_view : (u : Subobject) (c : ClassId) → IsInside h x.at_sub u → class_of u ≡ Some c → IsDynamic h c → FindsView u
   finds_view u c k e dynamic =
@@ -132,7 +132,7 @@ module _ (h : Classes) (rows : List ClassLayout) (x : View) (placed : PlacedTabl
       let highest = stands.below p.of.here p.point p.is_point in
       let before_top = top.before in
       let before_info = type_of.before in
-      let pointer : pointer_at memory (part u).at ≡ p.point = ap loaded p.load in
+      let pointer : pointer_at memory (part u).at ≡ p.point = ap loaded_or_zero p.load in
       let at_top : pointer_at memory (part u).at - 16 ≡ top.at = let b = top.before in omega arith in
       let at_info : pointer_at memory (part u).at - 8 ≡ type_of.at = let b = type_of.before in omega arith in
       let top_is : placed.image (pointer_at memory (part u).at - 16) ≡ Some (word_of top.distance) = ap placed.image at_top ∙ top.there in
@@ -143,8 +143,8 @@ module _ (h : Classes) (rows : List ClassLayout) (x : View) (placed : PlacedTabl
       let a = low h rows x placed memory start stands u (inside_valid h x.complete x.at_sub u stands.view.valid k) in
       let b = low h rows x placed memory start stands x.at_sub stands.view.valid in
       let make : ℕ → ℕ → Part = λ i j. record { at = i; info = j } in
-      let same : make (moved (part u).at (word_in (placed.image (pointer_at memory (part u).at - 16)))) (word_in (placed.image (pointer_at memory (part u).at - 8))) ≡ make (part x.at_sub).at (part x.at_sub).info =
-      ap (λ o. make (moved (part u).at (word_in o)) (word_in (placed.image (pointer_at memory (part u).at - 8)))) top_is
+      let same : make (moved_address (part u).at (word_in (placed.image (pointer_at memory (part u).at - 16)))) (word_in (placed.image (pointer_at memory (part u).at - 8))) ≡ make (part x.at_sub).at (part x.at_sub).info =
+      ap (λ o. make (moved_address (part u).at (word_in o)) (word_in (placed.image (pointer_at memory (part u).at - 8)))) top_is
       ∙ (ap (λ n. make n (word_in (placed.image (pointer_at memory (part u).at - 8)))) (moved_between start (l.place x.complete u) (l.place x.complete x.at_sub) top.distance leads a b)
       ∙ (ap (λ o. make (part x.at_sub).at (word_in o)) info_is ∙ ap (make (part x.at_sub).at) (sym (ap (record_for placed.info) stands.view.of_class)))) in
       record {

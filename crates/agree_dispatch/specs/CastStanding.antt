@@ -24,7 +24,7 @@ pub record AreTyped (h : Classes) (l : Places) (image : Image) (info : ClassId �
 
 -- the view of an object that starts at an address stands: its tables and all type information in an image, its virtual pointers in
 -- memory; and its tables stand below the records of all classes
-pub record IsStanding (h : Classes) (rows : List ClassLayout) (x : View) (placed : PlacedTables) (memory : Store) (start : ℕ) : Type 0 where
+pub record StandsInMemory (h : Classes) (rows : List ClassLayout) (x : View) (placed : PlacedTables) (memory : Store) (start : ℕ) : Type 0 where
   pub keeps : IsHierarchy h
   pub sound : IsSoundLayout h rows
   pub view : IsView h x
@@ -43,9 +43,9 @@ pub record HasFirstPoint (image : Image) (info : ClassId → ℕ) (base : ℕ) (
   pub there : image at ≡ Some (info c)
 
 -- the address of a subobject of the complete object, where one is given
-abbrev pub address_of : Places → View → ℕ → Option Subobject → Option ℕ
-address_of l x start None = None
-address_of l x start (Some t) = Some (start + l.place x.complete t)
+abbrev pub subobject_address : Places → View → ℕ → Option Subobject → Option ℕ
+subobject_address l x start None = None
+subobject_address l x start (Some t) = Some (start + l.place x.complete t)
 
 -- s is a public base, of class c, of an object of class `target`, and lies in no virtual base of it
 pub record IsPlainBase (h : Classes) (target c : ClassId) (s : Subobject) : Type 0 where

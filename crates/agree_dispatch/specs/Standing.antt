@@ -18,18 +18,18 @@ use Rattle.byte_code.specs.Images.{word_at}
 use Rattle.byte_machine.specs.Running.{table_of}
 
 -- the address of a subobject s of the part y, in a complete object of class d that starts at an address
-abbrev pub part_at : Places → ClassId → ℕ → Subobject → Subobject → ℕ
-part_at l d at y s = at + l.place d (join y s)
+abbrev pub address_in_object : Places → ClassId → ℕ → Subobject → Subobject → ℕ
+address_in_object l d at y s = at + l.place d (join y s)
 
 -- the virtual pointer of each dynamic subobject of the part y leads to the table that serves it in the group of the view x
 abbrev pub ArePointed : Classes → Places → Store → ClassId → ℕ → Subobject → View → PlacedTables → Type 0
 ArePointed h l memory d at y x placed = (s : Subobject) (c : ClassId) → IsSubobject h x.class s → class_of s ≡ Some c → IsDynamic h c →
-    (point : ℕ) × (table_of memory (part_at l d at y s) ≡ Some point) × IsPointOf h l x placed s point
+    (point : ℕ) × (table_of memory (address_in_object l d at y s) ≡ Some point) × IsPointOf h l x placed s point
 
 -- the parts lie as far from one another as they do in the view x: as if its complete object started at an address
 pub record LieAlike (h : Classes) (l : Places) (d : ClassId) (at : ℕ) (y : Subobject) (x : View) : Type 0 where
   pub start : ℕ
-  pub each : (s : Subobject) → IsSubobject h x.class s → part_at l d at y s ≡ start + place l x s
+  pub each : (s : Subobject) → IsSubobject h x.class s → address_in_object l d at y s ≡ start + place l x s
 
 -- the part y of a complete object of class d is a view that stands at an address: its virtual pointers lead to the tables of the group of x. This is y itself as a view, or the whole of an object of its class alone where that has no virtual base
 pub record IsViewAt (h : Classes) (rows : List ClassLayout) (image : ImageBytes) (memory : Store) (d : ClassId) (at : ℕ) (y : Subobject) (x : View) (placed : PlacedTables) : Type 0 where

@@ -31,7 +31,7 @@ pub record NamesClass (image : ImageBytes) (memory : Store) (from class : ℕ) :
   pub names : word_at image info ≡ Some class
 
 -- what runs by the entry of a key, where `this` and the address to which it is moved are given: the block of the overrider; its result is moved to that of the key's function
-pub record Runs (h : Classes) (l : Places) (image : ImageBytes) (codes : List CodeRow) (memory : Store) (k : EntryKey) (o : Overrider) (this to : ℕ) : Type 0 where
+pub record RunsByEntry (h : Classes) (l : Places) (image : ImageBytes) (codes : List CodeRow) (memory : Store) (k : EntryKey) (o : Overrider) (this to : ℕ) : Type 0 where
   pub block : ℕ
   pub coded : code_of codes o.function (block_kind k.kind) ≡ Some block
   pub small : block < 2 ^ 32
@@ -44,4 +44,4 @@ pub record HasEntryWord (h : Classes) (l : Places) (image : ImageBytes) (codes :
   pub there : table_word image memory this (8 * entry_number h l k) ≡ Some word
   pub pure : is_pure h o.function ≡ true → word ≡ 0
   pub above : is_pure h o.function ≡ false → 0 < word
-  pub runs : is_pure h o.function ≡ false → Runs h l image codes memory k o this to
+  pub runs : is_pure h o.function ≡ false → RunsByEntry h l image codes memory k o this to

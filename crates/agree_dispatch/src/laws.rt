@@ -21,7 +21,7 @@ ghost use Rattle.abi_slots.specs.declared.words.CodeKind.TheVariants.{Deleting};
 ghost use Rattle.abi_slots.specs.declared.words.Group.{Group};
 ghost use Rattle.abi_slots.specs.CodeRows.{block_kind};
 ghost use Rattle.abi_slots.specs.Groups.{return_for};
-ghost use Rattle.abi_slots.specs.Listing.{key, own_keys, pointee};
+ghost use Rattle.abi_slots.specs.Listing.{entry_key, own_keys, pointee};
 ghost use Rattle.abi_slots.specs.Slots.{first_key};
 ghost use Rattle.abi_slots.specs.Views.{View};
 ghost use Rattle.abi_slots.specs.Seen.{PlacedTables};
@@ -51,7 +51,7 @@ pub fn words()
 /// Which keys the virtual functions of a class have: one that is plain, or of a destructor the deleting one beside another.
 pub fn keys()
     ensures first { (h : Classes) (f : FunctionId) → IsHierarchy h → IsVirtual h f → Contains (own_keys h f.class) (first_key h f) }
-    ensures deleting { (h : Classes) (c : ClassId) → IsHierarchy h → c.0 < length h → IsVirtual h (destructor_of h c) → Contains (own_keys h c) (key (destructor_of h c) Deleting) }
+    ensures deleting { (h : Classes) (c : ClassId) → IsHierarchy h → c.0 < length h → IsVirtual h (destructor_of h c) → Contains (own_keys h c) (entry_key (destructor_of h c) Deleting) }
     ensures plain { (h : Classes) (f : FunctionId) (name : List ℕ) (types : List (ValueType ClassId)) → signature_of h f ≡ Some (named name types) → block_kind (first_key h f).kind ≡ Plain }
 {}
 

@@ -3,7 +3,7 @@
 //! A view of an object stands in memory where the virtual pointers of its dynamic subobjects lead to the tables of its group in an
 //! image (`specs/Standing.antt`: `IsViewAt`). The group is that of the view itself or, where its class has no virtual base, that of
 //! an object of the class alone; one record serves both (law `views_stand`). With the type information of all classes in the image
-//! (`specs/CastStanding.antt`: `IsStanding`) the graph that a cast over bytes walks shows exactly the subobjects of the view.
+//! (`specs/CastStanding.antt`: `StandsInMemory`) the graph that a cast over bytes walks shows exactly the subobjects of the view.
 //!
 //! The layer above may rely on the laws, over any sound layout. The words of tables lead to virtual bases, to the whole of the
 //! view and to its class (`words`); the entry of a virtual function runs its final overrider in the view, with its subobject as

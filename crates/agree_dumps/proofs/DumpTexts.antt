@@ -17,17 +17,17 @@ use Rattle.path_model.specs.Outs.{dump_leaf}
 use Rattle.path_model.specs.Places.{leaves_of}
 use Rattle.path_model.specs.Effects.{object_out}
 use Rattle.abi_sound.specs.Places.{Places}
-use Rattle.abi_print.specs.LayoutTexts.{name_of}
+use Rattle.abi_print.specs.LayoutTexts.{declared_class_name}
 use Rattle.text_told.specs.declared.items.Item.{Item}
-use Rattle.text_told.specs.Dumps.{begins_at, items_of, lines_from, lines_of, pointer_item}
+use Rattle.text_told.specs.Dumps.{begins_at, dump_items, lines_from, object_lines, pointer_item}
 use Rattle.text_told.specs.OutTexts.{out_text}
 use Rattle.text_told.specs.Pointers.{pointers_of}
 use Rattle.abi_inspect.specs.declared.seen.SeenValue.{SeenValue}
 use Rattle.abi_inspect.specs.declared.slots.Slot.{Slot}
 use Rattle.abi_inspect.specs.Rows.{rows_of, slots_of}
-use Rattle.abi_inspect.specs.Rows.{begins_at as slot_begins_at}
-use Rattle.abi_inspect.specs.SeenTexts.{AreValuesOf, IsFitting, dump_of, row_lines}
-use Rattle.abi_inspect.specs.Values.{most_number}
+use Rattle.abi_inspect.specs.Rows.{slot_starts_at as slot_begins_at}
+use Rattle.abi_inspect.specs.SeenTexts.{AreValuesOf, IsFitting, dump_of_seen, row_lines}
+use Rattle.abi_inspect.specs.Values.{most_dumped_number}
 use Rattle.agree_dumps.specs.SeenDumps.{ValuesFit, leaf_begins_at, leaves_by_place, seen_of, seen_value}
 use Rattle.agree_dumps.proofs.Turns.{in_turn, turn_of_map, values_in_turn, zip_turn}
 use Rattle.agree_dumps.proofs.Lines.{Entry, IsEntryOf, all_fit, same_lines}
@@ -47,7 +47,7 @@ same_bit : (h : Classes) (bit : ℕ) (e : Entry) (slot : Slot) → IsEntryOf h e
 same_bit h bit e slot is = ap (λ place. nat_eq (8 * place + e.item.first) bit) is.place ∙ ap (λ first. nat_eq (8 * slot.place + first) bit) is.first
 
 module _ (h : Classes) (l : Places) (c : ClassId) (leaves : List DumpLeaf) where
-  all_items : items_of h l c leaves ≡ map (λ e. e.item) (entries_of h l c leaves)
+  all_items : dump_items h l c leaves ≡ map (λ e. e.item) (entries_of h l c leaves)
   all_items =
       let pointers = pointers_of h l c in
       sym (map-append (λ (e : Entry). e.item) (map (pointer_entry h) pointers) (map (leaf_entry h l) leaves)
@@ -55,7 +55,7 @@ module _ (h : Classes) (l : Places) (c : ClassId) (leaves : List DumpLeaf) where
       ∙ ap (λ (items : List Item). map (pointer_item h) pointers ++ items) (map-map (λ (e : Entry). e.item) (leaf_entry h l) leaves)))
 
   -- the lines of the told dump are those of the entries
-  told_lines : lines_of h l c leaves ≡ lines_from (l.size c) 0 (map (λ e. e.item) (ordered h l c leaves))
+  told_lines : object_lines h l c leaves ≡ lines_from (l.size c) 0 (map (λ e. e.item) (ordered h l c leaves))
   told_lines =
       ap (λ (items : List Item). lines_from (l.size c) 0 (in_turn begins_at (bits_in (l.size c)) items)) all_items
       ∙ ap (lines_from (l.size c) 0) (turn_of_map (λ (e : Entry). e.item) begins_at entry_begins_at (bits_in (l.size c)) (entries_of h l c leaves) (λ bit e. refl))
@@ -68,17 +68,17 @@ module _ (h : Classes) (l : Places) (c : ClassId) (leaves : List DumpLeaf) where
     ordered_go : AllZip (IsEntryOf h) (ordered h l c leaves) (in_turn slot_begins_at (bits_in (l.size c)) (slots_of h l c))
     ordered_go = zip_turn (IsEntryOf h) entry_begins_at slot_begins_at (bits_in (l.size c)) (entries_of h l c leaves) (slots_of h l c) (same_bit h) go
 
-    both_lines : lines_of h l c leaves ++ codes "\n" ≡ codes "\n" ++ concat (row_lines h (rows_of h l c) (map (λ leaf. seen_value h l leaf.value) (leaves_by_place h l (l.size c) leaves)))
+    both_lines : object_lines h l c leaves ++ codes "\n" ≡ codes "\n" ++ concat (row_lines h (rows_of h l c) (map (λ leaf. seen_value h l leaf.value) (leaves_by_place h l (l.size c) leaves)))
     both_lines =
         ap (λ (lines : List ℕ). lines ++ codes "\n") told_lines
         ∙ (sym (same_lines h (l.size c) 0 (ordered h l c leaves) (in_turn slot_begins_at (bits_in (l.size c)) (slots_of h l c)) ordered_go)
         ∙ ap (λ (values : List SeenValue). codes "\n" ++ concat (row_lines h (rows_of h l c) values)) told_values)
 
-    text_is : (n : ℕ) → out_text h l (Dump n c leaves) ≡ dump_of h l (seen_of h l n c leaves)
+    text_is : (n : ℕ) → out_text h l (Dump n c leaves) ≡ dump_of_seen h l (seen_of h l n c leaves)
     text_is n =
-        let head : List ℕ = codes "dump #" ++ decimal n ++ codes " " ++ name_of h c ++ codes " " ++ decimal (l.size c) in
+        let head : List ℕ = codes "dump #" ++ decimal n ++ codes " " ++ declared_class_name h c ++ codes " " ++ decimal (l.size c) in
         let lines : List ℕ = concat (row_lines h (rows_of h l c) (map (λ leaf. seen_value h l leaf.value) (leaves_by_place h l (l.size c) leaves))) in
-        append_assoc head (lines_of h l c leaves) (codes "\n") ∙ (ap (λ (text : List ℕ). head ++ text) both_lines ∙ sym (append_assoc head (codes "\n") lines))
+        append_assoc head (object_lines h l c leaves) (codes "\n") ∙ (ap (λ (text : List ℕ). head ++ text) both_lines ∙ sym (append_assoc head (codes "\n") lines))
 
     values_fit : AreValuesOf (rows_of h l c) (map (λ leaf. seen_value h l leaf.value) (leaves_by_place h l (l.size c) leaves))
     values_fit = subst (AreValuesOf (rows_of h l c)) told_values (all_fit h (l.size c) 0 (ordered h l c leaves) (in_turn slot_begins_at (bits_in (l.size c)) (slots_of h l c)) ordered_go)
@@ -123,10 +123,10 @@ module _ (h : Classes) (keeps : IsHierarchy h) (l : Places) (s : Objects) (k n :
         subst (λ (list : List DumpLeaf). AllZip (IsEntryOf h) (entries_of h l c list) (slots_of h l c)) of.leaves_are
         (entries_go h keeps l s k c of.there (subst (ValuesFit h l) (sym of.leaves_are) fits))
 
-    pub told_text : out_text h l (Dump n c leaves) ≡ dump_of h l (seen_of h l n c leaves)
+    pub told_text : out_text h l (Dump n c leaves) ≡ dump_of_seen h l (seen_of h l n c leaves)
     told_text = text_is h l c leaves go n
 
-    pub told_fits : c.0 < length h → n ≤ most_number → IsFitting h l (seen_of h l n c leaves)
+    pub told_fits : c.0 < length h → n ≤ most_dumped_number → IsFitting h l (seen_of h l n c leaves)
     told_fits known high =
         let number : k + 1 ≡ n = of.number in
         record { known = known; low = omega arith; high = high; leaves = values_fit h l c leaves go }

@@ -10,7 +10,7 @@ use Rattle.path_model.specs.declared.outs.Value.{Value}
 use Rattle.path_model.specs.declared.outs.Value.TheVariants.{Unset, Number, Null, Pointer}
 use Rattle.abi_sound.specs.Places.{Places}
 use Rattle.abi_sound.specs.Locations.{bits_of_value}
-use Rattle.abi_print.specs.LayoutTexts.{value_text as type_text}
+use Rattle.abi_print.specs.LayoutTexts.{value_type_text as type_text}
 use Rattle.text_told.specs.declared.items.Item.{Item}
 use Rattle.text_told.specs.Dumps.{bytes_touched, held_text}
 use Rattle.abi_inspect.specs.declared.slots.Slot.{Slot}

@@ -14,21 +14,21 @@ use Rattle.path_model.specs.Values.{Objects}
 use Rattle.path_model.specs.Outs.{dump_leaf}
 use Rattle.path_model.specs.Places.{leaves_of}
 use Rattle.path_model.specs.Effects.{object_out}
-use Rattle.path_model.specs.States.{State}
+use Rattle.path_model.specs.States.{ProgramState}
 use Rattle.path_model.specs.TypedStates.{IsTypedState}
 use Rattle.path_model.specs.Runs.{Move, Moves, IsRefused, IsLimited, IsOver, IsWrong, move, outs_in, ran_by, run_from, run_of, state_at, state_behind}
 use Rattle.abi_sound.specs.declared.class_layout.ClassLayout.{ClassLayout}
 use Rattle.abi_sound.specs.Places.{Places, places_of}
 use Rattle.abi_sound.specs.Sound.{IsSoundLayout}
-use Rattle.text_told.specs.Dumps.{IsDumped as NamesItsParts}
+use Rattle.text_told.specs.Dumps.{AreDumpedLeaves as NamesItsParts}
 use Rattle.text_told.specs.OutTexts.{out_text}
 use Rattle.text_told.proofs.Telling.{steps_told}
 use Rattle.agree_runs.specs.Accepted.{IsAccepted}
-use Rattle.agree_runs.specs.Dumps.{IsDumped}
+use Rattle.agree_runs.specs.Dumps.{TellsDump}
 use Rattle.agree_runs.proofs.Dumps.{dumps_are_of_the_state}
 use Rattle.agree_runs.proofs.Tops.{state_typed}
 use Rattle.abi_inspect.specs.Faults.{IsDumpOf}
-use Rattle.abi_inspect.specs.Values.{most_number}
+use Rattle.abi_inspect.specs.Values.{most_dumped_number}
 use Rattle.agree_dumps.specs.SeenDumps.{ValuesFit, seen_of}
 use Rattle.agree_dumps.proofs.DumpTexts.{told_fits, told_text}
 use Rattle.agree_dumps.proofs.FewObjects.{few_objects}
@@ -59,16 +59,16 @@ module _ (h : Classes) (rows : List ClassLayout) (program : TypedProgram) (accep
   l = places_of h rows
 
   -- a dump of a state behind a step
-  of_state : (n number : ℕ) (new : State) (outs : List Out) (c : ClassId) (leaves : List DumpLeaf) → state_at h l.size program (suc n) ≡ new → NamesItsParts h c leaves → IsDumped h new.objects outs number c leaves →
+  of_state : (n number : ℕ) (new : ProgramState) (outs : List Out) (c : ClassId) (leaves : List DumpLeaf) → state_at h l.size program (suc n) ≡ new → NamesItsParts h c leaves → TellsDump h new.objects outs number c leaves →
       IsDumpOf h l (seen_of h l number c leaves) (out_text h l (Dump number c leaves))
   of_state n number new outs c leaves behind told dumped =
       let s : Objects = new.objects in
       let k : ℕ = dumped.object in
       let typed : IsTypedState h program new = subst (IsTypedState h program) behind (state_typed h l.size program (suc n) accepted) in
-      let few : length s.classes ≤ most_number = subst (λ (x : State). length x.objects.classes ≤ most_number) behind (few_objects h program l.size (λ d known. (sound.each d known).positive) accepted.typed (suc n)) in
+      let few : length s.classes ≤ most_dumped_number = subst (λ (x : ProgramState). length x.objects.classes ≤ most_dumped_number) behind (few_objects h program l.size (λ d known. (sound.each d known).positive) accepted.typed (suc n)) in
       let lt : k < length s.classes = slice_get_within s.classes k c dumped.class in
       let number_is : number ≡ k + 1 = dumped.number_is in
-      let high : number ≤ most_number = omega arith in
+      let high : number ≤ most_dumped_number = omega arith in
       let out : object_out h s k (slice_get s.classes k) ≡ Some (Dump number c leaves) =
       ap (object_out h s k) dumped.class
       ∙ (ap (λ n. Some (Dump n c (map (dump_leaf s) (leaves_of h c (whole_part k c))))) (sym dumped.number_is)
@@ -83,7 +83,7 @@ module _ (h : Classes) (rows : List ClassLayout) (program : TypedProgram) (accep
   of_move : (n number : ℕ) (c : ClassId) (leaves : List DumpLeaf) → NamesItsParts h c leaves → (v : Move) → move h l.size program (state_at h l.size program n) ≡ v → Has (outs_in v) (Dump number c leaves) →
       IsDumpOf h l (seen_of h l number c leaves) (out_text h l (Dump number c leaves))
   of_move n number c leaves told (Moves new outs) is has =
-      let s : State = state_at h l.size program n in
+      let s : ProgramState = state_at h l.size program n in
       of_state n number new outs c leaves (ap (λ (v : Move). state_behind v s) is) told (dumps_are_of_the_state h l.size program s new outs number c leaves is (contains_from_has outs (Dump number c leaves) has))
   of_move n number c leaves told (IsRefused rule line) is has = absurd has
   of_move n number c leaves told (IsLimited limit) is has = absurd has

@@ -16,19 +16,19 @@ use Rattle.path_model.specs.Values.{Leaf, Objects}
 use Rattle.path_model.specs.Outs.{class_or_first, dump_leaf, object_class, shown}
 use Rattle.path_model.specs.Places.{leaves_of}
 use Rattle.abi_sound.specs.Places.{Places}
-use Rattle.abi_sound.specs.Locations.{last_member, place_at}
+use Rattle.abi_sound.specs.Locations.{last_member, place_along_hops}
 use Rattle.agree_parts.specs.Heaps.{Heap}
 use Rattle.agree_parts.proofs.Made.{leaf_hops, leaf_last}
 use Rattle.text_told.specs.declared.items.Item.{Item}
 use Rattle.text_told.specs.declared.pointers.TablePointer.{TablePointer}
-use Rattle.text_told.specs.Fields.{field_text, first_of, place_in, type_behind, width_of}
+use Rattle.text_told.specs.Fields.{field_name_text, first_value_bit, location_place, type_behind, bit_field_width}
 use Rattle.text_told.specs.Pointers.{pointers_of}
 use Rattle.text_told.specs.Dumps.{leaf_by_type, leaf_item, pointer_item}
 use Rattle.text_bytes.specs.declared.rows.LeafRow.{LeafRow}
 use Rattle.text_bytes.specs.LeafRows.{leaf_rows}
 use Rattle.text_bytes.proofs.RowsOfLeaves.{IsRowOf, rows_are}
 use Rattle.abi_inspect.specs.Rows.{leaf_slot, pointer_slot, slots_of}
-use Rattle.abi_inspect.specs.Rows.{leaf_by_type as slot_by_type}
+use Rattle.abi_inspect.specs.Rows.{typed_leaf_slot as slot_by_type}
 use Rattle.abi_inspect.specs.Values.{IsValueOf}
 use Rattle.agree_dumps.specs.SeenDumps.{ValuesFit, ValueFits, seen_value}
 use Rattle.agree_dumps.proofs.Lines.{Entry, IsEntryOf}
@@ -69,26 +69,26 @@ module _ (h : Classes) (keeps : IsHierarchy h) (l : Places) (s : Objects) (k : �
         let g : Heap = record { classes = s.classes; starts = [] } in
         ap (λ (d : ClassId). last_member h (Some d) (leaf_hops a)) (class_is ∙ sym object_is) ∙ leaf_last h g a of.type of.made
 
-    widths : width_of h (last_member h (Some (object_class s a.part.object)) (leaf_hops a)) ≡ width
-    widths = ap (width_of h) last_is ∙ (ap (λ (d : ClassId). width_of_member h d a.member) (sym of.class) ∙ ap (width_of_member h row.class) (sym of.number))
+    widths : bit_field_width h (last_member h (Some (object_class s a.part.object)) (leaf_hops a)) ≡ width
+    widths = ap (bit_field_width h) last_is ∙ (ap (λ (d : ClassId). width_of_member h d a.member) (sym of.class) ∙ ap (width_of_member h row.class) (sym of.number))
 
-    firsts : first_of l (last_member h (Some (object_class s a.part.object)) (leaf_hops a)) ≡ row.first
-    firsts = ap (first_of l) last_is ∙ (ap (λ (d : ClassId). l.first d a.member) (sym of.class) ∙ (ap (l.first row.class) (sym of.number) ∙ sym of.first))
+    firsts : first_value_bit l (last_member h (Some (object_class s a.part.object)) (leaf_hops a)) ≡ row.first
+    firsts = ap (first_value_bit l) last_is ∙ (ap (λ (d : ClassId). l.first d a.member) (sym of.class) ∙ (ap (l.first row.class) (sym of.number) ∙ sym of.first))
 
     types : type_behind h (Some (object_class s a.part.object)) (leaf_hops a) ≡ Some of.type
     types = ap (λ (d : ClassId). type_behind h (Some d) (leaf_hops a)) class_is ∙ of.leads
 
-    places : place_in h l leaf.at ≡ row.place
-    places = ap (λ (d : ClassId). place_at h l d (leaf_hops a)) class_is ∙ of.place
+    places : location_place h l leaf.at ≡ row.place
+    places = ap (λ (d : ClassId). place_along_hops h l d (leaf_hops a)) class_is ∙ of.place
 
     item_is : leaf_item h l leaf ≡ leaf_as_item h l row.place width row.first of.type row.name leaf.value
     item_is =
         let member = last_member h (Some (object_class s a.part.object)) (leaf_hops a) in
         let make : ℕ → Option ℕ → ℕ → List ℕ → Item = λ place bits first name. leaf_as_item h l place bits first of.type name (shown s (s.leaf a)) in
-        ap (leaf_by_type h l leaf (width_of h member) (first_of l member)) types
-        ∙ (ap (λ (bits : Option ℕ). make (place_in h l leaf.at) bits (first_of l member) (field_text h (leaf_hops a))) widths
-        ∙ (ap (λ first. make (place_in h l leaf.at) width first (field_text h (leaf_hops a))) firsts
-        ∙ (ap (λ place. make place width row.first (field_text h (leaf_hops a))) places
+        ap (leaf_by_type h l leaf (bit_field_width h member) (first_value_bit l member)) types
+        ∙ (ap (λ (bits : Option ℕ). make (location_place h l leaf.at) bits (first_value_bit l member) (field_name_text h (leaf_hops a))) widths
+        ∙ (ap (λ first. make (location_place h l leaf.at) width first (field_name_text h (leaf_hops a))) firsts
+        ∙ (ap (λ place. make place width row.first (field_name_text h (leaf_hops a))) places
         ∙ ap (make row.place width row.first) of.name)))
 
     slot_is : leaf_slot h row ≡ leaf_as_slot h l row.place width row.first of.type row.name leaf.value

@@ -14,17 +14,17 @@ use Rattle.path_plan.specs.Whole.{whole_part}
 use Rattle.path_model.specs.Values.{Leaf, Objects, Value, Unset, Number, Null, Pointer}
 use Rattle.path_model.specs.Outs.{dump_leaf, location_of, object_class, shown}
 use Rattle.path_model.specs.Places.{leaves_of}
-use Rattle.path_model.specs.TypedStates.{IsHeld, IsLeafMade, IsPartMade, IsValue, width_of_leaf}
+use Rattle.path_model.specs.TypedStates.{IsInBitField, IsLeafMade, IsPartMade, IsValue, width_of_leaf}
 use Rattle.abi_sound.specs.declared.class_layout.ClassLayout.{ClassLayout}
 use Rattle.abi_sound.specs.Places.{Places, places_of}
 use Rattle.abi_sound.specs.Sound.{IsSoundLayout}
-use Rattle.text_told.specs.Fields.{NamesPart, place_in}
-use Rattle.text_told.specs.Dumps.{IsDumped, NamesValue}
+use Rattle.text_told.specs.Fields.{NamesPart, location_place}
+use Rattle.text_told.specs.Dumps.{AreDumpedLeaves, NamesValue}
 use Rattle.text_told.proofs.Leading.{object_below}
 use Rattle.text_bytes.specs.declared.rows.LeafRow.{LeafRow}
 use Rattle.text_bytes.specs.LeafRows.{leaf_rows}
 use Rattle.text_bytes.proofs.RowsOfLeaves.{IsRowOf, rows_are}
-use Rattle.abi_inspect.specs.Values.{IsPlace, IsValueOf, most_number}
+use Rattle.abi_inspect.specs.Values.{IsHeapPlace, IsValueOf, most_dumped_number}
 use Rattle.agree_dumps.specs.SeenDumps.{ValuesFit, ValueFits, seen_value}
 use Rattle.agree_dumps.proofs.Told.{fits_of}
 
@@ -34,14 +34,14 @@ zip_has R [] ys x z has = absurd has
 zip_has R (a ∷ xs) [] x z has = absurd z
 zip_has {A} {B} R (a ∷ xs) (y ∷ ys) x z has = ⊎_elim (λ same. (y, subst (λ (b : A). R b y) same z.0)) (λ more. zip_has R xs ys x z.1 more) has
 
-module _ (h : Classes) (rows : List ClassLayout) (sound : IsSoundLayout h rows) (s : Objects) (few : length s.classes ≤ most_number) where
-  place_fits : (p : ObjectPart) (c : ClassId) → IsPartMade h s.classes p c → NamesPart h (location_of s p) → IsPlace (p.object + 1) (place_in h (places_of h rows) (location_of s p))
+module _ (h : Classes) (rows : List ClassLayout) (sound : IsSoundLayout h rows) (s : Objects) (few : length s.classes ≤ most_dumped_number) where
+  place_fits : (p : ObjectPart) (c : ClassId) → IsPartMade h s.classes p c → NamesPart h (location_of s p) → IsHeapPlace (p.object + 1) (location_place h (places_of h rows) (location_of s p))
   place_fits p c made names =
       let lt = slice_get_within s.classes p.object made.class made.made in
-      let near : place_in h (places_of h rows) (location_of s p) < 1048576 = object_below h rows sound (object_class s p.object) names.0 (hops_of p.owner p.at) names.1.known names.1.leads in
+      let near : location_place h (places_of h rows) (location_of s p) < 1048576 = object_below h rows sound (object_class s p.object) names.0 (hops_of p.owner p.at) names.1.known names.1.leads in
       record { low = omega arith; high = omega arith; near = omega arith }
 
-  value_fits : (width : Option ℕ) (type : ValueType ClassId) (v : Value) → IsValue h s.classes v type → IsHeld width v type → NamesValue h (shown s v) → IsValueOf width type (seen_value h (places_of h rows) (shown s v))
+  value_fits : (width : Option ℕ) (type : ValueType ClassId) (v : Value) → IsValue h s.classes v type → IsInBitField width v type → NamesValue h (shown s v) → IsValueOf width type (seen_value h (places_of h rows) (shown s v))
   value_fits width (NumberType t) Unset is held names = tt
   value_fits width (PointerType c) Unset is held names = tt
   value_fits None (NumberType t) (Number z) is held names = is
@@ -52,8 +52,8 @@ module _ (h : Classes) (rows : List ClassLayout) (sound : IsSoundLayout h rows) 
   value_fits width (NumberType t) (Pointer p) is held names = absurd is
   value_fits width (PointerType c) (Pointer p) is held names = place_fits p c is names
 
-  module _ (keeps : IsHierarchy h) (values : (a : Leaf) (t : ValueType ClassId) → IsLeafMade h s.classes a t → IsValue h s.classes (s.leaf a) t) (held : (a : Leaf) (t : ValueType ClassId) → IsLeafMade h s.classes a t → IsHeld (width_of_leaf h a) (s.leaf a) t)
-      (k : ℕ) (c : ClassId) (there : slice_get s.classes k ≡ Some c) (told : IsDumped h c (map (dump_leaf s) (leaves_of h c (whole_part k c)))) where
+  module _ (keeps : IsHierarchy h) (values : (a : Leaf) (t : ValueType ClassId) → IsLeafMade h s.classes a t → IsValue h s.classes (s.leaf a) t) (held : (a : Leaf) (t : ValueType ClassId) → IsLeafMade h s.classes a t → IsInBitField (width_of_leaf h a) (s.leaf a) t)
+      (k : ℕ) (c : ClassId) (there : slice_get s.classes k ≡ Some c) (told : AreDumpedLeaves h c (map (dump_leaf s) (leaves_of h c (whole_part k c)))) where
     width_is : (a : Leaf) (row : LeafRow) (of : IsRowOf h (places_of h rows) s.classes k c a row) → width_of_leaf h a ≡ width_of_member h row.class row.number
     width_is a row of =
         ap (λ (o : Option ClassId). width_within h o a.member) of.made.part.of_class
@@ -64,7 +64,7 @@ module _ (h : Classes) (rows : List ClassLayout) (sound : IsSoundLayout h rows) 
         let leaves : List Leaf = leaves_of h c (whole_part k c) in
         fits_of h keeps (places_of h rows) s k c there a row of
         (value_fits (width_of_member h row.class row.number) of.type (s.leaf a) (values a of.type of.made)
-        (subst (λ (width : Option ℕ). IsHeld width (s.leaf a) of.type) (width_is a row of) (held a of.type of.made))
+        (subst (λ (width : Option ℕ). IsInBitField width (s.leaf a) of.type) (width_is a row of) (held a of.type of.made))
         (told.each (dump_leaf s a) (contains_from_has (map (dump_leaf s) leaves) (dump_leaf s a) (has_map (dump_leaf s) leaves a has))).value)
 
     pub told_leaves_fit : ValuesFit h (places_of h rows) (map (dump_leaf s) (leaves_of h c (whole_part k c)))

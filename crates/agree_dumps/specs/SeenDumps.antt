@@ -9,7 +9,7 @@ use Rattle.path_model.specs.declared.outs.Value.TheVariants.{Unset, Number, Null
 use Rattle.path_model.specs.declared.outs.DumpLeaf.{DumpLeaf}
 use Rattle.abi_sound.specs.Places.{Places}
 use Rattle.abi_sound.specs.Locations.{last_member}
-use Rattle.text_told.specs.Fields.{place_in, type_behind, width_of}
+use Rattle.text_told.specs.Fields.{location_place, type_behind, bit_field_width}
 use Rattle.text_told.specs.Dumps.{begins_at, leaf_item}
 use Rattle.abi_inspect.specs.declared.seen.SeenValue.{SeenValue}
 use Rattle.abi_inspect.specs.declared.seen.SeenValue.TheVariants.{Unset as SeenUnset, Number as SeenNumber, Null as SeenNull, Place}
@@ -21,7 +21,7 @@ abbrev pub seen_value : Classes → Places → Value → SeenValue
 seen_value h l Unset = SeenUnset
 seen_value h l (Number z) = SeenNumber z
 seen_value h l Null = SeenNull
-seen_value h l (Pointer at) = Place at.object (place_in h l at)
+seen_value h l (Pointer at) = Place at.object (location_place h l at)
 
 -- the line of a leaf begins at this bit of the object
 abbrev pub leaf_begins_at : Classes → Places → ℕ → DumpLeaf → Bool
@@ -40,7 +40,7 @@ seen_of h l n c leaves = record { object = n; class = c; leaves = map (λ leaf. 
 pub record ValueFits (h : Classes) (l : Places) (leaf : DumpLeaf) : Type 0 where
   pub type : ValueType ClassId
   pub leads : type_behind h (Some leaf.at.class) leaf.at.hops ≡ Some type
-  pub value : IsValueOf (width_of h (last_member h (Some leaf.at.class) leaf.at.hops)) type (seen_value h l leaf.value)
+  pub value : IsValueOf (bit_field_width h (last_member h (Some leaf.at.class) leaf.at.hops)) type (seen_value h l leaf.value)
 
 -- so are the values of all
 abbrev pub ValuesFit : Classes → Places → List DumpLeaf → Type 0

@@ -12,8 +12,8 @@ ghost use Rattle.path_model.specs.Effects.{object_out};
 ghost use Rattle.abi_sound.specs.declared.class_layout.ClassLayout.{ClassLayout};
 ghost use Rattle.abi_sound.specs.Places.{Places};
 ghost use Rattle.text_told.specs.OutTexts.{out_text};
-ghost use Rattle.abi_inspect.specs.SeenTexts.{IsFitting, dump_of};
-ghost use Rattle.abi_inspect.specs.Values.{most_number};
+ghost use Rattle.abi_inspect.specs.SeenTexts.{IsFitting, dump_of_seen};
+ghost use Rattle.abi_inspect.specs.Values.{most_dumped_number};
 ghost use Rattle.agree_dumps.specs.SeenDumps.{ValuesFit, seen_of};
 ghost use Rattle.agree_dumps.specs.DumpLaws.{RunsTellDumps};
 
@@ -24,8 +24,8 @@ ghost use Rattle.agree_dumps.specs.DumpLaws.{RunsTellDumps};
 /// premise (`runs`): what it stores fits, a place lies in its object, and the heap has fewer objects than a dump can number.
 pub fn dumps_have_one_text()
     ensures text { (h : Classes) (l : Places) (s : Objects) (k n : ℕ) (c : ClassId) (leaves : List DumpLeaf) → IsHierarchy h → object_out h s k (slice_get s.classes k) ≡ Some (Dump n c leaves) → ValuesFit h l leaves →
-        out_text h l (Dump n c leaves) ≡ dump_of h l (seen_of h l n c leaves) }
-    ensures fitting { (h : Classes) (l : Places) (s : Objects) (k n : ℕ) (c : ClassId) (leaves : List DumpLeaf) → IsHierarchy h → object_out h s k (slice_get s.classes k) ≡ Some (Dump n c leaves) → ValuesFit h l leaves → c.0 < length h → n ≤ most_number →
+        out_text h l (Dump n c leaves) ≡ dump_of_seen h l (seen_of h l n c leaves) }
+    ensures fitting { (h : Classes) (l : Places) (s : Objects) (k n : ℕ) (c : ClassId) (leaves : List DumpLeaf) → IsHierarchy h → object_out h s k (slice_get s.classes k) ≡ Some (Dump n c leaves) → ValuesFit h l leaves → c.0 < length h → n ≤ most_dumped_number →
         IsFitting h l (seen_of h l n c leaves) }
     ensures runs { (h : Classes) (rows : List ClassLayout) (program : TypedProgram) → RunsTellDumps h rows program }
 {}

@@ -1,7 +1,7 @@
 //! The text of a dump that a run tells is read back as the values that the run tells.
 //!
 //! The text of a dump has two definitions: `dump_text` of text_told gives it for what a run tells of an object, leaf by leaf as hops lead
-//! to them, and `dump_of` of abi_inspect for the values that `inspect` finds in it, line by line of the class. This crate owns what a told
+//! to them, and `dump_of_seen` of abi_inspect for the values that `inspect` finds in it, line by line of the class. This crate owns what a told
 //! dump shows (`specs/SeenDumps.antt`: `seen_of`, a value for each leaf in the order of the lines, each pointer as its object and the
 //! place there), and when a told value fits its leaf (`ValuesFit`).
 //!

@@ -5,22 +5,22 @@ use Rattle.cxx_hierarchy.specs.declared.records.ClassId.{ClassId}
 use Rattle.cxx_program.specs.declared.operand.Conversion.TheVariants.{Same as ToSame}
 use Rattle.cxx_program.specs.declared.program.Owner.{Owner}
 use Rattle.cxx_program.specs.declared.program.TypedBody.{TypedBody}
-use Rattle.path_plan.specs.Phases.{Event, Body}
+use Rattle.path_plan.specs.Phases.{PartEvent, Body}
 use Rattle.path_model.specs.Values.{Value, Unset, Pointer}
-use Rattle.path_model.specs.States.{Running as PathRunning, Planned, Frame as PathFrame, InBody, InPlan, entered, start_locals}
+use Rattle.path_model.specs.States.{RunningBody as PathRunning, Planned, Frame as PathFrame, InBody, InPlan, entered_body, start_locals}
 use Rattle.path_model.specs.Steps.{body_owner}
 use Rattle.code_blocks.specs.Blocks.{next_place}
 use Rattle.code_blocks.specs.Items.{Item, Does}
 use Rattle.code_blocks.specs.declared.items.Kind.TheVariants.{AtBody}
-use Rattle.code_ops.specs.Setups.{PlanCode, plan_owner, body_in, locals_in}
+use Rattle.code_ops.specs.Setups.{PlanCode, plan_owner, body_of_routine, locals_in}
 use Rattle.code_ops.specs.declared.routines.Course.{Course}
 use Rattle.code_ops.specs.declared.routines.Course.TheVariants.{Constructs, Destroys, Deletes}
-use Rattle.byte_machine.specs.Frames.{Frame}
+use Rattle.byte_machine.specs.Frames.{MachineFrame}
 use Rattle.agree_parts.specs.Heaps.{Heap}
 use Rattle.agree_relation.specs.Worlds.{World}
 use Rattle.agree_relation.specs.Words.{register_word}
 use Rattle.agree_relation.specs.Goings.{Going, at_left, builds}
-use Rattle.agree_relation.specs.Frames.{Numbers, HasVariables, AreUntouched, awaits_body, IsPlanFrame, IsAtNext, IsInner, IsOuter, RunsBody, WaitInPlan, OwnsParts, Behind, StandOver, BodyStands}
+use Rattle.agree_relation.specs.Frames.{PlaceNumbers, HasVariables, AreUntouched, awaits_body, IsPlanFrame, IsAtNext, IsInner, IsOuter, RunsBody, WaitInPlan, OwnsParts, Behind, StandOver, BodyStandsOver}
 use Rattle.agree_events.proofs.Tops.{top_of}
 use Rattle.agree_events.proofs.Owned.{with_events, waits_same}
 
@@ -41,14 +41,14 @@ owner_of_plan Constructs c b e = ap (λ t. body_owner t c) (sym e)
 owner_of_plan Destroys c b e = ap (λ t. body_owner t c) (sym e)
 owner_of_plan Deletes c b e = ap (λ t. body_owner t c) (sym e)
 
-module _ (w : World) (at : Numbers) (g : Heap) where
+module _ (w : World) (at : PlaceNumbers) (g : Heap) where
   abbrev started : TypedBody → Going → PathRunning
-  started body f = entered body (Pointer f.part) [] ToSame None
+  started body f = entered_body body (Pointer f.part) [] ToSame None
 
-  variables_stand : (f : Going) (left : List Item) (below : List Going) (b : Frame) (body : TypedBody) → f.left ≡ Does AtBody ∷ left → body_in w.setup (PlanCode f.course f.form f.class) ≡ Some body → IsPlanFrame w at g f below b → HasVariables w g (started body f) b.registers
+  variables_stand : (f : Going) (left : List Item) (below : List Going) (b : MachineFrame) (body : TypedBody) → f.left ≡ Does AtBody ∷ left → body_of_routine w.setup (PlanCode f.course f.form f.class) ≡ Some body → IsPlanFrame w at g f below b → HasVariables w g (started body f) b.registers
   variables_stand f left below b body at_body there frame =
       let untouched : AreUntouched w (PlanCode f.course f.form f.class) b.registers = frame.untouched (ap awaits_body at_body) in
-      let count : locals_in (body_in w.setup (PlanCode f.course f.form f.class)) ≡ length body.locals = ap locals_in there in
+      let count : locals_in (body_of_routine w.setup (PlanCode f.course f.form f.class)) ≡ length body.locals = ap locals_in there in
       let size : length (start_locals body []) ≡ length body.locals = replicate_length (length body.locals - 0) ∙ let all : length body.locals - 0 ≡ length body.locals = omega arith in all in
       record {
         size = frame.size;
@@ -58,7 +58,7 @@ module _ (w : World) (at : Numbers) (g : Heap) where
       }
 
   -- the frames of a plan whose body is on top
-  pub body_waits : (p : Planned) (path : List PathFrame) (under : List Going → List Frame → Type 0) (f : Going) (left : List Item) (below : List Going) (b : Frame) (bs : List Frame) (body : TypedBody) → f.left ≡ Does AtBody ∷ left → body_in w.setup (PlanCode f.course f.form f.class) ≡ Some body → body.owner ≡ plan_owner f.course f.class
+  pub body_waits : (p : Planned) (path : List PathFrame) (under : List Going → List MachineFrame → Type 0) (f : Going) (left : List Item) (below : List Going) (b : MachineFrame) (bs : List MachineFrame) (body : TypedBody) → f.left ≡ Does AtBody ∷ left → body_of_routine w.setup (PlanCode f.course f.form f.class) ≡ Some body → body.owner ≡ plan_owner f.course f.class
       → WaitInPlan w at g p path (f ∷ below) (b ∷ bs) under
       → (rest : List Going) × ((runs : RunsBody w at g (started body f) (f ∷ below) b rest) × ((IsInner b × WaitInPlan w at g p path rest bs under) ⊎ (IsOuter w g p runs.first path b × under rest bs)))
   body_waits p path under f left below b bs body at_body there owner wait =
@@ -90,17 +90,17 @@ module _ (w : World) (at : Numbers) (g : Heap) where
         ),
       )
 
-  by_course : (course : Course) (c : ClassId) (fb : PathRunning) (path : List PathFrame) (rest : List Going → List Frame → Type 0) (gs : List Going) (bs : List Frame) → StandOver w at g (Some fb) path gs bs → BodyStands w at g fb (plan_owner course c) path rest (StandOver w at g (Some fb) path) gs bs
+  by_course : (course : Course) (c : ClassId) (fb : PathRunning) (path : List PathFrame) (rest : List Going → List MachineFrame → Type 0) (gs : List Going) (bs : List MachineFrame) → StandOver w at g (Some fb) path gs bs → BodyStandsOver w at g fb (plan_owner course c) path rest (StandOver w at g (Some fb) path) gs bs
   by_course Constructs c fb path rest gs bs x = x
   by_course Destroys c fb path rest gs bs x = x
   by_course Deletes c fb path rest gs bs x = x
 
-  pub body_stands : (p : Planned) (path : List PathFrame) (es : List Event) (f : Going) (left : List Item) (below : List Going) (stack : List Frame) (body : TypedBody) → f.left ≡ Does AtBody ∷ left → body_in w.setup (PlanCode f.course f.form f.class) ≡ Some body → body.owner ≡ plan_owner f.course f.class
+  pub body_stands : (p : Planned) (path : List PathFrame) (es : List PartEvent) (f : Going) (left : List Item) (below : List Going) (stack : List MachineFrame) (body : TypedBody) → f.left ≡ Does AtBody ∷ left → body_of_routine w.setup (PlanCode f.course f.form f.class) ≡ Some body → body.owner ≡ plan_owner f.course f.class
       → (parts : OwnsParts w p.is_building (Body f.part ∷ es) (f ∷ below)) → WaitInPlan w at g p path (f ∷ below) stack (Behind parts.lower (StandOver w at g None path))
       → StandOver w at g None (InBody (started body f) ∷ InPlan (with_events p es) ∷ path) (f ∷ below) stack
   body_stands p path es f left below [] body at_body there owner parts wait = absurd wait
   body_stands p path es f left below (b ∷ bs) body at_body there owner parts wait =
       let under = Behind parts.lower (StandOver w at g None path) in
       let r = body_waits (with_events p es) path under f left below b bs body at_body there owner (waits_same w at g p es path under (f ∷ below) (b ∷ bs) wait) in
-      subst (λ (o : Owner). BodyStands w at g (started body f) o (InPlan (with_events p es) ∷ path) (StandOver w at g None (InPlan (with_events p es) ∷ path)) (StandOver w at g (Some (started body f)) (InPlan (with_events p es) ∷ path)) (f ∷ below) (b ∷ bs)) (sym owner)
+      subst (λ (o : Owner). BodyStandsOver w at g (started body f) o (InPlan (with_events p es) ∷ path) (StandOver w at g None (InPlan (with_events p es) ∷ path)) (StandOver w at g (Some (started body f)) (InPlan (with_events p es) ∷ path)) (f ∷ below) (b ∷ bs)) (sym owner)
       (by_course f.course f.class (started body f) (InPlan (with_events p es) ∷ path) (StandOver w at g None (InPlan (with_events p es) ∷ path)) (f ∷ below) (b ∷ bs) (f.part, (parts, (r.0, (r.1.0, r.1.1)))))

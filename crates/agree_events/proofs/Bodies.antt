@@ -13,7 +13,7 @@ use Rattle.foundation.proofs.Truth.{split}
 use Rattle.foundation.proofs.Members.{Has, has_cases, has_right, from_flat_map}
 use Rattle.path_plan.specs.Plans.{Form, InFull, AsBase, upto, backwards, virtual_order}
 use Rattle.code_blocks.specs.Blocks.{items, behind_body}
-use Rattle.code_blocks.specs.Items.{Item, Does, Shares, Inherits, Holds, shared_items, base_items, init_items, body_items, typed_items, member_items}
+use Rattle.code_blocks.specs.Items.{Item, Does, Shares, Inherits, Holds, shared_base_items, base_items, init_items, body_items, typed_items, member_items}
 use Rattle.code_blocks.specs.Lowered.{IsEnd}
 use Rattle.code_blocks.specs.declared.items.Kind.{Kind}
 use Rattle.code_blocks.specs.declared.items.Kind.TheVariants.{AtBegin, AtReady, AtInit, AtBody, AtDone, AtEnding, AtBases, AtEnd}
@@ -58,7 +58,7 @@ behind_is (x ∷ xs) ys (i ∷ before) left b no_first no_last e = let rest : be
 none_both : (xs ys : List Item) → (HasBody xs → ⊥) → (HasBody ys → ⊥) → HasBody (xs ++ ys) → ⊥
 none_both xs ys first last has = ⊎_elim (λ a. first a) (λ b. last b) (has_cases xs ys (Does AtBody) has)
 
-none_shared : (form : Form) (order : List ClassId) → HasBody (shared_items form order) → ⊥
+none_shared : (form : Form) (order : List ClassId) → HasBody (shared_base_items form order) → ⊥
 none_shared AsBase order has = has
 none_shared InFull [] has = has
 none_shared InFull (v ∷ order) has = ⊎_elim (λ e. cc) (λ more. none_shared InFull order more) has
@@ -93,7 +93,7 @@ split_list i j as_ bs ms ys = simp append_assoc
 -- behind the body of a constructor only the end is left
 pub constructor_left : (x : Setup) (form : Form) (c : ClassId) (left : List Item) → IsEnd x Constructs form c (Does AtBody ∷ left) → left ≡ Does AtDone ∷ []
 constructor_left x form c left end =
-    let shared = shared_items form (virtual_order x.h c) in
+    let shared = shared_base_items form (virtual_order x.h c) in
     let bases = flat_map base_items (bases_of x.h c) in
     let members = flat_map (λ m. member_items ((bodies_in x).initializer c m) Forwards m (slice_get (members_of x.h c) m)) (upto (length (members_of x.h c))) in
     (behind_is (Does AtBegin ∷ (shared ++ (bases ++ (Does AtReady ∷ members)))) (Does AtDone ∷ []) end.before left ((bodies_in x).constructor c)
@@ -104,12 +104,12 @@ constructor_left x form c left end =
 abbrev behind_destructor : Setup → Form → ClassId → List Item
 behind_destructor x form c =
     flat_map (λ m. member_items false Backwards m (slice_get (members_of x.h c) m)) (backwards (upto (length (members_of x.h c))))
-    ++ (Does AtBases ∷ (flat_map base_items (backwards (bases_of x.h c)) ++ (shared_items form (backwards (virtual_order x.h c)) ++ Does AtEnd ∷ [])))
+    ++ (Does AtBases ∷ (flat_map base_items (backwards (bases_of x.h c)) ++ (shared_base_items form (backwards (virtual_order x.h c)) ++ Does AtEnd ∷ [])))
 
 none_behind : (x : Setup) (form : Form) (c : ClassId) → HasBody (behind_destructor x form c) → ⊥
 none_behind x form c = none_both (flat_map (λ m. member_items false Backwards m (slice_get (members_of x.h c) m)) (backwards (upto (length (members_of x.h c))))) _ (none_members x c (λ m. false) Backwards (backwards (upto (length (members_of x.h c)))))
     (none_event AtBases _ (λ e. cc) (none_both (flat_map base_items (backwards (bases_of x.h c))) _ (none_bases (backwards (bases_of x.h c)))
-    (none_both (shared_items form (backwards (virtual_order x.h c))) _ (none_shared form (backwards (virtual_order x.h c))) (none_event AtEnd [] (λ e. cc) (λ has. has)))))
+    (none_both (shared_base_items form (backwards (virtual_order x.h c))) _ (none_shared form (backwards (virtual_order x.h c))) (none_event AtEnd [] (λ e. cc) (λ has. has)))))
 
 destructor_behind : (x : Setup) (form : Form) (c : ClassId) (before left : List Item) → before ++ Does AtBody ∷ left ≡ Does AtEnding ∷ (body_items ((bodies_in x).destructor c) ++ behind_destructor x form c) → ((bodies_in x).destructor c ≡ true) × (left ≡ behind_destructor x form c)
 destructor_behind x form c before left e = behind_is (Does AtEnding ∷ []) (behind_destructor x form c) before left ((bodies_in x).destructor c) (none_event AtEnding [] (λ f. cc) (λ has. has)) (none_behind x form c) e

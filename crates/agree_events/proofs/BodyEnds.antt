@@ -3,10 +3,10 @@ use Rattle.std.proofs.Common.{◌≡◌, ◌⊎◌, inl, inr, ⊎_elim, true, fa
 use Rattle.cxx_hierarchy.specs.declared.records.ClassId.{ClassId}
 use Rattle.cxx_program.specs.declared.program.Owner.{Owner}
 use Rattle.cxx_program.specs.declared.program.Owner.TheVariants.{Constructor, Destructor}
-use Rattle.path_plan.specs.Phases.{Event, Body, part_of}
+use Rattle.path_plan.specs.Phases.{PartEvent, Body, part_of}
 use Rattle.path_plan.specs.Views.{Fits}
 use Rattle.path_model.specs.declared.outs.Out.{Out}
-use Rattle.path_model.specs.States.{State, Running as PathRunning, Planned, Frame as PathFrame, InBody, InPlan, with_frames}
+use Rattle.path_model.specs.States.{ProgramState, RunningBody as PathRunning, Planned, Frame as PathFrame, InBody, InPlan, with_frames}
 use Rattle.path_model.specs.Effects.{Goes}
 use Rattle.path_model.specs.Steps.{event_step}
 use Rattle.path_model.specs.Runs.{Moves, open_count}
@@ -18,18 +18,18 @@ use Rattle.code_ops.specs.Setups.{PlanCode, plan_owner}
 use Rattle.code_ops.specs.declared.routines.Course.{Course}
 use Rattle.code_ops.specs.declared.routines.Course.TheVariants.{Constructs, Destroys, Deletes}
 use Rattle.byte_machine.specs.declared.turn.RawOut.{RawOut}
-use Rattle.byte_machine.specs.Frames.{Frame}
+use Rattle.byte_machine.specs.Frames.{MachineFrame}
 use Rattle.byte_machine.specs.Running.{Running}
 use Rattle.byte_machine.specs.Leads.{LeadsBlock}
 use Rattle.agree_parts.specs.Heaps.{Heap}
-use Rattle.agree_relation.specs.Worlds.{World, IsWorld, classes_in, fixed}
+use Rattle.agree_relation.specs.Worlds.{World, IsProgramWorld, world_classes, fixed}
 use Rattle.agree_relation.specs.Words.{heap_of}
-use Rattle.agree_relation.specs.Goings.{Going, at_left, opened, AreOf, ArePlanned, events_left}
-use Rattle.agree_relation.specs.Frames.{Numbers, awaits_body, IsPlanFrame, IsInner, IsOuter, RunsBody, WaitInPlan, Behind, StandInPlan, StandOver, BodyStands}
+use Rattle.agree_relation.specs.Goings.{Going, at_left, opened_goings, AreOf, ArePlanned, events_left}
+use Rattle.agree_relation.specs.Frames.{PlaceNumbers, awaits_body, IsPlanFrame, IsInner, IsOuter, RunsBody, WaitInPlan, Behind, StandInPlan, StandOver, BodyStandsOver}
 use Rattle.agree_relation.specs.Agrees.{ReadAs, Agrees}
-use Rattle.agree_statements.specs.Statements.{BeginsAt}
+use Rattle.agree_statements.specs.Statements.{BeginsBlock}
 use Rattle.agree_relation.proofs.Objects.{objects_laid}
-use Rattle.agree_events.specs.Turns.{InPlanBody, IsPlanTurn, IsTop, IsTurn}
+use Rattle.agree_events.specs.Turns.{InPlanBody, IsPlanTurn, IsTopFrame, IsTurn}
 use Rattle.agree_events.proofs.Events.{next_event}
 use Rattle.agree_events.proofs.Steps.{low_itself}
 use Rattle.agree_events.proofs.Left.{AreLeft}
@@ -57,16 +57,16 @@ no_call fb p path course c e = ap (λ (o : Owner). open_count (InBody (owned_by 
     by Deletes = refl
 
 -- the frames of a plan whose body is on top
-frames_in_plan : (w : World) (at : Numbers) (g : Heap) (fb : PathRunning) (p : Planned) (path : List PathFrame) (gs : List Going) (bs : List Frame) (course : Course) (c : ClassId) → fb.owner ≡ plan_owner course c → StandOver w at g None (InBody fb ∷ InPlan p ∷ path) gs bs → StandInPlan w at g (Some fb) p path gs bs (StandOver w at g None path)
-frames_in_plan w at g fb p path gs bs course c owner stand = by course (subst (λ (o : Owner). BodyStands w at g fb o (InPlan p ∷ path) (StandOver w at g None (InPlan p ∷ path)) (StandOver w at g (Some fb) (InPlan p ∷ path)) gs bs) owner stand)
+frames_in_plan : (w : World) (at : PlaceNumbers) (g : Heap) (fb : PathRunning) (p : Planned) (path : List PathFrame) (gs : List Going) (bs : List MachineFrame) (course : Course) (c : ClassId) → fb.owner ≡ plan_owner course c → StandOver w at g None (InBody fb ∷ InPlan p ∷ path) gs bs → StandInPlan w at g (Some fb) p path gs bs (StandOver w at g None path)
+frames_in_plan w at g fb p path gs bs course c owner stand = by course (subst (λ (o : Owner). BodyStandsOver w at g fb o (InPlan p ∷ path) (StandOver w at g None (InPlan p ∷ path)) (StandOver w at g (Some fb) (InPlan p ∷ path)) gs bs) owner stand)
   where
-    by : (course : Course) → BodyStands w at g fb (plan_owner course c) (InPlan p ∷ path) (StandOver w at g None (InPlan p ∷ path)) (StandOver w at g (Some fb) (InPlan p ∷ path)) gs bs → StandInPlan w at g (Some fb) p path gs bs (StandOver w at g None path)
+    by : (course : Course) → BodyStandsOver w at g fb (plan_owner course c) (InPlan p ∷ path) (StandOver w at g None (InPlan p ∷ path)) (StandOver w at g (Some fb) (InPlan p ∷ path)) gs bs → StandInPlan w at g (Some fb) p path gs bs (StandOver w at g None path)
     by Constructs x = x
     by Destroys x = x
     by Deletes x = x
 
-body_top : (w : World) (at : Numbers) (g : Heap) (fb : PathRunning) (p : Planned) (path : List PathFrame) (under : List Going → List Frame → Type 0) (gs : List Going) (b : Frame) (bs : List Frame) (rest : List Going) → (runs : RunsBody w at g fb gs b rest) → (tail : List Going) → tail ≡ runs.more ++ rest
-    → ((IsInner b × WaitInPlan w at g p path rest bs under) ⊎ (IsOuter w g p runs.first path b × under rest bs)) → IsTop w at g p path under (at_left runs.first []) tail b bs
+body_top : (w : World) (at : PlaceNumbers) (g : Heap) (fb : PathRunning) (p : Planned) (path : List PathFrame) (under : List Going → List MachineFrame → Type 0) (gs : List Going) (b : MachineFrame) (bs : List MachineFrame) (rest : List Going) → (runs : RunsBody w at g fb gs b rest) → (tail : List Going) → tail ≡ runs.more ++ rest
+    → ((IsInner b × WaitInPlan w at g p path rest bs under) ⊎ (IsOuter w g p runs.first path b × under rest bs)) → IsTopFrame w at g p path under (at_left runs.first []) tail b bs
 body_top w at g fb p path under gs b bs rest runs tail is kind = record {
   more = runs.more;
   rest = rest;
@@ -76,7 +76,7 @@ body_top w at g fb p path under gs b bs rest runs tail is kind = record {
   kind = ⊎_elim (λ i. inl i) (λ o. inr (record { is_call = o.0.is_call; again = o.0.again; class = o.0.class; made = o.0.made; part = o.0.part; keeps = o.0.keeps }, o.1)) kind;
 }
 
-pub in_plan_body : (w : World) (at : Numbers) → IsWorld w → (s : State) (fb : PathRunning) (p : Planned) (path : List PathFrame) → s.frames ≡ InBody fb ∷ InPlan p ∷ path → (course : Course) (c : ClassId) → fb.owner ≡ plan_owner course c → (r : Running) (begins : BeginsAt w at s r) → InPlanBody w at s fb p path r begins
+pub in_plan_body : (w : World) (at : PlaceNumbers) → IsProgramWorld w → (s : ProgramState) (fb : PathRunning) (p : Planned) (path : List PathFrame) → s.frames ≡ InBody fb ∷ InPlan p ∷ path → (course : Course) (c : ClassId) → fb.owner ≡ plan_owner course c → (r : Running) (begins : BeginsBlock w at s r) → InPlanBody w at s fb p path r begins
 in_plan_body w at world s fb p path frames_are course c owner r begins =
     let stands = begins.stands in
     let g = heap_of s.objects.classes r.memory.regions in
@@ -107,26 +107,26 @@ in_plan_body w at world s fb p path frames_are course c owner r begins =
       events = cc (left_are);
       course = courses.0;
       courses = courses.1;
-      top = subst (λ (b : Frame). IsTop w at g p path under (at_left f []) below b r.below) (sym begins.stepped) stepped;
+      top = subst (λ (b : MachineFrame). IsTopFrame w at g p path under (at_left f []) below b r.below) (sym begins.stepped) stepped;
     }
 
 -- the end of a constructor's body is the turn of its last event
-pub constructor_turn : (w : World) (at : Numbers) → IsWorld w → (s : State) (fb : PathRunning) (p : Planned) (path : List PathFrame) → s.frames ≡ InBody fb ∷ InPlan p ∷ path → (c : ClassId) → fb.owner ≡ Constructor c → (r : Running) (begins : BeginsAt w at s r)
-    → (inside : InPlanBody w at s fb p path r begins) → (e : Event) (es : List Event) → p.events ≡ e ∷ es → Fits (classes_in w) s.objects.phases e → s.objects.is_closed (part_of e).object ≡ false
-    → (inside.f.course ≡ Constructs) × (IsTurn w at s p path inside.f AtDone [] inside.others inside.lower r) × (p.events ≡ event_of AtDone inside.f.part ∷ events_left w (opened w inside.f [] inside.others))
+pub constructor_turn : (w : World) (at : PlaceNumbers) → IsProgramWorld w → (s : ProgramState) (fb : PathRunning) (p : Planned) (path : List PathFrame) → s.frames ≡ InBody fb ∷ InPlan p ∷ path → (c : ClassId) → fb.owner ≡ Constructor c → (r : Running) (begins : BeginsBlock w at s r)
+    → (inside : InPlanBody w at s fb p path r begins) → (e : PartEvent) (es : List PartEvent) → p.events ≡ e ∷ es → Fits (world_classes w) s.objects.phases e → s.objects.is_closed (part_of e).object ≡ false
+    → (inside.f.course ≡ Constructs) × (IsTurn w at s p path inside.f AtDone [] inside.others inside.lower r) × (p.events ≡ event_of AtDone inside.f.part ∷ events_left w (opened_goings w inside.f [] inside.others))
 constructor_turn w at world s fb p path frames_are c owner r begins inside e es events fits is_open =
     let stands = begins.stands in
     let f = inside.f in
     let course : f.course ≡ Constructs = constructs f.course f.class c (sym inside.owner ∙ owner) in
     let left : inside.left ≡ Does AtDone ∷ [] = constructor_left w.setup f.form f.class inside.left (subst (λ k. IsEnd w.setup k f.form f.class (Does AtBody ∷ inside.left)) course inside.planned.going.0.ends) in
-    let left_are = inside.events ∙ (ap (λ (xs : List Item). events_left w (opened w f xs inside.others)) left ∙ next_event w world.hierarchy f AtDone [] inside.others) in
-    let event : e ≡ event_of AtDone f.part = let same : e ∷ es ≡ event_of AtDone f.part ∷ events_left w (opened w f [] inside.others) = sym events ∙ left_are in cc (same) in
+    let left_are = inside.events ∙ (ap (λ (xs : List Item). events_left w (opened_goings w f xs inside.others)) left ∙ next_event w world.hierarchy f AtDone [] inside.others) in
+    let event : e ≡ event_of AtDone f.part = let same : e ∷ es ≡ event_of AtDone f.part ∷ events_left w (opened_goings w f [] inside.others) = sym events ∙ left_are in cc (same) in
     let planned = planned_body w world.hierarchy s.objects.classes s.objects.phases f inside.left (inside.others ++ inside.lower) inside.planned in (
       course,
       record {
-        planned = subst (λ (xs : List Item). ArePlanned w s.objects.classes s.objects.phases (opened w f xs (inside.others ++ inside.lower))) left planned;
-        fits = subst (λ (x : Event). Fits (classes_in w) s.objects.phases x) event fits;
-        is_open = ap (λ (x : Event). s.objects.is_closed (part_of x).object) (sym event) ∙ is_open;
+        planned = subst (λ (xs : List Item). ArePlanned w s.objects.classes s.objects.phases (opened_goings w f xs (inside.others ++ inside.lower))) left planned;
+        fits = subst (λ (x : PartEvent). Fits (world_classes w) s.objects.phases x) event fits;
+        is_open = ap (λ (x : PartEvent). s.objects.is_closed (part_of x).object) (sym event) ∙ is_open;
         columns = stands.columns;
         globals = stands.globals;
         calls = stands.frames.calls ∙ (ap open_count frames_are ∙ no_call fb p path Constructs c owner);
@@ -139,18 +139,18 @@ constructor_turn w at world s fb p path frames_are c owner r begins inside e es 
       left_are,
     )
 
-pub constructor_closes : (w : World) (at : Numbers) → IsWorld w → (s : State) (fb : PathRunning) (p : Planned) (path : List PathFrame) → s.frames ≡ InBody fb ∷ InPlan p ∷ path → (c : ClassId) → fb.owner ≡ Constructor c → (r : Running) (begins : BeginsAt w at s r)
-    → (inside : InPlanBody w at s fb p path r begins) → (e : Event) (es : List Event) → p.events ≡ e ∷ es → Fits (classes_in w) s.objects.phases e → s.objects.is_closed (part_of e).object ≡ false
-    → (s' : State) (told : List Out) → event_step w.setup.program s p path p.events ≡ Goes s' told → (inside.f.course ≡ Constructs) × IsPlanTurn w at s p path inside.f AtDone [] inside.others inside.lower r s' told
+pub constructor_closes : (w : World) (at : PlaceNumbers) → IsProgramWorld w → (s : ProgramState) (fb : PathRunning) (p : Planned) (path : List PathFrame) → s.frames ≡ InBody fb ∷ InPlan p ∷ path → (c : ClassId) → fb.owner ≡ Constructor c → (r : Running) (begins : BeginsBlock w at s r)
+    → (inside : InPlanBody w at s fb p path r begins) → (e : PartEvent) (es : List PartEvent) → p.events ≡ e ∷ es → Fits (world_classes w) s.objects.phases e → s.objects.is_closed (part_of e).object ≡ false
+    → (s' : ProgramState) (told : List Out) → event_step w.setup.program s p path p.events ≡ Goes s' told → (inside.f.course ≡ Constructs) × IsPlanTurn w at s p path inside.f AtDone [] inside.others inside.lower r s' told
 constructor_closes w at world s fb p path frames_are c owner r begins inside e es events fits is_open s' told step =
     let f = inside.f in
     let turn = constructor_turn w at world s fb p path frames_are c owner r begins inside e es events fits is_open in
-    let es = events_left w (opened w f [] inside.others) in
+    let es = events_left w (opened_goings w f [] inside.others) in
     let next : event_step w.setup.program s p path (event_of AtDone f.part ∷ es) ≡ Goes s' told = ap (event_step w.setup.program s p path) (sym turn.2) ∙ step in
     (turn.0, turn_of w at world s p path f AtDone [] inside.others inside.lower r turn.1 es refl s' told next)
 
 -- a destructor's body goes on to the members of its part
-destructor_tail : (w : World) (at : Numbers) → IsWorld w → (s : State) (fb : PathRunning) (p : Planned) (path : List PathFrame) → s.frames ≡ InBody fb ∷ InPlan p ∷ path → (r : Running) (begins : BeginsAt w at s r) → (inside : InPlanBody w at s fb p path r begins)
+destructor_tail : (w : World) (at : PlaceNumbers) → IsProgramWorld w → (s : ProgramState) (fb : PathRunning) (p : Planned) (path : List PathFrame) → s.frames ≡ InBody fb ∷ InPlan p ∷ path → (r : Running) (begins : BeginsBlock w at s r) → (inside : InPlanBody w at s fb p path r begins)
     → LeadsBlock (fixed w) (plan_tail w.setup at inside.f.course inside.f.form inside.f.class inside.left) r (Agrees w at (Moves (with_frames s (InPlan p ∷ path)) []))
 destructor_tail w at world s fb p path frames_are r begins inside =
     let stands = begins.stands in
@@ -171,9 +171,9 @@ destructor_tail w at world s fb p path frames_are r begins inside =
         columns = stands.columns;
         globals = stands.globals;
         frames = record {
-          goings = opened w f left below;
+          goings = opened_goings w f left below;
           planned = planned_body w world.hierarchy s.objects.classes s.objects.phases f left below inside.planned;
-          frames = (record { own = opened w f left inside.others; lower = inside.lower; is = opened_more w f left inside.others inside.lower; events_are = inside.events; course = opened_of w f p.is_building left inside.others inside.course inside.courses }, wait);
+          frames = (record { own = opened_goings w f left inside.others; lower = inside.lower; is = opened_more w f left inside.others inside.lower; events_are = inside.events; course = opened_of w f p.is_building left inside.others inside.course inside.courses }, wait);
           calls = stands.frames.calls ∙ (ap open_count frames_are ∙ no_call fb p path f.course f.class inside.owner);
         };
       },
@@ -182,7 +182,7 @@ destructor_tail w at world s fb p path frames_are r begins inside =
     ))
     (λ last frame o rest. absurd (subst (λ (xs : List Item). AreLeft w.setup f.course f.form f.class false xs) last behind))
 
-pub destructor_closes : (w : World) (at : Numbers) → IsWorld w → (s : State) (fb : PathRunning) (p : Planned) (path : List PathFrame) → s.frames ≡ InBody fb ∷ InPlan p ∷ path → (c : ClassId) → fb.owner ≡ Destructor c → (r : Running) (begins : BeginsAt w at s r) → (inside : InPlanBody w at s fb p path r begins)
+pub destructor_closes : (w : World) (at : PlaceNumbers) → IsProgramWorld w → (s : ProgramState) (fb : PathRunning) (p : Planned) (path : List PathFrame) → s.frames ≡ InBody fb ∷ InPlan p ∷ path → (c : ClassId) → fb.owner ≡ Destructor c → (r : Running) (begins : BeginsBlock w at s r) → (inside : InPlanBody w at s fb p path r begins)
     → LeadsBlock (fixed w) (closing_ops w.setup at (PlanCode inside.f.course inside.f.form inside.f.class)) r (Agrees w at (Moves (with_frames s (InPlan p ∷ path)) []))
 destructor_closes w at world s fb p path frames_are c owner r begins inside =
     by inside.f.course (sym inside.owner ∙ owner) inside.planned.going.0.ends (destructor_tail w at world s fb p path frames_are r begins inside)

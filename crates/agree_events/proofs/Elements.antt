@@ -8,7 +8,7 @@ use Rattle.path_plan.specs.Places.{element}
 use Rattle.path_plan.specs.Plans.{upto, backwards, count_from}
 use Rattle.path_plan.proofs.Members.{count_last}
 use Rattle.agree_parts.specs.Heaps.{Heap}
-use Rattle.agree_parts.specs.Placed.{IsLaid}
+use Rattle.agree_parts.specs.Placed.{AreObjectsLaid}
 use Rattle.agree_parts.proofs.Made.{element_is_made}
 use Rattle.agree_parts.proofs.Sums.{to_element}
 use Rattle.agree_parts.proofs.Inside.{part_limit}
@@ -17,7 +17,7 @@ use Rattle.code_blocks.specs.Blocks.{stride_of}
 use Rattle.code_blocks.specs.Items.{indices, first_index}
 use Rattle.code_blocks.specs.declared.items.Way.{Way}
 use Rattle.code_blocks.specs.declared.items.Way.TheVariants.{Forwards, Backwards}
-use Rattle.agree_relation.specs.Worlds.{World, classes_in, places_in}
+use Rattle.agree_relation.specs.Worlds.{World, world_classes, places_in}
 use Rattle.agree_relation.specs.Goings.{Going, element_going}
 use Rattle.agree_relation.specs.Frames.{AreElements}
 use Rattle.agree_relation.proofs.Moved.{moved_to_part}
@@ -45,14 +45,14 @@ moved_back : (a s b : ℕ) → b + s ≡ a → a < 2 ^ 41 → moved a (2 ^ 64 - 
 moved_back a s b sum small = omega arith
 
 -- the next element up, and the next one down
-module _ (w : World) (g : Heap) (laid : IsLaid (classes_in w) w.setup.rows g) (f : Going) (m : ℕ) (d : ClassId) (made : Made w g f.part f.class) where
+module _ (w : World) (g : Heap) (laid : AreObjectsLaid (world_classes w) w.setup.rows g) (f : Going) (m : ℕ) (d : ClassId) (made : Made w g f.part f.class) where
   abbrev IsOne : ℕ → Type 0
-  IsOne i = IsElement (classes_in w) f.class m i (Object d)
+  IsOne i = IsElement (world_classes w) f.class m i (Object d)
 
   one_up : (i : ℕ) → IsOne i → IsOne (suc i) → at_part w g (element f.part m (suc i) d) ≡ at_part w g (element f.part m i d) + (places_in w).size d
   one_up i here there =
-      let a = to_element (classes_in w) w.setup.rows g f.part f.class d m i made here in
-      let b = to_element (classes_in w) w.setup.rows g f.part f.class d m (suc i) made there in
+      let a = to_element (world_classes w) w.setup.rows g f.part f.class d m i made here in
+      let b = to_element (world_classes w) w.setup.rows g f.part f.class d m (suc i) made there in
       omega arith
 
   forwards : (n i : ℕ) → ((j : ℕ) → Has (i ∷ count_from (suc i) n) j → IsOne j) → AreElements w g (element_going w f m d i) n ((places_in w).size d) (map (element_going w f m d) (count_from (suc i) n))
@@ -62,7 +62,7 @@ module _ (w : World) (g : Heap) (laid : IsLaid (classes_in w) w.setup.rows g) (f
       let there = each (suc i) (inr (inl refl)) in (
         refl,
         refl,
-        sym (moved_to_part (classes_in w) w.setup.rows g (at_part w g (element f.part m i d)) ((places_in w).size d) (element f.part m (suc i) d) d laid (element_is_made (classes_in w) g f.part f.class d m (suc i) made there) (one_up i here there)),
+        sym (moved_to_part (world_classes w) w.setup.rows g (at_part w g (element f.part m i d)) ((places_in w).size d) (element f.part m (suc i) d) d laid (element_is_made (world_classes w) g f.part f.class d m (suc i) made there) (one_up i here there)),
         forwards n (suc i) (λ j has. each j (inr has)),
       )
 
@@ -72,7 +72,7 @@ module _ (w : World) (g : Heap) (laid : IsLaid (classes_in w) w.setup.rows g) (f
       (let each' = subst (λ (is : List ℕ). (j : ℕ) → Has (suc n ∷ is) j → IsOne j) (backwards_next n) each in
       let here = each' (suc n) (inl refl) in
       let there = each' n (inr (inl refl)) in
-      let limit = part_limit (classes_in w) w.setup.rows g (element f.part m (suc n) d) d laid (element_is_made (classes_in w) g f.part f.class d m (suc n) made here) in (
+      let limit = part_limit (world_classes w) w.setup.rows g (element f.part m (suc n) d) d laid (element_is_made (world_classes w) g f.part f.class d m (suc n) made here) in (
         refl,
         refl,
         sym (moved_back (at_part w g (element f.part m (suc n) d)) ((places_in w).size d) (at_part w g (element f.part m n d)) (sym (one_up n there here)) limit),

@@ -7,7 +7,7 @@ use Rattle.foundation.proofs.Members.{has_from_contains, contains_from_has, inde
 use Rattle.foundation.proofs.Places.{contains_at, contains_later}
 use Rattle.cxx_subobject.specs.Locations.{ObjectPart}
 use Rattle.path_plan.specs.Places.{part}
-use Rattle.path_plan.specs.Phases.{Phase, InBases, ReadyBuilding, Complete, ReadyEnding, EndingBases, Ended, Phases, Event, Begin, Ready, Init, Body, Done, Ending, Bases, End, put, pushed, popped, rest_of, first_of, after, is_running}
+use Rattle.path_plan.specs.Phases.{Phase, InBases, ReadyBuilding, Complete, ReadyEnding, EndingBases, Ended, Phases, PartEvent, Begin, Ready, Init, Body, Done, Ending, Bases, End, put, with_pushed_part, popped, rest_of, top_subobject, phases_after, is_running}
 use Rattle.path_plan.specs.Views.{Fits, IsOnTop}
 use Rattle.path_plan.proofs.Same.{put_same, pushed_other, popped_other, owner_cases, part_owns}
 use Rattle.agree_relation.specs.Goings.{IsInStep}
@@ -17,13 +17,13 @@ abbrev pub phased : Phases → ObjectPart → Phase → Phases
 phased s p v = record { phase = put s.phase p v; running = s.running }
 
 abbrev pub entered : Phases → ObjectPart → Phase → Phases
-entered s p v = record { phase = put s.phase p v; running = pushed s.running p }
+entered s p v = record { phase = put s.phase p v; running = with_pushed_part s.running p }
 
 abbrev pub left_at : Phases → ObjectPart → Phase → Phases
 left_at s p v = record { phase = put s.phase p v; running = popped s.running p }
 
 -- a list with a first element
-pub first_is : (xs : List Subobject) (y : Subobject) → first_of xs ≡ Some y → xs ≡ y ∷ rest_of xs
+pub first_is : (xs : List Subobject) (y : Subobject) → top_subobject xs ≡ Some y → xs ≡ y ∷ rest_of xs
 first_is [] y e = absurd (cc)
 first_is (x ∷ xs) y e = let f : x ≡ y = cc in ap (λ z. z ∷ xs) f
 
@@ -53,7 +53,7 @@ pub not_both : (x : Subobject) (xs : List Subobject) → Once (x ∷ xs) → Con
 not_both x xs once has = let at = index_of xs x (has_from_contains xs x has) in let e : zero ≡ suc at.0 = once zero (suc at.0) x refl at.1 in omega arith
 
 -- what is below the top is not the top
-pub below_top : (xs : List Subobject) (t y : Subobject) → first_of xs ≡ Some t → Once xs → Contains (rest_of xs) y → t ≡ y → ⊥
+pub below_top : (xs : List Subobject) (t y : Subobject) → top_subobject xs ≡ Some t → Once xs → Contains (rest_of xs) y → t ≡ y → ⊥
 below_top [] t y e once has same = absurd (has_from_contains [] y has)
 below_top (x ∷ xs) t y e once has same = not_both x xs once (subst (λ (z : Subobject). Contains xs z) (let f : y ≡ x = cc in f) has)
 
@@ -87,7 +87,7 @@ left_in_step s p v keeps top = record {
   runs = λ k o y has. ⊎_elim
       (λ owns. let more = subst (λ (xs : List Subobject). Contains xs y) (popped_own s.running p k o owns) has in
       put_test_other is_running true s.phase p v (part k o y)
-      (λ same. below_top (s.running k o) p.at y (subst (λ (q : ObjectPart). first_of (s.running q.object q.owner) ≡ Some p.at) (part_is p k o p.at owns refl) top) (keeps.once k o) more (part_at p k o y same))
+      (λ same. below_top (s.running k o) p.at y (subst (λ (q : ObjectPart). top_subobject (s.running q.object q.owner) ≡ Some p.at) (part_is p k o p.at owns refl) top) (keeps.once k o) more (part_at p k o y same))
       (keeps.runs k o y (rest_has (s.running k o) y more)))
       (λ other. let more = subst (λ (xs : List Subobject). Contains xs y) (popped_other s.running p k o other) has in
       put_test_other is_running true s.phase p v (part k o y) (λ same. other (part_owns p k o y same)) (keeps.runs k o y more))
@@ -99,7 +99,7 @@ left_in_step s p v keeps top = record {
 }
 
 -- each event that fits keeps it
-pub event_in_step : (h : Classes) (s : Phases) (e : Event) → IsInStep s → Fits h s e → IsInStep (after s e)
+pub event_in_step : (h : Classes) (s : Phases) (e : PartEvent) → IsInStep s → Fits h s e → IsInStep (phases_after s e)
 event_in_step h s (Begin p) keeps fits = entered_in_step s p InBases keeps (ap is_running fits) refl
 event_in_step h s (Ready p) keeps fits = phased_in_step s p ReadyBuilding keeps refl
 event_in_step h s (Init p m) keeps fits = keeps

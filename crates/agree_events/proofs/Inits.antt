@@ -25,10 +25,10 @@ use Rattle.cxx_program.specs.declared.program.TypedInit.{TypedInit}
 use Rattle.cxx_program.specs.Typed.{HasType, of_variable, of_this, of_number, Converts, to_number, to_same, to_base, IsArgument, a_value, a_null, IsKept, whole, in_bits, no_scope}
 use Rattle.path_model.specs.Outs.{class_or_first}
 use Rattle.path_model.specs.Places.{leaf}
-use Rattle.path_model.specs.States.{body_of, inits_in, init_of, is_init}
+use Rattle.path_model.specs.States.{owned_body, inits_in, member_init, is_init}
 use Rattle.path_model.specs.Steps.{constant, init_value, class_of_part, objects_after, event_outs}
 use Rattle.path_model.specs.TypedStates.{IsValue, IsLeafMade}
-use Rattle.path_model.specs.Values.{Number, Objects, converted}
+use Rattle.path_model.specs.Values.{Number, Objects, converted_to}
 use Rattle.path_model.proofs.TypedBits.{HasRoom, member_room}
 use Rattle.path_model.proofs.TypedRanges.{kept_in_width, width_in_range}
 use Rattle.path_model.proofs.TypedValues.{converted_value}
@@ -37,7 +37,7 @@ use Rattle.byte_code.specs.Numbers.{word_of}
 use Rattle.byte_code.specs.declared.op.NumberKind.TheVariants.{Bytes, Bits}
 use Rattle.byte_code.specs.declared.op.Op.{Op}
 use Rattle.byte_machine.specs.Running.{Fixed, Running, Stop, moved, register, with_register}
-use Rattle.byte_machine.specs.Leads.{Leads}
+use Rattle.byte_machine.specs.Leads.{OpsLead}
 use Rattle.byte_machine.specs.Values.{converted_word}
 use Rattle.byte_machine.proofs.Registers.{register_same, register_other, registers_kept}
 use Rattle.byte_machine.proofs.ValueLeads.{leads_const, leads_convert, leads_move}
@@ -51,19 +51,19 @@ use Rattle.code_blocks.specs.Items.{Item, event_of}
 use Rattle.code_blocks.specs.declared.items.Kind.TheVariants.{AtInit}
 use Rattle.code_ops.specs.Operands.{operand_ops, converted_ops, ops_of}
 use Rattle.code_ops.specs.Leaves.{leaf_width, store_op}
-use Rattle.code_ops.specs.Setups.{PlanCode, body_in, free_register, number_kind, bit_width, word_width}
-use Rattle.agree_relation.specs.Worlds.{World, IsWorld, classes_in, places_in, fixed}
+use Rattle.code_ops.specs.Setups.{PlanCode, body_of_routine, free_register, number_kind, bit_width, word_width}
+use Rattle.agree_relation.specs.Worlds.{World, IsProgramWorld, world_classes, places_in, fixed}
 use Rattle.agree_relation.specs.Words.{heap_of, register_word, word_of_value}
 use Rattle.agree_relation.specs.Columns.{ColumnsStand}
 use Rattle.agree_relation.specs.Goings.{Going}
-use Rattle.agree_relation.specs.Frames.{Numbers}
+use Rattle.agree_relation.specs.Frames.{PlaceNumbers}
 use Rattle.agree_relation.proofs.LeafStores.{init_stored}
 use Rattle.agree_relation.proofs.LeafWidths.{MayHaveWidth, width_span, IsReached, element_width, leaf_stands, leads_store_leaf}
 use Rattle.agree_relation.proofs.StoredBits.{store_span}
 use Rattle.agree_relation.proofs.Moved.{moved_below}
 use Rattle.agree_relation.proofs.Objects.{objects_laid}
 use Rattle.agree_statements.proofs.Numbers.{number_converted, number_kept}
-use Rattle.agree_events.specs.Events.{IsEvent, Rest, Runs, complete_of}
+use Rattle.agree_events.specs.Events.{IsOwnEvent, Rest, RunsGoing, complete_of}
 use Rattle.agree_events.proofs.Noted.{at_part}
 use Rattle.agree_events.proofs.Planned.{at_next}
 use Rattle.agree_events.proofs.Steps.{tells_nothing}
@@ -111,13 +111,13 @@ constant_word (NumberOperand z) ToNull = 0
 constant_word (NumberOperand z) ToSame = word_of z
 constant_word (NumberOperand z) (ToBase i) = 0
 
-constant_register : (w : World) (g : Heap) (h : Classes) (o : TypedOperand) (x : Conversion) (t : ValueType ClassId) → IsConstant h o x t → register_word w g (converted (constant o) x) ≡ Some (constant_word o x)
+constant_register : (w : World) (g : Heap) (h : Classes) (o : TypedOperand) (x : Conversion) (t : ValueType ClassId) → IsConstant h o x t → register_word w g (converted_to (constant o) x) ≡ Some (constant_word o x)
 constant_register w g h _ _ _ (by_number z s u range) = refl
 constant_register w g h _ _ _ (by_bits z s u n low high range) = refl
 constant_register w g h _ _ _ (by_itself z s range) = refl
 constant_register w g h _ _ _ (by_null d) = refl
 
-constant_value : (h : Classes) (classes : List ClassId) (o : TypedOperand) (x : Conversion) (t : ValueType ClassId) → IsConstant h o x t → IsValue h classes (converted (constant o) x) t
+constant_value : (h : Classes) (classes : List ClassId) (o : TypedOperand) (x : Conversion) (t : ValueType ClassId) → IsConstant h o x t → IsValue h classes (converted_to (constant o) x) t
 constant_value h classes _ _ _ (by_number z s u range) = converted_value h classes (NumberType s) (NumberType u) (ToNumber u) (to_number s u) (Number z) range
 constant_value h classes _ _ _ (by_bits z s u n low high range) = width_in_range u n (kept_in u n z) high (kept_in_width u n z)
 constant_value h classes _ _ _ (by_itself z s range) = range
@@ -139,10 +139,10 @@ set_twice (z ∷ xs) zero x y = refl
 set_twice (z ∷ xs) (suc n) x y = ap (λ (l : List (Option ℕ)). z ∷ l) (set_twice xs n x y)
 
 leads_constant : (f : Fixed) (w : World) (h : Classes) (s : Running) (from to : ℕ) (o : TypedOperand) (x : Conversion) (t : ValueType ClassId) (rest : List Op) (P : Running → Stop → Type 0) → IsConstant h o x t → from < length s.top.registers → to < length s.top.registers
-    → Leads f rest (constant_in s from to (first_word o) (constant_word o x)) P → Leads f (operand_ops from o ++ (ops_of (converted_ops w.setup None x to from) ++ rest)) s P
+    → OpsLead f rest (constant_in s from to (first_word o) (constant_word o x)) P → OpsLead f (operand_ops from o ++ (ops_of (converted_ops w.setup None x to from) ++ rest)) s P
 leads_constant f w h s from to _ _ _ rest P (by_number z a u range) low high go = leads_const f from (word_of z) low
     (leads_convert f {s = with_register s from (Some (word_of z))} to from (number_kind u) (word_of z) (register_same s from (Some (word_of z)) low) (subst (λ n. to < n) (sym (registers_kept s from (Some (word_of z)))) high)
-    (subst (λ k. Leads f rest (constant_in s from to (word_of z) k) P) (sym (number_converted a u z range)) go))
+    (subst (λ k. OpsLead f rest (constant_in s from to (word_of z) k) P) (sym (number_converted a u z range)) go))
 leads_constant f w h s from to _ _ _ rest P (by_bits z a u n some few range) low high go =
     let first = with_register s from (Some (word_of z)) in
     let word = converted_word (number_kind u) (word_of z) in
@@ -151,11 +151,11 @@ leads_constant f w h s from to _ _ _ rest P (by_bits z a u n some few range) low
     leads_const f from (word_of z) low
     (leads_convert f {s = first} to from (number_kind u) (word_of z) (register_same s from (Some (word_of z)) low) inside
     (leads_convert f {s = with_register first to (Some word)} to to (Bits (bit_width u n)) word (register_same first to (Some word) inside) (subst (λ k. to < k) (sym (registers_kept first to (Some word))) inside)
-    (subst (λ (r : List (Option ℕ)). Leads f rest (record s { top = record s.top { registers = r } }) P) (sym (set_twice first.top.registers to (Some word) (Some (converted_word (Bits (bit_width u n)) word))))
-    (subst (λ k. Leads f rest (constant_in s from to (word_of z) k) P) (sym (number_kept a u n z some (omega arith) range)) go))))
+    (subst (λ (r : List (Option ℕ)). OpsLead f rest (record s { top = record s.top { registers = r } }) P) (sym (set_twice first.top.registers to (Some word) (Some (converted_word (Bits (bit_width u n)) word))))
+    (subst (λ k. OpsLead f rest (constant_in s from to (word_of z) k) P) (sym (number_kept a u n z some (omega arith) range)) go))))
 leads_constant f w h s from to _ _ _ rest P (by_itself z a range) low high go = leads_const f from (word_of z) low
     (leads_move f {s = with_register s from (Some (word_of z))} to from (subst (λ n. to < n) (sym (registers_kept s from (Some (word_of z)))) high)
-    (subst (λ (k : Option ℕ). Leads f rest (with_register (with_register s from (Some (word_of z))) to k) P) (sym (register_same s from (Some (word_of z)) low)) go))
+    (subst (λ (k : Option ℕ). OpsLead f rest (with_register (with_register s from (Some (word_of z))) to k) P) (sym (register_same s from (Some (word_of z)) low)) go))
 leads_constant f w h s from to _ _ _ rest P (by_null d) low high go = leads_const f from (word_of (pos 0)) low
     (leads_convert f {s = with_register s from (Some (word_of (pos 0)))} to from (Bytes word_width) (word_of (pos 0)) (register_same s from (Some (word_of (pos 0))) low) (subst (λ n. to < n) (sym (registers_kept s from (Some (word_of (pos 0))))) high) go)
 
@@ -175,15 +175,15 @@ leaf_element h c m t e = by_member (slice_get (members_of h c) m) refl e
 -- an initializer of a class that is found for a member
 pub record IsInit (w : World) (c : ClassId) (m : ℕ) (init : TypedInit) : Type 0 where
   pub type : ValueType ClassId
-  pub of_member : leaf_type (classes_in w) c m ≡ Some type
-  pub constant : IsConstant (classes_in w) init.operand init.conversion type
+  pub of_member : leaf_type (world_classes w) c m ≡ Some type
+  pub constant : IsConstant (world_classes w) init.operand init.conversion type
 
-init_there : (w : World) → IsWorld w → (c : ClassId) (m : ℕ) (init : TypedInit) → init_of w.setup.program c m ≡ Some init → IsInit w c m init
+init_there : (w : World) → IsProgramWorld w → (c : ClassId) (m : ℕ) (init : TypedInit) → member_init w.setup.program c m ≡ Some init → IsInit w c m init
 init_there w world c m init e =
-    let h = classes_in w in
+    let h = world_classes w in
     let program = w.setup.program in
-    let p = find_passes (λ (x : TypedInit). nat_eq x.member m) (inits_in (body_of program (Constructor c))) init e in
-    let is = inits_of h program world.typed c (body_of program (Constructor c)) refl init p.0 in
+    let p = find_passes (λ (x : TypedInit). nat_eq x.member m) (inits_in (owned_body program (Constructor c))) init e in
+    let is = inits_of h program world.typed c (owned_body program (Constructor c)) refl init p.0 in
     let element = leaf_element h c init.member is.type is.of_member in
     record {
       type = is.type;
@@ -192,12 +192,12 @@ init_there w world c m init e =
     }
 
 -- the store
-init_store : (w : World) (at : Numbers) → IsWorld w → (s : Objects) (f : Going) (m : ℕ) (left : List Item) (below : List Going) → (event : IsEvent w s.classes s.phases f (AtInit m) left below) → (r : Running) (rest : List Op) (P : Running → Stop → Type 0) → s.is_closed f.part.object ≡ false
-    → Runs w (heap_of s.classes r.memory.regions) f below (complete_of event) r.top → ColumnsStand w s r.memory r.objects r.heap r.notes
-    → (init : TypedInit) → init_of w.setup.program f.class m ≡ Some init
-    → Rest w at f (objects_after w.setup.program s (event_of (AtInit m) f.part)) r [] rest P → Leads (fixed w) (init_then w.setup f.course f.form f.class m (Some init) rest) r P
+init_store : (w : World) (at : PlaceNumbers) → IsProgramWorld w → (s : Objects) (f : Going) (m : ℕ) (left : List Item) (below : List Going) → (event : IsOwnEvent w s.classes s.phases f (AtInit m) left below) → (r : Running) (rest : List Op) (P : Running → Stop → Type 0) → s.is_closed f.part.object ≡ false
+    → RunsGoing w (heap_of s.classes r.memory.regions) f below (complete_of event) r.top → ColumnsStand w s r.memory r.objects r.heap r.notes
+    → (init : TypedInit) → member_init w.setup.program f.class m ≡ Some init
+    → Rest w at f (objects_after w.setup.program s (event_of (AtInit m) f.part)) r [] rest P → OpsLead (fixed w) (init_then w.setup f.course f.form f.class m (Some init) rest) r P
 init_store w at world s f m left below event r rest P is_open runs columns init e go =
-    let h = classes_in w in
+    let h = world_classes w in
     let l = places_in w in
     let g = heap_of s.classes r.memory.regions in
     let p = f.part in
@@ -207,7 +207,7 @@ init_store w at world s f m left below event r rest P is_open runs columns init 
     let is = init_there w world c m init e in
     let t = is.type in
     let routine = PlanCode f.course f.form c in
-    let body = body_in w.setup routine in
+    let body = body_of_routine w.setup routine in
     let from = free_register body 0 in
     let to = free_register body 1 in
     let enough = world.lowered.registers.routine routine (known_class h w.setup.rows g p c laid going.made, going.course) in
@@ -231,12 +231,12 @@ init_store w at world s f m left below event r rest P is_open runs columns init 
     let this : register new 0 ≡ Some (at_part w g p) = register_other (with_register r from (Some (first_word init.operand))) to 0 (Some word) not_this ∙ (register_other r from 0 (Some (first_word init.operand)) not_first ∙ runs.this) in
     let last : register new to ≡ Some word = register_same (with_register r from (Some (first_word init.operand))) to (Some word) (subst (λ n. to < n) (sym (registers_kept r from (Some (first_word init.operand)))) high) in
     let class : class_of_part p ≡ c = ap class_or_first going.made.of_class in
-    let value : init_value (init_of w.setup.program (class_of_part p) m) ≡ init_value (Some init) = ap (λ (d : ClassId). init_value (init_of w.setup.program d m)) class ∙ ap init_value e in
+    let value : init_value (member_init w.setup.program (class_of_part p) m) ≡ init_value (Some init) = ap (λ (d : ClassId). init_value (member_init w.setup.program d m)) class ∙ ap init_value e in
     let stored = stands.stored (init_value (Some init)) word there (constant_value h s.classes init.operand init.conversion t is.constant) (constant_register w g h init.operand init.conversion t is.constant) in
     let after = init_stored w s r.memory r.objects r.heap r.notes p m t word (width_span stand there) world columns made stands.bits (ap (word_of_value w g (width_span stand there).length) value ∙ stored) in
     leads_constant (fixed w) w h r from to init.operand init.conversion t (store_op stand to 0 (l.member c m) ∷ rest) P is.constant low high
     (leads_store_leaf (fixed w) {s = new} stand to 0 (l.member c m) (at_part w g p) word this last reached
-    (subst (λ n. Leads (fixed w) rest (record new { memory = store_span r.memory (width_span stand n) word }) P) (sym place)
+    (subst (λ n. OpsLead (fixed w) rest (record new { memory = store_span r.memory (width_span stand n) word }) P) (sym place)
     (go new.top.registers (store_span r.memory (width_span stand there) word) r.notes r.outs
     (record {
       size = registers_kept (with_register r from (Some (first_word init.operand))) to (Some word) ∙ registers_kept r from (Some (first_word init.operand));
@@ -244,14 +244,14 @@ init_store w at world s f m left below event r rest P is_open runs columns init 
     })
     (record { columns = after; starts = refl; tells = tells_nothing w at g r.outs }))))
 
-pub init_runs : (w : World) (at : Numbers) → IsWorld w → (s : Objects) (f : Going) (m : ℕ) (left : List Item) (below : List Going) → (event : IsEvent w s.classes s.phases f (AtInit m) left below) → (r : Running) (rest : List Op) (P : Running → Stop → Type 0) → s.is_closed f.part.object ≡ false
-    → Runs w (heap_of s.classes r.memory.regions) f below (complete_of event) r.top → ColumnsStand w s r.memory r.objects r.heap r.notes
-    → Rest w at f (objects_after w.setup.program s (event_of (AtInit m) f.part)) r (event_outs s (event_of (AtInit m) f.part)) rest P → Leads (fixed w) (event_then w.setup f.course f.form f.class (AtInit m) rest) r P
-init_runs w at world s f m left below event r rest P is_open runs columns go = by_init (init_of w.setup.program f.class m) refl
+pub init_runs : (w : World) (at : PlaceNumbers) → IsProgramWorld w → (s : Objects) (f : Going) (m : ℕ) (left : List Item) (below : List Going) → (event : IsOwnEvent w s.classes s.phases f (AtInit m) left below) → (r : Running) (rest : List Op) (P : Running → Stop → Type 0) → s.is_closed f.part.object ≡ false
+    → RunsGoing w (heap_of s.classes r.memory.regions) f below (complete_of event) r.top → ColumnsStand w s r.memory r.objects r.heap r.notes
+    → Rest w at f (objects_after w.setup.program s (event_of (AtInit m) f.part)) r (event_outs s (event_of (AtInit m) f.part)) rest P → OpsLead (fixed w) (event_then w.setup f.course f.form f.class (AtInit m) rest) r P
+init_runs w at world s f m left below event r rest P is_open runs columns go = by_init (member_init w.setup.program f.class m) refl
   where
-    set : is_init (init_of w.setup.program f.class m) ≡ true
+    set : is_init (member_init w.setup.program f.class m) ≡ true
     set = (at_next w world.hierarchy s.classes f (AtInit m) left below event.planned.going.0).fine.set
 
-    by_init : (o : Option TypedInit) → init_of w.setup.program f.class m ≡ o → Leads (fixed w) (init_then w.setup f.course f.form f.class m (init_of w.setup.program f.class m) rest) r P
+    by_init : (o : Option TypedInit) → member_init w.setup.program f.class m ≡ o → OpsLead (fixed w) (init_then w.setup f.course f.form f.class m (member_init w.setup.program f.class m) rest) r P
     by_init None e = absurd (let off : true ≡ false = sym set ∙ ap is_init e in cc (off))
-    by_init (Some init) e = subst (λ (o : Option TypedInit). Leads (fixed w) (init_then w.setup f.course f.form f.class m o rest) r P) (sym e) (init_store w at world s f m left below event r rest P is_open runs columns init e go)
+    by_init (Some init) e = subst (λ (o : Option TypedInit). OpsLead (fixed w) (init_then w.setup f.course f.form f.class m o rest) r P) (sym e) (init_store w at world s f m left below event r rest P is_open runs columns init e go)

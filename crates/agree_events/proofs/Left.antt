@@ -19,9 +19,9 @@ use Rattle.path_plan.specs.Plans.{Bodies, Form, InFull, AsBase, upto, backwards,
 use Rattle.path_plan.specs.Pieces.{Choice}
 use Rattle.path_plan.proofs.Order.{order_virtual}
 use Rattle.path_plan.proofs.Members.{has_count, has_backwards}
-use Rattle.path_model.specs.States.{bodies_of}
+use Rattle.path_model.specs.States.{plan_bodies}
 use Rattle.code_blocks.specs.Blocks.{items}
-use Rattle.code_blocks.specs.Items.{Item, Does, Shares, Inherits, Holds, indices, shared_items, base_items, init_items, body_items, typed_items, member_items}
+use Rattle.code_blocks.specs.Items.{Item, Does, Shares, Inherits, Holds, indices, shared_base_items, base_items, init_items, body_items, typed_items, member_items}
 use Rattle.code_blocks.specs.Lowered.{IsEnd}
 use Rattle.code_blocks.specs.declared.items.Kind.{Kind}
 use Rattle.code_blocks.specs.declared.items.Kind.TheVariants.{AtBegin, AtReady, AtInit, AtBody, AtDone, AtEnding, AtBases, AtEnd}
@@ -30,7 +30,7 @@ use Rattle.code_blocks.specs.declared.items.Way.TheVariants.{Forwards, Backwards
 use Rattle.code_ops.specs.Setups.{Setup}
 use Rattle.code_ops.specs.declared.routines.Course.{Course}
 use Rattle.code_ops.specs.declared.routines.Course.TheVariants.{Constructs, Destroys, Deletes}
-use Rattle.agree_relation.specs.Goings.{starts, stops}
+use Rattle.agree_relation.specs.Goings.{is_first_event, stops}
 
 -- bases stand behind `begin` and behind `bases` alone
 abbrev pub opens_bases : Kind → Bool
@@ -44,7 +44,7 @@ opens_bases AtBases = true
 opens_bases AtEnd = false
 
 abbrev pub bodies_in : Setup → Bodies
-bodies_in x = bodies_of x.program
+bodies_in x = plan_bodies x.program
 
 -- an initializer sets a member that is a number or a pointer
 pub record IsSet (x : Setup) (c : ClassId) (m : ℕ) : Type 0 where
@@ -72,7 +72,7 @@ IsFine x course c AtEnd = Unit {0}
 
 abbrev pub AreLeft : Setup → Course → Form → ClassId → Bool → List Item → Type 0
 AreLeft x course form c bases [] = ⊥
-AreLeft x course form c bases (Does k ∷ left) = (starts k ≡ false) × IsFine x course c k × Choice (stops k) (left ≡ []) (AreLeft x course form c (opens_bases k) left)
+AreLeft x course form c bases (Does k ∷ left) = (is_first_event k ≡ false) × IsFine x course c k × Choice (stops k) (left ≡ []) (AreLeft x course form c (opens_bases k) left)
 AreLeft x course form c bases (Shares v ∷ left) = (bases ≡ true) × (form ≡ InFull) × HasVirtualBase x.h c v × AreLeft x course form c bases left
 AreLeft x course form c bases (Inherits b ∷ left) = (bases ≡ true) × Contains (bases_of x.h c) b × (b.is_virtual ≡ false) × AreLeft x course form c bases left
 AreLeft x course form c bases (Holds way m d n ∷ left) = ((i : ℕ) → Has (indices way n) i → IsElement x.h c m i (Object d)) × AreLeft x course form c bases left
@@ -85,7 +85,7 @@ pub record IsPlan (x : Setup) (course : Course) (form : Form) (c : ClassId) : Ty
   pub first : Kind
   pub left : List Item
   pub is : items x course form c ≡ Does first ∷ left
-  pub begins : starts first ≡ true
+  pub begins : is_first_event first ≡ true
   pub goes : stops first ≡ false
   pub fine : IsFine x course c first
   pub behind : AreLeft x course form c (opens_bases first) left
@@ -95,7 +95,7 @@ shared_left : (x : Setup) (course : Course) (c : ClassId) (order : List ClassId)
 shared_left x course c [] ys each left = left
 shared_left x course c (v ∷ order) ys each left = (refl, refl, each v (inl refl), shared_left x course c order ys (λ u has. each u (inr has)) left)
 
-shared_by : (x : Setup) (course : Course) (form : Form) (c : ClassId) (order : List ClassId) (ys : List Item) → ((v : ClassId) → Has order v → HasVirtualBase x.h c v) → AreLeft x course form c true ys → AreLeft x course form c true (shared_items form order ++ ys)
+shared_by : (x : Setup) (course : Course) (form : Form) (c : ClassId) (order : List ClassId) (ys : List Item) → ((v : ClassId) → Has order v → HasVirtualBase x.h c v) → AreLeft x course form c true ys → AreLeft x course form c true (shared_base_items form order ++ ys)
 shared_by x course AsBase c order ys each left = left
 shared_by x course InFull c order ys each left = shared_left x course c order ys each left
 
@@ -150,7 +150,7 @@ built_plan x keeps form c = let bodies = bodies_in x in record {
 ended_left : (x : Setup) → IsHierarchy x.h → (course : Course) (form : Form) (c : ClassId) → ((bodies_in x).destructor c ≡ true → has_own_body x course c ≡ true)
     → AreLeft x course form c false (body_items ((bodies_in x).destructor c)
     ++ (flat_map (λ m. member_items false Backwards m (slice_get (members_of x.h c) m)) (backwards (upto (length (members_of x.h c))))
-    ++ (Does AtBases ∷ (flat_map base_items (backwards (bases_of x.h c)) ++ (shared_items form (backwards (virtual_order x.h c)) ++ Does AtEnd ∷ [])))))
+    ++ (Does AtBases ∷ (flat_map base_items (backwards (bases_of x.h c)) ++ (shared_base_items form (backwards (virtual_order x.h c)) ++ Does AtEnd ∷ [])))))
 ended_left x keeps course form c own = body_left x course form c ((bodies_in x).destructor c) _ own (members_left x course form c (λ m. false) Backwards (backwards (upto (length (members_of x.h c)))) _ (λ m e. absurd (cc)) (
   refl,
   tt,

@@ -26,9 +26,9 @@ use Rattle.abi_slots.specs.declared.words.GroupName.{GroupName}
 use Rattle.abi_slots.specs.Images.{whole_name}
 use Rattle.abi_slots.proofs.Heads.{dynamic_test}
 use Rattle.abi_slots.proofs.WordPlaces.{partner}
-use Rattle.abi_vtt.specs.Vtts.{has_virtual, is_built_base, built_bases, below, sub_views, shared_views, views}
+use Rattle.abi_vtt.specs.Vtts.{has_vtt, is_built_base, bases_with_tables, extended_by, sub_views, shared_views, views}
 use Rattle.abi_tables.specs.Counts.{group_views}
-use Rattle.abi_tables.specs.Tables.{AreGroups, IsNamed, group_name, names_of, names_to}
+use Rattle.abi_tables.specs.Tables.{AreGroups, IsNamed, group_name, group_names, names_to}
 use Rattle.agree_relation.proofs.Owners.{same_class}
 
 -- a view below another begins with its path
@@ -42,8 +42,8 @@ sub_extends h zero x c s has = absurd has
 sub_extends h (suc n) x c s has = ⊎_elim
     (λ same. record { root = ap (λ (y : Subobject). y.root) (sym same); more = []; path = ap (λ (y : Subobject). y.path) (sym same) ∙ sym (append-nil x.path) })
     (λ rest.
-    let r = from_flat_map (λ (base : Base ClassId). sub_views h n (below x base.class) base.class) (built_bases h c) s rest in
-    let e = sub_extends h n (below x r.0.class) r.0.class s r.2 in
+    let r = from_flat_map (λ (base : Base ClassId). sub_views h n (extended_by x base.class) base.class) (bases_with_tables h c) s rest in
+    let e = sub_extends h n (extended_by x r.0.class) r.0.class s r.2 in
     record { root = e.root; more = r.0.class ∷ e.more; path = e.path ∙ append_assoc x.path (r.0.class ∷ []) e.more }) has
 
 -- bases of different classes
@@ -63,13 +63,13 @@ same_front : (xs : List ClassId) (a b : ClassId) (m k : List ClassId) → (xs ++
 same_front [] a b m k e = cc
 same_front (x ∷ xs) a b m k e = same_front xs a b m k (let f : (xs ++ a ∷ []) ++ m ≡ (xs ++ b ∷ []) ++ k = cc in f)
 
-bases_apart : (h : Classes) (n : ℕ) (x : Subobject) (bs : List (Base ClassId)) → ClassesOnce bs → EachApart (λ (base : Base ClassId). sub_views h n (below x base.class) base.class) bs
+bases_apart : (h : Classes) (n : ℕ) (x : Subobject) (bs : List (Base ClassId)) → ClassesOnce bs → EachApart (λ (base : Base ClassId). sub_views h n (extended_by x base.class) base.class) bs
 bases_apart h n x [] once = tt
 bases_apart h n x (b ∷ bs) once = (
   (λ d has. record {
     none = λ s first second.
-        let e = sub_extends h n (below x b.class) b.class s first in
-        let f = sub_extends h n (below x d.class) d.class s second in
+        let e = sub_extends h n (extended_by x b.class) b.class s first in
+        let f = sub_extends h n (extended_by x d.class) d.class s second in
         once.0 d has (same_front x.path b.class d.class e.more f.more (sym e.path ∙ f.path));
   }),
   bases_apart h n x bs once.1,
@@ -82,11 +82,11 @@ sub_once : (h : Classes) → IsHierarchy h → (n : ℕ) (x : Subobject) (c : Cl
 sub_once h keeps zero x c = tt
 sub_once h keeps (suc n) x c = (
   (λ has.
-      let r = from_flat_map (λ (base : Base ClassId). sub_views h n (below x base.class) base.class) (built_bases h c) x has in
-      let e = sub_extends h n (below x r.0.class) r.0.class x r.2 in
+      let r = from_flat_map (λ (base : Base ClassId). sub_views h n (extended_by x base.class) base.class) (bases_with_tables h c) x has in
+      let e = sub_extends h n (extended_by x r.0.class) r.0.class x r.2 in
       longer x.path r.0.class e.more e.path),
-  once_flat_map (λ (base : Base ClassId). sub_views h n (below x base.class) base.class) (built_bases h c) (λ base has. sub_once h keeps n (below x base.class) base.class)
-      (bases_apart h n x (built_bases h c) (classes_filter (is_built_base h) (bases_of h c) (classes_once (bases_of h c) (keeps.once c)))),
+  once_flat_map (λ (base : Base ClassId). sub_views h n (extended_by x base.class) base.class) (bases_with_tables h c) (λ base has. sub_once h keeps n (extended_by x base.class) base.class)
+      (bases_apart h n x (bases_with_tables h c) (classes_filter (is_built_base h) (bases_of h c) (classes_once (bases_of h c) (keeps.once c)))),
 )
 
 shared_apart : (h : Classes) (vs : List ClassId) → EachOnce vs → EachApart (shared_views h) vs
@@ -104,22 +104,22 @@ shared_apart h (v ∷ vs) once = (
 )
 
 views_once : (h : Classes) → IsHierarchy h → (c : ClassId) → EachOnce (views h c)
-views_once h keeps c = once_append (sub_views h (c.0 + 1) (whole_of c) c) (flat_map (shared_views h) (filter (has_virtual h) (virtual_bases h c))) (sub_once h keeps (c.0 + 1) (whole_of c) c)
-    (once_flat_map (shared_views h) (filter (has_virtual h) (virtual_bases h c)) (λ v has. sub_once h keeps (v.0 + 1) _ v) (shared_apart h (filter (has_virtual h) (virtual_bases h c)) (once_filter (has_virtual h) (virtual_bases h c) (virtual_once h c))))
+views_once h keeps c = once_append (sub_views h (c.0 + 1) (whole_of c) c) (flat_map (shared_views h) (filter (has_vtt h) (virtual_bases h c))) (sub_once h keeps (c.0 + 1) (whole_of c) c)
+    (once_flat_map (shared_views h) (filter (has_vtt h) (virtual_bases h c)) (λ v has. sub_once h keeps (v.0 + 1) _ v) (shared_apart h (filter (has_vtt h) (virtual_bases h c)) (once_filter (has_vtt h) (virtual_bases h c) (virtual_once h c))))
     (record {
       none = λ s first second.
-          let r = from_flat_map (shared_views h) (filter (has_virtual h) (virtual_bases h c)) s second in
+          let r = from_flat_map (shared_views h) (filter (has_vtt h) (virtual_bases h c)) s second in
           let roots : Whole ≡ Shared r.0 = sym (sub_extends h (c.0 + 1) (whole_of c) c s first).root ∙ (sub_extends h (r.0.0 + 1) _ r.0 s r.2).root in
           cc (roots);
     })
 
 group_views_once : (h : Classes) → IsHierarchy h → (c : ClassId) → EachOnce (group_views h c)
-group_views_once h keeps c = split (has_virtual h c) (λ t. EachOnce (if t then views h c else (if is_dynamic h c then whole_of c ∷ [] else []))) (λ e. views_once h keeps c)
+group_views_once h keeps c = split (has_vtt h c) (λ t. EachOnce (if t then views h c else (if is_dynamic h c then whole_of c ∷ [] else []))) (λ e. views_once h keeps c)
     (λ e. split (is_dynamic h c) (λ t. EachOnce (if t then whole_of c ∷ [] else [])) (λ f. ((λ none. none), tt)) (λ f. tt))
 
 -- names
 
-names_once : (h : Classes) → IsHierarchy h → (c : ClassId) → EachOnce (names_of h c)
+names_once : (h : Classes) → IsHierarchy h → (c : ClassId) → EachOnce (group_names h c)
 names_once h keeps c = go (group_views h c) (group_views_once h keeps c)
   where
     go : (xs : List Subobject) → EachOnce xs → EachOnce (map (group_name c) xs)
@@ -131,11 +131,11 @@ below_number h zero name has = absurd has
 below_number h (suc n) name has = ⊎_elim
     (λ first. let r = below_number h n name first in omega arith)
     (λ last. let r = from_map (group_name (record { 0 = n })) (group_views h (record { 0 = n })) name last in let e : n ≡ name.complete.0 = ap (λ (x : GroupName). x.complete.0) r.2 in omega arith)
-    (has_cases (names_to h n) (names_of h (record { 0 = n })) name has)
+    (has_cases (names_to h n) (group_names h (record { 0 = n })) name has)
 
 all_once : (h : Classes) → IsHierarchy h → (n : ℕ) → EachOnce (names_to h n)
 all_once h keeps zero = tt
-all_once h keeps (suc n) = once_append (names_to h n) (names_of h (record { 0 = n })) (all_once h keeps n) (names_once h keeps (record { 0 = n }))
+all_once h keeps (suc n) = once_append (names_to h n) (group_names h (record { 0 = n })) (all_once h keeps n) (names_once h keeps (record { 0 = n }))
     (record {
       none = λ name first last.
           let less = below_number h n name first in
@@ -155,15 +155,15 @@ one_group h l keeps groups are i j a b at there same =
         let r = get_within (names_to h (length h)) k (let less = slice_get_within groups k g e in let size = are.size in omega arith) in
         r.1 ∙ ap (λ (name : GroupName). Some name) (sym (are.each k r.0 g r.1 e).is)
 
-pub has_names : (h : Classes) (n : ℕ) (c : ClassId) (name : GroupName) → c.0 < n → Has (names_of h c) name → Has (names_to h n) name
+pub has_names : (h : Classes) (n : ℕ) (c : ClassId) (name : GroupName) → c.0 < n → Has (group_names h c) name → Has (names_to h n) name
 has_names h zero c name less has = absurd (omega arith)
 has_names h (suc n) c name less has = ⊎_elim
-    (λ same. has_right (names_to h n) (names_of h (record { 0 = n })) name (subst (λ (d : ClassId). Has (names_of h d) name) (same_class c (record { 0 = n }) same) has))
-    (λ differ. has_left (names_to h n) (names_of h (record { 0 = n })) name (has_names h n c name (omega arith) has))
+    (λ same. has_right (names_to h n) (group_names h (record { 0 = n })) name (subst (λ (d : ClassId). Has (group_names h d) name) (same_class c (record { 0 = n }) same) has))
+    (λ differ. has_left (names_to h n) (group_names h (record { 0 = n })) name (has_names h n c name (omega arith) has))
     (decide_number c.0 n)
 
 -- the group of the whole of a dynamic class without virtual bases
-pub whole_group : (h : Classes) (l : Places) → IsHierarchy h → (groups : List Group) → AreGroups h l groups → (c : ClassId) → c.0 < length h → has_virtual h c ≡ false → IsDynamic h c → (i : ℕ) × (group : Group) × (slice_get groups i ≡ Some group) × (group.name ≡ whole_name c)
+pub whole_group : (h : Classes) (l : Places) → IsHierarchy h → (groups : List Group) → AreGroups h l groups → (c : ClassId) → c.0 < length h → has_vtt h c ≡ false → IsDynamic h c → (i : ℕ) × (group : Group) × (slice_get groups i ≡ Some group) × (group.name ≡ whole_name c)
 whole_group h l keeps groups are c known none dynamic =
     let test = dynamic_test h keeps c dynamic in
     let here : Has (group_views h c) (whole_of c) = subst (λ t. Has (if t then views h c else (if is_dynamic h c then whole_of c ∷ [] else [])) (whole_of c)) (sym none) (subst (λ t. Has (if t then whole_of c ∷ [] else []) (whole_of c)) (sym test) (inl refl)) in

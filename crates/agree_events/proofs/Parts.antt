@@ -4,17 +4,17 @@ use Rattle.std.specs.Prelude.{if◌then◌else◌}
 use Rattle.cxx_subobject.specs.declared.Subobject.{Subobject}
 use Rattle.cxx_subobject.specs.Locations.{Step, ObjectPart}
 use Rattle.foundation.proofs.Truth.{split}
-use Rattle.path_plan.specs.Places.{part, same_owner, same_part}
-use Rattle.path_plan.specs.Phases.{Phase, put, pushed, popped, rest_of}
+use Rattle.path_plan.specs.Places.{part, same_complete_object, same_part}
+use Rattle.path_plan.specs.Phases.{Phase, put, with_pushed_part, popped, rest_of}
 use Rattle.path_plan.proofs.Same.{Owns, owner_itself, put_other}
 
 pub owns_itself : (p : ObjectPart) → Owns p p.object p.owner
 owns_itself p = record { object = refl; owner = refl }
 
-owned : (p : ObjectPart) (k : ℕ) (o : List Step) → Owns p k o → same_owner p.object p.owner k o ≡ true
+owned : (p : ObjectPart) (k : ℕ) (o : List Step) → Owns p k o → same_complete_object p.object p.owner k o ≡ true
 owned p k o owns = cc (owner_itself p.object p.owner, owns.object, owns.owner)
 
-pub pushed_own : (running : ℕ → List Step → List Subobject) (p : ObjectPart) (k : ℕ) (o : List Step) → Owns p k o → pushed running p k o ≡ p.at ∷ running k o
+pub pushed_own : (running : ℕ → List Step → List Subobject) (p : ObjectPart) (k : ℕ) (o : List Step) → Owns p k o → with_pushed_part running p k o ≡ p.at ∷ running k o
 pushed_own running p k o owns = rw (owned p k o owns) refl
 
 pub popped_own : (running : ℕ → List Step → List Subobject) (p : ObjectPart) (k : ℕ) (o : List Step) → Owns p k o → popped running p k o ≡ rest_of (running k o)

@@ -4,31 +4,31 @@ use Rattle.std.specs.Prelude.{slice_get, if◌then◌else◌}
 use Rattle.cxx_hierarchy.specs.declared.records.ClassId.{ClassId}
 use Rattle.cxx_subobject.specs.Locations.{ObjectPart}
 use Rattle.cxx_program.specs.declared.program.TypedProgram.{TypedProgram}
-use Rattle.path_plan.specs.Phases.{Event, part_of}
+use Rattle.path_plan.specs.Phases.{PartEvent, part_of}
 use Rattle.path_plan.specs.Plans.{Form}
 use Rattle.path_plan.specs.Views.{Fits}
 use Rattle.path_model.specs.declared.outs.Out.{Out}
-use Rattle.path_model.specs.States.{State, Planned, Frame as PathFrame, InPlan, with_objects}
+use Rattle.path_model.specs.States.{ProgramState, Planned, Frame as PathFrame, InPlan, with_objects}
 use Rattle.path_model.specs.Effects.{Goes}
 use Rattle.path_model.specs.Steps.{objects_after, event_outs, resumed, event_step}
 use Rattle.path_model.specs.Runs.{open_count}
 use Rattle.code_blocks.specs.Blocks.{AtEvent, next_place, event_block}
 use Rattle.code_blocks.specs.Items.{Item, Does, event_of}
-use Rattle.code_blocks.specs.Lowered.{IsEnd, is_own}
+use Rattle.code_blocks.specs.Lowered.{IsEnd, has_own_block}
 use Rattle.code_blocks.specs.declared.items.Kind.{Kind}
 use Rattle.code_blocks.specs.declared.items.Kind.TheVariants.{AtBegin, AtReady, AtInit, AtBody, AtDone, AtEnding, AtBases, AtEnd}
 use Rattle.code_ops.specs.Routines.{IsCourse, has_body}
-use Rattle.code_ops.specs.Setups.{PlanCode, body_in}
+use Rattle.code_ops.specs.Setups.{PlanCode, body_of_routine}
 use Rattle.code_ops.specs.declared.routines.Course.{Course}
 use Rattle.byte_code.specs.declared.code.Block.{Block}
-use Rattle.byte_machine.specs.Frames.{Frame}
+use Rattle.byte_machine.specs.Frames.{MachineFrame}
 use Rattle.byte_machine.specs.Running.{Running}
-use Rattle.agree_relation.specs.Worlds.{World, IsWorld, classes_in}
+use Rattle.agree_relation.specs.Worlds.{World, IsProgramWorld, world_classes}
 use Rattle.agree_relation.specs.Words.{heap_of}
-use Rattle.agree_relation.specs.Goings.{Going, at_left, opened, AreOf, ArePlanned, events_left}
-use Rattle.agree_relation.specs.Frames.{Numbers, awaits_body, WaitInPlan, Behind, StandOver}
-use Rattle.agree_statements.specs.Statements.{BeginsAt}
-use Rattle.agree_events.specs.Turns.{IsTop, IsTurn, IsPlanBlock}
+use Rattle.agree_relation.specs.Goings.{Going, at_left, opened_goings, AreOf, ArePlanned, events_left}
+use Rattle.agree_relation.specs.Frames.{PlaceNumbers, awaits_body, WaitInPlan, Behind, StandOver}
+use Rattle.agree_statements.specs.Statements.{BeginsBlock}
+use Rattle.agree_events.specs.Turns.{IsTopFrame, IsTurn, IsPlanBlock}
 use Rattle.agree_events.proofs.Events.{next_event}
 use Rattle.agree_events.proofs.Steps.{low_itself}
 use Rattle.agree_events.proofs.Tops.{top_of, top_moves, top_steps}
@@ -66,11 +66,11 @@ own_place course form c AtBases left other = refl
 own_place course form c AtEnd left other = refl
 
 -- the step of an event, which is no body
-record IsStep (program : TypedProgram) (s : State) (p : Planned) (path : List PathFrame) (k : Kind) (q : ObjectPart) (es : List Event) (s' : State) (told : List Out) : Type 0 where
+record IsStep (program : TypedProgram) (s : ProgramState) (p : Planned) (path : List PathFrame) (k : Kind) (q : ObjectPart) (es : List PartEvent) (s' : ProgramState) (told : List Out) : Type 0 where
   other : k ≡ AtBody → ⊥
   next : resumed program (with_objects s (objects_after program s.objects (event_of k q))) p path (event_outs s.objects (event_of k q)) es ≡ Goes s' told
 
-step_is : (program : TypedProgram) (s : State) (p : Planned) (path : List PathFrame) (k : Kind) (q : ObjectPart) (es : List Event) (s' : State) (told : List Out) → event_step program s p path (event_of k q ∷ es) ≡ Goes s' told → IsStep program s p path k q es s' told
+step_is : (program : TypedProgram) (s : ProgramState) (p : Planned) (path : List PathFrame) (k : Kind) (q : ObjectPart) (es : List PartEvent) (s' : ProgramState) (told : List Out) → event_step program s p path (event_of k q ∷ es) ≡ Goes s' told → IsStep program s p path k q es s' told
 step_is program s p path AtBegin q es s' told e = record { other = λ same. cc; next = e }
 step_is program s p path AtReady q es s' told e = record { other = λ same. cc; next = e }
 step_is program s p path (AtInit m) q es s' told e = record { other = λ same. cc; next = e }
@@ -81,14 +81,14 @@ step_is program s p path AtBases q es s' told e = record { other = λ same. cc; 
 step_is program s p path AtEnd q es s' told e = record { other = λ same. cc; next = e }
 
 -- the events of a plan whose first part is f
-pub events_next : (w : World) → IsWorld w → (f : Going) (k : Kind) (left : List Item) (own others : List Going) (es : List Event) → f.left ≡ Does k ∷ left → own ≡ f ∷ others → es ≡ events_left w own → es ≡ event_of k f.part ∷ events_left w (opened w f left others)
+pub events_next : (w : World) → IsProgramWorld w → (f : Going) (k : Kind) (left : List Item) (own others : List Going) (es : List PartEvent) → f.left ≡ Does k ∷ left → own ≡ f ∷ others → es ≡ events_left w own → es ≡ event_of k f.part ∷ events_left w (opened_goings w f left others)
 events_next w world f k left own others es is own_is events =
     let first : es ≡ events_left w (f ∷ others) = events ∙ ap (events_left w) own_is in
     let at_it : es ≡ events_left w (at_left f (Does k ∷ left) ∷ others) = subst (λ (xs : List Item). es ≡ events_left w (at_left f xs ∷ others)) is first in
     at_it ∙ next_event w world.hierarchy f k left others
 
 -- a turn from a state with a plan on top
-pub record HasTurn (w : World) (at : Numbers) (s : State) (p : Planned) (path : List PathFrame) (r : Running) (begins : BeginsAt w at s r) (e : Event) (es : List Event) : Type 0 where
+pub record HasTurn (w : World) (at : PlaceNumbers) (s : ProgramState) (p : Planned) (path : List PathFrame) (r : Running) (begins : BeginsBlock w at s r) (e : PartEvent) (es : List PartEvent) : Type 0 where
   pub f : Going
   pub k : Kind
   pub left : List Item
@@ -96,13 +96,13 @@ pub record HasTurn (w : World) (at : Numbers) (s : State) (p : Planned) (path : 
   pub lower : List Going
   pub turn : IsTurn w at s p path f k left others lower r
   pub event : e ≡ event_of k f.part
-  pub events : es ≡ events_left w (opened w f left others)
+  pub events : es ≡ events_left w (opened_goings w f left others)
   pub block : begins.top.block ≡ at (next_place f.course f.form f.class (Does k ∷ left))
   pub course : IsCourse f.course f.form
   pub ends : IsEnd w.setup f.course f.form f.class (Does k ∷ left)
 
-pub has_turn : (w : World) (at : Numbers) → IsWorld w → (s : State) (p : Planned) (path : List PathFrame) → s.frames ≡ InPlan p ∷ path → (r : Running) (begins : BeginsAt w at s r)
-    → (e : Event) (es : List Event) → p.events ≡ e ∷ es → Fits (classes_in w) s.objects.phases e → s.objects.is_closed (part_of e).object ≡ false → HasTurn w at s p path r begins e es
+pub has_turn : (w : World) (at : PlaceNumbers) → IsProgramWorld w → (s : ProgramState) (p : Planned) (path : List PathFrame) → s.frames ≡ InPlan p ∷ path → (r : Running) (begins : BeginsBlock w at s r)
+    → (e : PartEvent) (es : List PartEvent) → p.events ≡ e ∷ es → Fits (world_classes w) s.objects.phases e → s.objects.is_closed (part_of e).object ≡ false → HasTurn w at s p path r begins e es
 has_turn w at world s p path frames_are r begins e es events fits is_open =
     let stands = begins.stands in
     let g = heap_of s.objects.classes r.memory.regions in
@@ -126,7 +126,7 @@ has_turn w at world s p path frames_are r begins e es events fits is_open =
     let under = Behind parts.lower (StandOver w at g None path) in
     let there : WaitInPlan w at g p path (f ∷ (owns.others ++ parts.lower)) (begins.top ∷ r.below) under = subst (λ (l : List Going). WaitInPlan w at g p path l (begins.top ∷ r.below) under) all_are wait in
     let stepped = top_steps w at g p path under f (owns.others ++ parts.lower) begins.top r.below (top_of w at g p path under f (owns.others ++ parts.lower) begins.top r.below there) in
-    let top : IsTop w at g p path under f (owns.others ++ parts.lower) r.top r.below = subst (λ (b : Frame). IsTop w at g p path under f (owns.others ++ parts.lower) b r.below) (sym begins.stepped) stepped in
+    let top : IsTopFrame w at g p path under f (owns.others ++ parts.lower) r.top r.below = subst (λ (b : MachineFrame). IsTopFrame w at g p path under f (owns.others ++ parts.lower) b r.below) (sym begins.stepped) stepped in
     record {
       f = f;
       k = k;
@@ -135,7 +135,7 @@ has_turn w at world s p path frames_are r begins e es events fits is_open =
       lower = parts.lower;
       turn = record {
         planned = subst (λ (h : Going). ArePlanned w s.objects.classes s.objects.phases (h ∷ (owns.others ++ parts.lower))) at_it planned;
-        fits = subst (λ (x : Event). Fits (classes_in w) s.objects.phases x) event fits;
+        fits = subst (λ (x : PartEvent). Fits (world_classes w) s.objects.phases x) event fits;
         is_open = ap (λ (q : ObjectPart). s.objects.is_closed q.object) (sym (ap part_of event ∙ event_part k f.part)) ∙ is_open;
         columns = stands.columns;
         globals = stands.globals;
@@ -153,11 +153,11 @@ has_turn w at world s p path frames_are r begins e es events fits is_open =
       ends = subst (λ (xs : List Item). IsEnd w.setup f.course f.form f.class xs) going.is going.ends;
     }
 
-pub plan_block : (w : World) (at : Numbers) → IsWorld w → (s : State) (p : Planned) (path : List PathFrame) → s.frames ≡ InPlan p ∷ path → (r : Running) (begins : BeginsAt w at s r)
-    → (e : Event) (es : List Event) → p.events ≡ e ∷ es → Fits (classes_in w) s.objects.phases e → s.objects.is_closed (part_of e).object ≡ false → (s' : State) (told : List Out) → event_step w.setup.program s p path (e ∷ es) ≡ Goes s' told → IsPlanBlock w at s p path r begins s' told
+pub plan_block : (w : World) (at : PlaceNumbers) → IsProgramWorld w → (s : ProgramState) (p : Planned) (path : List PathFrame) → s.frames ≡ InPlan p ∷ path → (r : Running) (begins : BeginsBlock w at s r)
+    → (e : PartEvent) (es : List PartEvent) → p.events ≡ e ∷ es → Fits (world_classes w) s.objects.phases e → s.objects.is_closed (part_of e).object ≡ false → (s' : ProgramState) (told : List Out) → event_step w.setup.program s p path (e ∷ es) ≡ Goes s' told → IsPlanBlock w at s p path r begins s' told
 plan_block w at world s p path frames_are r begins e es events fits is_open s' told step =
     let has = has_turn w at world s p path frames_are r begins e es events fits is_open in
-    let next = step_is w.setup.program s p path has.k has.f.part es s' told (ap (λ (x : Event). event_step w.setup.program s p path (x ∷ es)) (sym has.event) ∙ step) in
+    let next = step_is w.setup.program s p path has.k has.f.part es s' told (ap (λ (x : PartEvent). event_step w.setup.program s p path (x ∷ es)) (sym has.event) ∙ step) in
     record {
       f = has.f;
       k = has.k;
@@ -167,12 +167,12 @@ plan_block w at world s p path frames_are r begins e es events fits is_open s' t
       block = has.block ∙ ap at (own_place has.f.course has.f.form has.f.class has.k has.left next.other);
       course = has.course;
       ends = has.ends;
-      events = events ∙ (ap (λ (x : Event). x ∷ es) has.event ∙ ap (λ (xs : List Event). event_of has.k has.f.part ∷ xs) has.events);
+      events = events ∙ (ap (λ (x : PartEvent). x ∷ es) has.event ∙ ap (λ (xs : List PartEvent). event_of has.k has.f.part ∷ xs) has.events);
       turn = turn_of w at world s p path has.f has.k has.left has.others has.lower r has.turn es has.events s' told next.next;
     }
 
 -- and that block stands in the code
-pub block_there : (w : World) → (world : IsWorld w) → (course : Course) (form : Form) (c : ClassId) (k : Kind) (left : List Item) → c.0 < length (classes_in w) → IsCourse course form → IsEnd w.setup course form c (Does k ∷ left) → is_own (has_body (body_in w.setup (PlanCode course form c))) k ≡ true
+pub block_there : (w : World) → (world : IsProgramWorld w) → (course : Course) (form : Form) (c : ClassId) (k : Kind) (left : List Item) → c.0 < length (world_classes w) → IsCourse course form → IsEnd w.setup course form c (Does k ∷ left) → has_own_block (has_body (body_of_routine w.setup (PlanCode course form c))) k ≡ true
     → slice_get w.code.blocks (world.lowered.at (AtEvent course form c (Does k ∷ left))) ≡ Some (record { ops = event_block w.setup world.lowered.at course form c k left; line = 0 })
 block_there w world course form c k left known fits end own =
     let block : Block = record { ops = event_block w.setup world.lowered.at course form c k left; line = 0 } in

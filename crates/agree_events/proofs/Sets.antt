@@ -31,14 +31,14 @@ use Rattle.byte_code.specs.declared.op.Op.{Op}
 use Rattle.byte_code.specs.declared.op.Op.TheVariants.{SetTable}
 use Rattle.byte_machine.specs.declared.frames.Handed.{Handed}
 use Rattle.byte_machine.specs.Running.{Running, Stop, moved, register, table_of}
-use Rattle.byte_machine.specs.Leads.{Leads}
+use Rattle.byte_machine.specs.Leads.{OpsLead}
 use Rattle.byte_machine.specs.Plans.{source_word, place_through}
 use Rattle.byte_machine.proofs.PlanLeads.{leads_set_table}
 use Rattle.byte_machine.proofs.Tables.{table_loaded}
 use Rattle.agree_parts.specs.Heaps.{Heap}
 use Rattle.abi_sound.specs.Locations.{Span, AreDisjoint, pointer_span}
 use Rattle.code_blocks.specs.Blocks.{is_set_apart, setting_by, settings_then}
-use Rattle.agree_relation.specs.Worlds.{World, IsWorld, classes_in, places_in, fixed}
+use Rattle.agree_relation.specs.Worlds.{World, IsProgramWorld, world_classes, places_in, fixed}
 use Rattle.agree_relation.specs.Columns.{HasPointers, ArePlacedFor, group_view}
 use Rattle.agree_events.proofs.Noted.{at_part}
 use Rattle.agree_events.proofs.Settings.{IsApart, set_apart, apart_set}
@@ -50,37 +50,37 @@ use Rattle.agree_events.proofs.Setting.{IsViewOf, setting}
 pub record HasClass (w : World) (i : Subobject) : Type 0 where
   pub class : ClassId
   pub of : class_of i ≡ Some class
-  pub dynamic : IsDynamic (classes_in w) class
+  pub dynamic : IsDynamic (world_classes w) class
 
-pub has_class : (w : World) → IsWorld w → (i : Subobject) → is_dynamic_class (classes_in w) (class_of i) ≡ true → HasClass w i
+pub has_class : (w : World) → IsProgramWorld w → (i : Subobject) → is_dynamic_class (world_classes w) (class_of i) ≡ true → HasClass w i
 has_class w world i test = by_class (class_of i) refl test
   where
-    by_class : (o : Option ClassId) → class_of i ≡ o → is_dynamic_class (classes_in w) o ≡ true → HasClass w i
+    by_class : (o : Option ClassId) → class_of i ≡ o → is_dynamic_class (world_classes w) o ≡ true → HasClass w i
     by_class None e t = absurd (cc)
-    by_class (Some c) e t = record { class = c; of = e; dynamic = test_dynamic (classes_in w) world.hierarchy c t }
+    by_class (Some c) e t = record { class = c; of = e; dynamic = test_dynamic (world_classes w) world.hierarchy c t }
 
 -- the view as one of its group
-pub view_is : (w : World) → IsWorld w → (x : View) (number : ℕ) (group : Group) → slice_get w.groups number ≡ Some group → group.name ≡ record { complete = x.complete; view = x.at_sub } → class_of x.at_sub ≡ Some x.class → IsView (classes_in w) x
+pub view_is : (w : World) → IsProgramWorld w → (x : View) (number : ℕ) (group : Group) → slice_get w.groups number ≡ Some group → group.name ≡ record { complete = x.complete; view = x.at_sub } → class_of x.at_sub ≡ Some x.class → IsView (world_classes w) x
 view_is w world x number group there named class =
     let of = group_is w number group world there in
     let both : Some of.class ≡ Some x.class = sym of.view.of_class ∙ (ap (λ name. class_of name.view) named ∙ class) in
     let same : of.class ≡ x.class = cc (both) in
     let make : ClassId → Subobject → ClassId → View = λ c s e. record { complete = c; at_sub = s; class = e } in
-    subst (λ (v : View). IsView (classes_in w) v) (ap (λ name. make name.complete name.view of.class) named ∙ ap (make x.complete x.at_sub) same) of.view
+    subst (λ (v : View). IsView (world_classes w) v) (ap (λ name. make name.complete name.view of.class) named ∙ ap (make x.complete x.at_sub) same) of.view
 
 -- the subobjects of a view, at their addresses
 pub record IsStanding (w : World) (g : Heap) (x : View) (p : ObjectPart) (c d : ClassId) (form : Form) (handed : Handed) : Type 0 where
   pub of : IsViewOf w g x p c d form handed
   pub start : ℕ
-  pub lies : (i : Subobject) → IsSubobject (classes_in w) c i → at_part w g (inner_part p i) ≡ start + place (places_in w) x i
+  pub lies : (i : Subobject) → IsSubobject (world_classes w) c i → at_part w g (inner_part p i) ≡ start + place (places_in w) x i
 
 -- a virtual pointer that leads to the table of its subobject
 pub record IsPointed (w : World) (g : Heap) (x : View) (number : ℕ) (group : Group) (p : ObjectPart) (bit : ℕ → Option Bool) (i : Subobject) : Type 0 where
   pub point : ℕ
   pub there : number_from bit (8 * at_part w g (inner_part p i)) (8 * 8) ≡ Some point
-  pub is_point : IsPointOf (classes_in w) (places_in w) x (tables_at w number group) i point
+  pub is_point : IsPointOf (world_classes w) (places_in w) x (tables_at w number group) i point
 
-module _ (w : World) (world : IsWorld w) (g : Heap) (x : View) (p : ObjectPart) (c d : ClassId) (form : Form) (handed : Handed) (stands : IsStanding w g x p c d form handed) where
+module _ (w : World) (world : IsProgramWorld w) (g : Heap) (x : View) (p : ObjectPart) (c d : ClassId) (form : Form) (handed : Handed) (stands : IsStanding w g x p c d form handed) where
   abbrev number : ℕ
   number = stands.of.tabled.number
 
@@ -90,30 +90,30 @@ module _ (w : World) (world : IsWorld w) (g : Heap) (x : View) (p : ObjectPart) 
   at_class : class_of x.at_sub ≡ Some x.class
   at_class = stands.of.of_class ∙ ap (λ (b : ClassId). Some b) (sym stands.of.class)
 
-  view : IsView (classes_in w) x
+  view : IsView (world_classes w) x
   view = view_is w world x number group stands.of.tabled.there stands.of.tabled.named at_class
 
-  seen : IsSeen (classes_in w) (places_in w) x (tables_at w number group)
+  seen : IsSeen (world_classes w) (places_in w) x (tables_at w number group)
   seen = seen_of w world x number group stands.of.tabled.there stands.of.tabled.named at_class
 
-  in_view : (i : Subobject) → IsSubobject (classes_in w) c i → IsSubobject (classes_in w) x.class i
-  in_view i valid = subst (λ (b : ClassId). IsSubobject (classes_in w) b i) (sym stands.of.class) valid
+  in_view : (i : Subobject) → IsSubobject (world_classes w) c i → IsSubobject (world_classes w) x.class i
+  in_view i valid = subst (λ (b : ClassId). IsSubobject (world_classes w) b i) (sym stands.of.class) valid
 
-  out_of_view : (i : Subobject) → IsSubobject (classes_in w) x.class i → IsSubobject (classes_in w) c i
-  out_of_view i valid = subst (λ (b : ClassId). IsSubobject (classes_in w) b i) stands.of.class valid
+  out_of_view : (i : Subobject) → IsSubobject (world_classes w) x.class i → IsSubobject (world_classes w) c i
+  out_of_view i valid = subst (λ (b : ClassId). IsSubobject (world_classes w) b i) stands.of.class valid
 
   -- a word is stored at the place of j, which is the point of its table
-  stored_here : (bit : ℕ → Option Bool) (j : Subobject) (e : ClassId) (word : ℕ) → IsSubobject (classes_in w) c j → class_of j ≡ Some e → IsPointOf (classes_in w) (places_in w) x (tables_at w number group) j word → IsPointed w g x number group p (stored bit (8 * at_part w g (inner_part p j)) (8 * 8) word) j
+  stored_here : (bit : ℕ → Option Bool) (j : Subobject) (e : ClassId) (word : ℕ) → IsSubobject (world_classes w) c j → class_of j ≡ Some e → IsPointOf (world_classes w) (places_in w) x (tables_at w number group) j word → IsPointed w g x number group p (stored bit (8 * at_part w g (inner_part p j)) (8 * 8) word) j
   stored_here bit j e word valid class is =
       let low = point_low w world x (tables_at w number group) j e word refl seen (in_view j valid) class is in
       let same : word % 256 ^ 8 ≡ word = mod-eq_of_lt (omega arith) in
       record { point = word; there = number_from-stored_bytes 8 bit (at_part w g (inner_part p j)) word ∙ ap (λ k. Some k) same; is_point = is }
 
   -- a pointer that was set stays right
-  stored_there : (bit : ℕ → Option Bool) (i j : Subobject) (b e : ClassId) (word : ℕ) → IsSubobject (classes_in w) c i → class_of i ≡ Some b → IsDynamic (classes_in w) b → IsSubobject (classes_in w) c j → class_of j ≡ Some e → IsDynamic (classes_in w) e
-      → IsPointOf (classes_in w) (places_in w) x (tables_at w number group) j word → IsPointed w g x number group p bit i → IsPointed w g x number group p (stored bit (8 * at_part w g (inner_part p j)) (8 * 8) word) i
+  stored_there : (bit : ℕ → Option Bool) (i j : Subobject) (b e : ClassId) (word : ℕ) → IsSubobject (world_classes w) c i → class_of i ≡ Some b → IsDynamic (world_classes w) b → IsSubobject (world_classes w) c j → class_of j ≡ Some e → IsDynamic (world_classes w) e
+      → IsPointOf (world_classes w) (places_in w) x (tables_at w number group) j word → IsPointed w g x number group p bit i → IsPointed w g x number group p (stored bit (8 * at_part w g (inner_part p j)) (8 * 8) word) i
   stored_there bit i j b e word of_i class_i dyn_i of_j class_j dyn_j is old =
-      let h = classes_in w in
+      let h = world_classes w in
       let l = places_in w in
       let lies_i = stands.lies i of_i in
       let lies_j = stands.lies j of_j in
@@ -128,8 +128,8 @@ module _ (w : World) (world : IsWorld w) (g : Heap) (x : View) (p : ObjectPart) 
   -- what the settings of these subobjects do to the bytes
   pub record Sets (bit bit' : ℕ → Option Bool) (list : List Subobject) : Type 0 where
     pub set : (i : Subobject) → Has list i → IsApart w c i → IsPointed w g x number group p bit' i
-    pub stays : (i : Subobject) (b : ClassId) → IsSubobject (classes_in w) c i → class_of i ≡ Some b → IsDynamic (classes_in w) b → IsPointed w g x number group p bit i → IsPointed w g x number group p bit' i
-    pub kept : (y : Span) → ((i : Subobject) (b : ClassId) → IsSubobject (classes_in w) c i → class_of i ≡ Some b → IsDynamic (classes_in w) b → AreDisjoint y (pointer_span (at_part w g (inner_part p i)))) → (a : ℕ) → y.start ≤ a → a < y.start + y.length → bit' a ≡ bit a
+    pub stays : (i : Subobject) (b : ClassId) → IsSubobject (world_classes w) c i → class_of i ≡ Some b → IsDynamic (world_classes w) b → IsPointed w g x number group p bit i → IsPointed w g x number group p bit' i
+    pub kept : (y : Span) → ((i : Subobject) (b : ClassId) → IsSubobject (world_classes w) c i → class_of i ≡ Some b → IsDynamic (world_classes w) b → AreDisjoint y (pointer_span (at_part w g (inner_part p i)))) → (a : ℕ) → y.start ≤ a → a < y.start + y.length → bit' a ≡ bit a
 
   no_sets : (bit : ℕ → Option Bool) → Sets bit bit []
   no_sets bit = record { set = λ i has. absurd has; stays = λ i b valid class dynamic old. old; kept = λ y apart a low high. refl }
@@ -141,7 +141,7 @@ module _ (w : World) (world : IsWorld w) (g : Heap) (x : View) (p : ObjectPart) 
     kept = sets.kept;
   }
 
-  one_set : (bit bit' : ℕ → Option Bool) (j : Subobject) (list : List Subobject) (e : ClassId) (word : ℕ) → IsSubobject (classes_in w) c j → class_of j ≡ Some e → IsDynamic (classes_in w) e → IsPointOf (classes_in w) (places_in w) x (tables_at w number group) j word → Sets (stored bit (8 * at_part w g (inner_part p j)) (8 * 8) word) bit' list → Sets bit bit' (j ∷ list)
+  one_set : (bit bit' : ℕ → Option Bool) (j : Subobject) (list : List Subobject) (e : ClassId) (word : ℕ) → IsSubobject (world_classes w) c j → class_of j ≡ Some e → IsDynamic (world_classes w) e → IsPointOf (world_classes w) (places_in w) x (tables_at w number group) j word → Sets (stored bit (8 * at_part w g (inner_part p j)) (8 * 8) word) bit' list → Sets bit bit' (j ∷ list)
   one_set bit bit' j list e word of_j class_j dyn_j is sets = record {
     set = λ i has apart. ⊎_elim
         (λ same. subst (λ (k : Subobject). IsPointed w g x number group p bit' k) same (sets.stays j e of_j class_j dyn_j (stored_here bit j e word of_j class_j is)))
@@ -151,12 +151,12 @@ module _ (w : World) (world : IsWorld w) (g : Heap) (x : View) (p : ObjectPart) 
   }
 
   -- the ops of the settings lead there
-  pub leads_sets : (r : Running) → register r 0 ≡ Some (at_part w g p) → r.top.handed ≡ handed → ((i : Subobject) (b : ClassId) → IsSubobject (classes_in w) c i → class_of i ≡ Some b → IsDynamic (classes_in w) b → fault_at r.memory.regions (at_part w g (inner_part p i)) 8 ≡ None)
-      → (list : List Subobject) → ((i : Subobject) → Has list i → IsSubobject (classes_in w) c i) → (bit : ℕ → Option Bool) (rest : List Op) (P : Running → Stop → Type 0)
-      → ((bit' : ℕ → Option Bool) → Sets bit bit' list → Leads (fixed w) rest (record r { memory = record r.memory { bit = bit' } }) P) → Leads (fixed w) (settings_then w.setup form c list rest) (record r { memory = record r.memory { bit = bit } }) P
+  pub leads_sets : (r : Running) → register r 0 ≡ Some (at_part w g p) → r.top.handed ≡ handed → ((i : Subobject) (b : ClassId) → IsSubobject (world_classes w) c i → class_of i ≡ Some b → IsDynamic (world_classes w) b → fault_at r.memory.regions (at_part w g (inner_part p i)) 8 ≡ None)
+      → (list : List Subobject) → ((i : Subobject) → Has list i → IsSubobject (world_classes w) c i) → (bit : ℕ → Option Bool) (rest : List Op) (P : Running → Stop → Type 0)
+      → ((bit' : ℕ → Option Bool) → Sets bit bit' list → OpsLead (fixed w) rest (record r { memory = record r.memory { bit = bit' } }) P) → OpsLead (fixed w) (settings_then w.setup form c list rest) (record r { memory = record r.memory { bit = bit } }) P
   leads_sets r this same open_there [] all bit rest P go = go bit (no_sets bit)
   leads_sets r this same open_there (i ∷ list) all bit rest P go = split (is_set_apart w.setup i)
-      (λ b. is_set_apart w.setup i ≡ b → Leads (fixed w) (if b then SetTable (setting_by w.setup form c i i.root) ∷ settings_then w.setup form c list rest else settings_then w.setup form c list rest) (record r { memory = record r.memory { bit = bit } }) P)
+      (λ b. is_set_apart w.setup i ≡ b → OpsLead (fixed w) (if b then SetTable (setting_by w.setup form c i i.root) ∷ settings_then w.setup form c list rest else settings_then w.setup form c list rest) (record r { memory = record r.memory { bit = bit } }) P)
       (λ _ e.
       let valid = all i (inl refl) in
       let apart = set_apart w c i valid e in
@@ -170,9 +170,9 @@ module _ (w : World) (world : IsWorld w) (g : Heap) (x : View) (p : ObjectPart) 
       (λ _ e. leads_sets r this same open_there list (λ j has. all j (inr has)) bit rest P (λ bit' sets. go bit' (not_set bit bit' i list e sets))) refl
 
   -- the head of a chain has a setting of its own
-  head_apart : (t : Subobject) → IsSubobject (classes_in w) x.class t → is_head (classes_in w) (places_in w) x t ≡ true → IsApart w c t
+  head_apart : (t : Subobject) → IsSubobject (world_classes w) x.class t → is_head (world_classes w) (places_in w) x t ≡ true → IsApart w c t
   head_apart t valid head =
-      let h = classes_in w in
+      let h = world_classes w in
       let l = places_in w in
       let both = parts (is_dynamic_class h (class_of t)) (is_first h l x t) head in
       record {
@@ -191,9 +191,9 @@ module _ (w : World) (world : IsWorld w) (g : Heap) (x : View) (p : ObjectPart) 
       parts false b e = absurd (cc)
 
   -- each virtual pointer of the view leads to its table, by the head of its chain
-  each_pointed : (bit bit' : ℕ → Option Bool) → Sets bit bit' (preorder (classes_in w) c) → (i : Subobject) (e : ClassId) → IsSubobject (classes_in w) c i → class_of i ≡ Some e → IsDynamic (classes_in w) e → IsPointed w g x number group p bit' i
+  each_pointed : (bit bit' : ℕ → Option Bool) → Sets bit bit' (preorder (world_classes w) c) → (i : Subobject) (e : ClassId) → IsSubobject (world_classes w) c i → class_of i ≡ Some e → IsDynamic (world_classes w) e → IsPointed w g x number group p bit' i
   each_pointed bit bit' sets i e valid class dynamic =
-      let h = classes_in w in
+      let h = world_classes w in
       let l = places_in w in
       let some = seen.some_point i e (in_view i valid) class dynamic in
       let t = some.1.head in
@@ -209,8 +209,8 @@ module _ (w : World) (world : IsWorld w) (g : Heap) (x : View) (p : ObjectPart) 
       record { point = of.point; there = ap (λ a. number_from bit' (8 * a) (8 * 8)) one ∙ of.there; is_point = same_point h l x chain (tables_at w number group) t i of.point share of.is_point }
 
   -- so the view has its pointers
-  pub pointers_set : x ≡ group_view w d p.at c → (memory : Store) (bit bit' : ℕ → Option Bool) → ((i : Subobject) (b : ClassId) → IsSubobject (classes_in w) c i → class_of i ≡ Some b → IsDynamic (classes_in w) b → fault_at memory.regions (at_part w g (inner_part p i)) 8 ≡ None)
-      → Sets bit bit' (preorder (classes_in w) c) → HasPointers w g (record memory { bit = bit' }) p c d
+  pub pointers_set : x ≡ group_view w d p.at c → (memory : Store) (bit bit' : ℕ → Option Bool) → ((i : Subobject) (b : ClassId) → IsSubobject (world_classes w) c i → class_of i ≡ Some b → IsDynamic (world_classes w) b → fault_at memory.regions (at_part w g (inner_part p i)) 8 ≡ None)
+      → Sets bit bit' (preorder (world_classes w) c) → HasPointers w g (record memory { bit = bit' }) p c d
   pointers_set is memory bit bit' open_there sets = record {
     placed = tables_at w number group;
     stand = subst (λ (v : View). ArePlacedFor w v (tables_at w number group)) is (record { number = number; group = group; there = stands.of.tabled.there; named = stands.of.tabled.named; is = refl });
@@ -219,7 +219,7 @@ module _ (w : World) (world : IsWorld w) (g : Heap) (x : View) (p : ObjectPart) 
         let at = at_part w g (inner_part p i) in
         let fault = open_there i e valid class dynamic in
         let there = of.there in
-        (of.point, loaded_word (record memory { bit = bit' }) at of.point fault there, subst (λ (v : View). IsPointOf (classes_in w) (places_in w) v (tables_at w number group) i of.point) is of.is_point);
+        (of.point, loaded_word (record memory { bit = bit' }) at of.point fault there, subst (λ (v : View). IsPointOf (world_classes w) (places_in w) v (tables_at w number group) i of.point) is of.is_point);
   }
     where
       loaded_word : (m : Store) (at point : ℕ) → fault_at m.regions at 8 ≡ None → number_from m.bit (8 * at) (8 * 8) ≡ Some point → table_of m at ≡ Some point

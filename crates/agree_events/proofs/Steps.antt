@@ -18,12 +18,12 @@ use Rattle.byte_shadow.specs.Shadows.{Notes}
 use Rattle.byte_machine.specs.declared.heap.Opened.{Opened}
 use Rattle.byte_machine.specs.declared.turn.RawOut.{RawOut}
 use Rattle.agree_parts.specs.Heaps.{Heap}
-use Rattle.agree_parts.specs.Placed.{IsLaid}
-use Rattle.agree_relation.specs.Worlds.{World, classes_in, places_in}
+use Rattle.agree_parts.specs.Placed.{AreObjectsLaid}
+use Rattle.agree_relation.specs.Worlds.{World, world_classes, places_in}
 use Rattle.agree_relation.specs.Words.{heap_of}
 use Rattle.agree_relation.specs.Columns.{ObjectsStand, LeavesStand, ColumnsStand, HasPointers}
-use Rattle.agree_relation.specs.Frames.{Numbers}
-use Rattle.agree_events.specs.Events.{KeepsLow, Tells}
+use Rattle.agree_relation.specs.Frames.{PlaceNumbers}
+use Rattle.agree_events.specs.Events.{KeepsLow, HasToldMore}
 use Rattle.agree_events.proofs.Own.{whole_in}
 use Rattle.agree_events.proofs.Noted.{IsOnly, Made, HasView, IsPhased, IsViewed, phases_change, views_change, views_here}
 use Rattle.agree_events.proofs.Pointed.{KeepsOthers, pointers_change, pointers_here}
@@ -31,7 +31,7 @@ use Rattle.agree_events.proofs.Pointed.{KeepsOthers, pointers_change, pointers_h
 pub low_itself : (w : World) (r : Routine) (registers : List (Option ℕ)) → KeepsLow w r registers registers
 low_itself w r registers = record { size = refl; low = λ n inside. refl }
 
-pub tells_nothing : (w : World) (at : Numbers) (g : Heap) (outs : List RawOut) → Tells w at g outs outs []
+pub tells_nothing : (w : World) (at : PlaceNumbers) (g : Heap) (outs : List RawOut) → HasToldMore w at g outs outs []
 tells_nothing w at g outs = record { more = []; is = sym (append-nil outs); reads = tt }
 
 -- where only phases change
@@ -46,13 +46,13 @@ objects_stay w s phases regions opened heap o = record { count = o.count; ascend
 
 -- no bit of a leaf changes
 abbrev pub KeepsLeaves : World → Heap → (ℕ → Option Bool) → (ℕ → Option Bool) → Type 0
-KeepsLeaves w g bit bit' = (a : Leaf) (t : ValueType ClassId) → IsLeafMade (classes_in w) g.classes a t → (i : ℕ) → (leaf_bits (classes_in w) (places_in w) g a).start ≤ i → i < (leaf_bits (classes_in w) (places_in w) g a).start + (leaf_bits (classes_in w) (places_in w) g a).length → bit' i ≡ bit i
+KeepsLeaves w g bit bit' = (a : Leaf) (t : ValueType ClassId) → IsLeafMade (world_classes w) g.classes a t → (i : ℕ) → (leaf_bits (world_classes w) (places_in w) g a).start ≤ i → i < (leaf_bits (world_classes w) (places_in w) g a).start + (leaf_bits (world_classes w) (places_in w) g a).length → bit' i ≡ bit i
 
 pub leaves_stay : (w : World) (s : Objects) (phases : Phases) (memory : Store) (bit' : ℕ → Option Bool) → KeepsLeaves w (heap_of s.classes memory.regions) memory.bit bit' → LeavesStand w s memory → LeavesStand w (with_phases s phases) (with_bits memory bit')
 leaves_stay w s phases memory bit' keeps leaves = record {
   leaf = λ a t made is_open.
       let g = heap_of s.classes memory.regions in
-      bits_same w g (s.leaf a) memory.bit bit' (leaf_bits (classes_in w) (places_in w) g a) (keeps a t made) (leaves.leaf a t made is_open);
+      bits_same w g (s.leaf a) memory.bit bit' (leaf_bits (world_classes w) (places_in w) g a) (keeps a t made) (leaves.leaf a t made is_open);
 }
 
 -- after an event of p, of class c, whose complete object, of class d, then has the view y, of class e
@@ -66,9 +66,9 @@ pub record IsChange (w : World) (g : Heap) (s : Objects) (phases : Phases) (p : 
   pub others : KeepsOthers w g s p memory (with_bits memory bit')
   pub leaves : KeepsLeaves w g memory.bit bit'
 
-pub columns_after : (w : World) (s : Objects) (memory : Store) (opened : List Opened) (heap : ℕ) (notes : Notes) → IsLaid (classes_in w) w.setup.rows (heap_of s.classes memory.regions) → (phases : Phases) (p : ObjectPart) (c d : ClassId) (v : Phase) (bit' : ℕ → Option Bool) (notes' : Notes)
+pub columns_after : (w : World) (s : Objects) (memory : Store) (opened : List Opened) (heap : ℕ) (notes : Notes) → AreObjectsLaid (world_classes w) w.setup.rows (heap_of s.classes memory.regions) → (phases : Phases) (p : ObjectPart) (c d : ClassId) (v : Phase) (bit' : ℕ → Option Bool) (notes' : Notes)
     → IsChange w (heap_of s.classes memory.regions) s phases p c d v memory bit' notes notes' → (y : Subobject) (e : ClassId) → HasView w (heap_of s.classes memory.regions) phases notes' p d y e
-    → (is_ready (phases.phase (part p.object p.owner y)) ≡ true → IsDynamic (classes_in w) e → s.is_closed p.object ≡ false → HasPointers w (heap_of s.classes memory.regions) (with_bits memory bit') (part p.object p.owner y) e d)
+    → (is_ready (phases.phase (part p.object p.owner y)) ≡ true → IsDynamic (world_classes w) e → s.is_closed p.object ≡ false → HasPointers w (heap_of s.classes memory.regions) (with_bits memory bit') (part p.object p.owner y) e d)
     → ColumnsStand w s memory opened heap notes → ColumnsStand w (with_phases s phases) (with_bits memory bit') opened heap notes'
 columns_after w s memory opened heap notes laid phases p c d v bit' notes' change y e view_has has old = let g = heap_of s.classes memory.regions in record {
   objects = objects_stay w s phases memory.regions opened heap old.objects;

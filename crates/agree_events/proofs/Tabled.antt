@@ -16,9 +16,9 @@ use Rattle.abi_slots.specs.Images.{vtt_address, IsFirstPoint, first, no_group}
 use Rattle.abi_slots.specs.Seen.{PlacedTables, IsPointOf, IsSeen}
 use Rattle.abi_slots.specs.Views.{View, heads, by_part, is_head, Serves}
 use Rattle.abi_slots.proofs.Lists.{from_filter}
-use Rattle.abi_vtt.specs.Vtts.{Item, item, has_virtual, needs_word, items, IsVtt, IsVttWord}
+use Rattle.abi_vtt.specs.Vtts.{VttEntry, item, has_vtt, needs_word, vtt_items, IsVtt, IsVttWord}
 use Rattle.abi_vtt.specs.Blocks.{block, item_number}
-use Rattle.abi_vtt.specs.VttImages.{PlacedGroups, HasBlock, HasItem, tables_of}
+use Rattle.abi_vtt.specs.VttImages.{PlacedGroups, HasSubVtt, HasItem, tables_of}
 use Rattle.abi_vtt.proofs.BlockLemmas.{first_word, word_stands, whole_stands}
 use Rattle.abi_vtt.proofs.ImageBlocks.{whole_block}
 use Rattle.abi_vtt.proofs.RunLemmas.{first_run}
@@ -34,8 +34,8 @@ use Rattle.byte_machine.proofs.PlanLeads.{source_vtt}
 use Rattle.code_blocks.specs.Blocks.{whose_of}
 use Rattle.agree_dispatch.proofs.Numbers.{moved_up}
 use Rattle.agree_parts.specs.Heaps.{Heap}
-use Rattle.agree_relation.specs.Worlds.{World, IsWorld, classes_in, places_in, fixed}
-use Rattle.agree_relation.specs.Goings.{StandsIn}
+use Rattle.agree_relation.specs.Worlds.{World, IsProgramWorld, world_classes, places_in, fixed}
+use Rattle.agree_relation.specs.Goings.{StandsOnStack}
 use Rattle.agree_relation.specs.Frames.{IsHandedBy}
 use Rattle.agree_relation.proofs.Tables.{placed_seen}
 use Rattle.agree_events.proofs.Names.{one_group, whole_group}
@@ -47,14 +47,14 @@ abbrev pub tables_at : World → ℕ → Group → PlacedTables
 tables_at w number group = tables_of (placed_groups w) number group
 
 -- what the image gives for the view of a group of the world
-pub seen_of : (w : World) → IsWorld w → (x : View) (number : ℕ) (group : Group) → slice_get w.groups number ≡ Some group → group.name ≡ record { complete = x.complete; view = x.at_sub } → class_of x.at_sub ≡ Some x.class → IsSeen (classes_in w) (places_in w) x (tables_at w number group)
+pub seen_of : (w : World) → IsProgramWorld w → (x : View) (number : ℕ) (group : Group) → slice_get w.groups number ≡ Some group → group.name ≡ record { complete = x.complete; view = x.at_sub } → class_of x.at_sub ≡ Some x.class → IsSeen (world_classes w) (places_in w) x (tables_at w number group)
 seen_of w world x number group there named class = placed_seen w x (tables_at w number group) world (record { number = number; group = group; there = there; named = named; is = refl }) class
 
 -- words of the image stand low, and so do address points
-pub word_low : (w : World) → IsWorld w → (at word : ℕ) → word_at w.image at ≡ Some word → at < 2 ^ 63
+pub word_low : (w : World) → IsProgramWorld w → (at word : ℕ) → word_at w.image at ≡ Some word → at < 2 ^ 63
 word_low w world at word is = let inside = word_inside w.image at word is in let small = world.small in omega arith
 
-pub point_low : (w : World) → IsWorld w → (x : View) (placed : PlacedTables) (s : Subobject) (c : ClassId) (point : ℕ) → placed.image ≡ word_at w.image → IsSeen (classes_in w) (places_in w) x placed → IsSubobject (classes_in w) x.class s → class_of s ≡ Some c → IsPointOf (classes_in w) (places_in w) x placed s point → point < 2 ^ 63 + 16
+pub point_low : (w : World) → IsProgramWorld w → (x : View) (placed : PlacedTables) (s : Subobject) (c : ClassId) (point : ℕ) → placed.image ≡ word_at w.image → IsSeen (world_classes w) (places_in w) x placed → IsSubobject (world_classes w) x.class s → class_of s ≡ Some c → IsPointOf (world_classes w) (places_in w) x placed s point → point < 2 ^ 63 + 16
 point_low w world x placed s c point image seen valid class is =
     let type = (seen.sees s c point valid class is).type_of in
     let before = type.before in
@@ -73,10 +73,10 @@ pub record IsTabled (w : World) (x : View) (form : Form) (c : ClassId) (handed :
   pub there : slice_get w.groups number ≡ Some group
   pub named : group.name ≡ record { complete = x.complete; view = x.at_sub }
   pub point : ℕ
-  pub is_point : IsPointOf (classes_in w) (places_in w) x (tables_at w number group) (whole_of c) point
+  pub is_point : IsPointOf (world_classes w) (places_in w) x (tables_at w number group) (whole_of c) point
   pub own : source_word (fixed w) handed (own_source form c virtual) ≡ Some point
-  pub word : (i : Subobject) → IsSubobject (classes_in w) c i → needs_word (classes_in w) (places_in w) i ≡ true → virtual ≡ true →
-      (at : ℕ) × (source_word (fixed w) handed (Vtt (whose_of form) c.0 (item_number (classes_in w) (places_in w) c i)) ≡ Some at) × IsPointOf (classes_in w) (places_in w) x (tables_at w number group) i at
+  pub word : (i : Subobject) → IsSubobject (world_classes w) c i → needs_word (world_classes w) (places_in w) i ≡ true → virtual ≡ true →
+      (at : ℕ) × (source_word (fixed w) handed (Vtt (whose_of form) c.0 (item_number (world_classes w) (places_in w) c i)) ≡ Some at) × IsPointOf (world_classes w) (places_in w) x (tables_at w number group) i at
   pub first_word : form ≡ AsBase → virtual ≡ true → word_at w.image handed.vtt ≡ Some point
 
 -- by a VTT
@@ -84,10 +84,10 @@ pub record IsTabled (w : World) (x : View) (form : Form) (c : ClassId) (handed :
 abbrev pub part_view : ClassId → Subobject → ClassId → View
 part_view d at c = record { complete = d; at_sub = at; class = c }
 
-item_point : (w : World) → IsWorld w → (d c : ClassId) (at : Subobject) (it : Item) (a n number : ℕ) (group : Group) → class_of at ≡ Some c → it.view ≡ at → slice_get w.groups number ≡ Some group → group.name ≡ record { complete = d; view = at } → HasItem (classes_in w) (places_in w) (placed_groups w) d it (a + 8 * n) → (vtt : Handed) (form : Form) → vtt_of (fixed w) vtt (whose_of form) c.0 ≡ Some a
-    → (point : ℕ) × (source_word (fixed w) vtt (Vtt (whose_of form) c.0 n) ≡ Some point) × IsPointOf (classes_in w) (places_in w) (part_view d at c) (tables_at w number group) it.served point × (word_at w.image (a + 8 * n) ≡ Some point)
+item_point : (w : World) → IsProgramWorld w → (d c : ClassId) (at : Subobject) (it : VttEntry) (a n number : ℕ) (group : Group) → class_of at ≡ Some c → it.view ≡ at → slice_get w.groups number ≡ Some group → group.name ≡ record { complete = d; view = at } → HasItem (world_classes w) (places_in w) (placed_groups w) d it (a + 8 * n) → (vtt : Handed) (form : Form) → vtt_of (fixed w) vtt (whose_of form) c.0 ≡ Some a
+    → (point : ℕ) × (source_word (fixed w) vtt (Vtt (whose_of form) c.0 n) ≡ Some point) × IsPointOf (world_classes w) (places_in w) (part_view d at c) (tables_at w number group) it.served point × (word_at w.image (a + 8 * n) ≡ Some point)
 item_point w world d c at it a n number group class view there named has vtt form found =
-    let h = classes_in w in
+    let h = world_classes w in
     let l = places_in w in
     let low = word_low w world (a + 8 * n) has.point has.at_point in
     let at_moved : moved a (8 * n) ≡ a + 8 * n = moved_up a (8 * n) (omega arith) in
@@ -106,10 +106,10 @@ item_point w world d c at it a n number group class view there named has vtt for
     )
 
 -- where its block stands
-pub block_tabled : (w : World) → IsWorld w → (d c : ClassId) (at : Subobject) (a : ℕ) → class_of at ≡ Some c → HasBlock (classes_in w) (places_in w) (placed_groups w) d at c a → (form : Form) (handed : Handed) → vtt_of (fixed w) handed (whose_of form) c.0 ≡ Some a → (form ≡ AsBase → a ≡ handed.vtt)
+pub block_tabled : (w : World) → IsProgramWorld w → (d c : ClassId) (at : Subobject) (a : ℕ) → class_of at ≡ Some c → HasSubVtt (world_classes w) (places_in w) (placed_groups w) d at c a → (form : Form) (handed : Handed) → vtt_of (fixed w) handed (whose_of form) c.0 ≡ Some a → (form ≡ AsBase → a ≡ handed.vtt)
     → IsTabled w (part_view d at c) form c handed true
 block_tabled w world d c at a class block form handed found own =
-    let h = classes_in w in
+    let h = world_classes w in
     let l = places_in w in
     let keeps = world.hierarchy in
     let first_item = block.each 0 (item at (whole_of c)) (first_word h keeps l at c) in
@@ -135,23 +135,23 @@ vtt_there at (word ∷ words) some = refl
 pub record HasOwnBlock (w : World) (form : Form) (c d : ClassId) (at : Subobject) (handed : Handed) : Type 0 where
   pub block : ℕ
   pub found : vtt_of (fixed w) handed (whose_of form) c.0 ≡ Some block
-  pub stands : HasBlock (classes_in w) (places_in w) (placed_groups w) d at c block
+  pub stands : HasSubVtt (world_classes w) (places_in w) (placed_groups w) d at c block
   pub own : form ≡ AsBase → block ≡ handed.vtt
 
-pub own_block : (w : World) → IsWorld w → (g : Heap) (form : Form) (c d : ClassId) (p : ObjectPart) (stack : List Subobject) (handed : Handed) → c.0 < length (classes_in w) → StandsIn form c d p stack → IsHandedBy w g form c d p stack handed → has_virtual (classes_in w) c ≡ true → HasOwnBlock w form c d p.at handed
+pub own_block : (w : World) → IsProgramWorld w → (g : Heap) (form : Form) (c d : ClassId) (p : ObjectPart) (stack : List Subobject) (handed : Handed) → c.0 < length (world_classes w) → StandsOnStack form c d p stack → IsHandedBy w g form c d p stack handed → has_vtt (world_classes w) c ≡ true → HasOwnBlock w form c d p.at handed
 own_block w world g InFull c d p stack handed known stands is virtual =
-    let h = classes_in w in
+    let h = world_classes w in
     let l = places_in w in
     let tables = world.tables in
     let r = get_within w.vtts c.0 (let size = tables.one_vtt_each in omega arith) in
-    let along : IsVtt h l c r.0 = subst (λ b. GoAlong (IsVttWord h l c) (if b then items h l c else []) r.0) virtual (tables.vtts c r.0 r.1) in
-    let some : 0 < length r.0 = let size = along.size in let less = slice_get_within (items h l c) (0 + 0) (item (whole_of c) (whole_of c)) ((whole_stands h l c).each 0 (item (whole_of c) (whole_of c)) (first_word h world.hierarchy l (whole_of c) c)) in omega arith in
+    let along : IsVtt h l c r.0 = subst (λ b. GoAlong (IsVttWord h l c) (if b then vtt_items h l c else []) r.0) virtual (tables.vtts c r.0 r.1) in
+    let some : 0 < length r.0 = let size = along.size in let less = slice_get_within (vtt_items h l c) (0 + 0) (item (whole_of c) (whole_of c)) ((whole_stands h l c).each 0 (item (whole_of c) (whole_of c)) (first_word h world.hierarchy l (whole_of c) c)) in omega arith in
     let directory = tables.stand.directory c r.0 r.1 in
     let block = whole_block h l w.numbers w.groups w.vtts w.infos w.addresses w.image.base (word_at w.image) tables.stand c r.0 r.1 along in
     record {
       block = w.addresses.vtt c;
       found = directory.at_vtt ∙ ap (λ a. Some a) (vtt_there (w.addresses.vtt c) r.0 some);
-      stands = subst (λ (e : ClassId). HasBlock h l (placed_groups w) e p.at c (w.addresses.vtt c)) (sym stands.2) (subst (λ (s : Subobject). HasBlock h l (placed_groups w) c s c (w.addresses.vtt c)) (sym stands.1) block);
+      stands = subst (λ (e : ClassId). HasSubVtt h l (placed_groups w) e p.at c (w.addresses.vtt c)) (sym stands.2) (subst (λ (s : Subobject). HasSubVtt h l (placed_groups w) c s c (w.addresses.vtt c)) (sym stands.1) block);
       own = λ e. absurd (cc);
     }
 own_block w world g AsBase c d p [] handed known stands is virtual = absurd is
@@ -159,15 +159,15 @@ own_block w world g AsBase c d p (y ∷ rest) handed known stands is virtual = r
 
 -- by the directory
 
-first_serves : (w : World) → IsWorld w → (x : View) → IsDynamic (classes_in w) x.class → (slice_get (heads (classes_in w) (places_in w) x) 0 ≡ Some (whole_of x.class)) × Serves (classes_in w) (places_in w) x (whole_of x.class) (whole_of x.class)
+first_serves : (w : World) → IsProgramWorld w → (x : View) → IsDynamic (world_classes w) x.class → (slice_get (heads (world_classes w) (places_in w) x) 0 ≡ Some (whole_of x.class)) × Serves (world_classes w) (places_in w) x (whole_of x.class) (whole_of x.class)
 first_serves w world x dynamic =
-    let h = classes_in w in
+    let h = world_classes w in
     let l = places_in w in
     let top = (first_run h world.hierarchy l x).there 0 (whole_of x.class) (run_first h l x.class world.hierarchy dynamic) in
     let passes = from_filter (is_head h l x) (by_part h x.class) (whole_of x.class) (record { index = 0; there = top }) in
     (top, record { valid = whole_is [] tt; head = passes.1; steps = 0; leads = refl })
 
-pub directory_tabled : (w : World) → IsWorld w → (c : ClassId) → c.0 < length (classes_in w) → has_virtual (classes_in w) c ≡ false → IsDynamic (classes_in w) c → (form : Form) (handed : Handed) → IsTabled w (part_view c (whole_of c) c) form c handed false
+pub directory_tabled : (w : World) → IsProgramWorld w → (c : ClassId) → c.0 < length (world_classes w) → has_vtt (world_classes w) c ≡ false → IsDynamic (world_classes w) c → (form : Form) (handed : Handed) → IsTabled w (part_view c (whole_of c) c) form c handed false
 directory_tabled w world c known none dynamic form handed =
     let tables = world.tables in
     let r = get_within w.vtts c.0 (let size = tables.one_vtt_each in omega arith) in
@@ -186,4 +186,4 @@ directory_tabled w world c known none dynamic form handed =
       word = λ i valid needs virtual. absurd (cc);
       first_word = λ base virtual. absurd (cc);
     }
-    by_point point at (no_group each zero_point) = let has = whole_group (classes_in w) (places_in w) world.hierarchy w.groups world.tables.groups c known none dynamic in absurd (each has.0 has.1 has.2 has.3)
+    by_point point at (no_group each zero_point) = let has = whole_group (world_classes w) (places_in w) world.hierarchy w.groups world.tables.groups c known none dynamic in absurd (each has.0 has.1 has.2 has.3)

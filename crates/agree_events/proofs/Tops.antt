@@ -3,18 +3,18 @@ use Rattle.std.proofs.Common.{◌≡◌, inl, inr, ⊎_elim, ℕ, zero, suc, ◌
 use Rattle.path_model.specs.States.{Planned, Frame as PathFrame}
 use Rattle.code_blocks.specs.Items.{Item}
 use Rattle.code_ops.specs.Setups.{PlanCode}
-use Rattle.byte_machine.specs.Frames.{Frame}
+use Rattle.byte_machine.specs.Frames.{MachineFrame}
 use Rattle.byte_machine.specs.Turn.{stepping}
 use Rattle.agree_parts.specs.Heaps.{Heap}
 use Rattle.agree_relation.specs.Worlds.{World}
 use Rattle.agree_relation.specs.Goings.{Going, at_left}
-use Rattle.agree_relation.specs.Frames.{Numbers, AreUntouched, awaits_body, IsPlanFrame, IsAtNext, AreElements, IsOuter, WaitInPlan}
+use Rattle.agree_relation.specs.Frames.{PlaceNumbers, AreUntouched, awaits_body, IsPlanFrame, IsAtNext, AreElements, IsOuter, WaitInPlan}
 use Rattle.agree_events.specs.Events.{KeepsLow}
-use Rattle.agree_events.specs.Turns.{IsTop}
+use Rattle.agree_events.specs.Turns.{IsTopFrame}
 use Rattle.agree_events.proofs.Steps.{low_itself}
 
-module _ (w : World) (at : Numbers) (g : Heap) (p : Planned) (path : List PathFrame) (under : List Going → List Frame → Type 0) where
-  pub top_of : (f : Going) (below : List Going) (b : Frame) (bs : List Frame) → WaitInPlan w at g p path (f ∷ below) (b ∷ bs) under → IsTop w at g p path under f below b bs
+module _ (w : World) (at : PlaceNumbers) (g : Heap) (p : Planned) (path : List PathFrame) (under : List Going → List MachineFrame → Type 0) where
+  pub top_of : (f : Going) (below : List Going) (b : MachineFrame) (bs : List MachineFrame) → WaitInPlan w at g p path (f ∷ below) (b ∷ bs) under → IsTopFrame w at g p path under f below b bs
   top_of f below b bs wait =
       let runs = wait.1.0 in
       let same : f ≡ runs.first = cc (runs.is) in
@@ -28,7 +28,7 @@ module _ (w : World) (at : Numbers) (g : Heap) (p : Planned) (path : List PathFr
         kind = ⊎_elim (λ i. inl i) (λ o. inr (subst (λ (h : Going). IsOuter w g p h path b) (sym same) o.0, o.1)) wait.1.1;
       }
 
-  pub wait_of : (f : Going) (below : List Going) (b : Frame) (bs : List Frame) → IsTop w at g p path under f below b bs → IsAtNext w at f b → WaitInPlan w at g p path (f ∷ below) (b ∷ bs) under
+  pub wait_of : (f : Going) (below : List Going) (b : MachineFrame) (bs : List MachineFrame) → IsTopFrame w at g p path under f below b bs → IsAtNext w at f b → WaitInPlan w at g p path (f ∷ below) (b ∷ bs) under
   wait_of f below b bs top next = (
     top.rest,
     (
@@ -50,10 +50,10 @@ module _ (w : World) (at : Numbers) (g : Heap) (p : Planned) (path : List PathFr
   elements_move f left (suc n) stride (next ∷ more) e = e
 
   -- with other registers and another block, and less of its items left
-  abbrev pub frame_now : Frame → List (Option ℕ) → ℕ → Frame
+  abbrev pub frame_now : MachineFrame → List (Option ℕ) → ℕ → MachineFrame
   frame_now b registers block = record b { registers = registers; block = block }
 
-  frame_moves : (f : Going) (left : List Item) (below : List Going) (b : Frame) (registers : List (Option ℕ)) (block : ℕ) → (awaits_body left ≡ true → awaits_body f.left ≡ true) → KeepsLow w (PlanCode f.course f.form f.class) b.registers registers
+  frame_moves : (f : Going) (left : List Item) (below : List Going) (b : MachineFrame) (registers : List (Option ℕ)) (block : ℕ) → (awaits_body left ≡ true → awaits_body f.left ≡ true) → KeepsLow w (PlanCode f.course f.form f.class) b.registers registers
       → IsPlanFrame w at g f below b → IsPlanFrame w at g (at_left f left) below (frame_now b registers block)
   frame_moves f left below b registers block less keeps frame = record {
     size = keeps.size ∙ frame.size;
@@ -65,8 +65,8 @@ module _ (w : World) (at : Numbers) (g : Heap) (p : Planned) (path : List PathFr
     handed = frame.handed;
   }
 
-  pub top_moves : (f : Going) (left : List Item) (below : List Going) (b : Frame) (bs : List Frame) (registers : List (Option ℕ)) (block : ℕ) → (awaits_body left ≡ true → awaits_body f.left ≡ true) → KeepsLow w (PlanCode f.course f.form f.class) b.registers registers
-      → IsTop w at g p path under f below b bs → IsTop w at g p path under (at_left f left) below (frame_now b registers block) bs
+  pub top_moves : (f : Going) (left : List Item) (below : List Going) (b : MachineFrame) (bs : List MachineFrame) (registers : List (Option ℕ)) (block : ℕ) → (awaits_body left ≡ true → awaits_body f.left ≡ true) → KeepsLow w (PlanCode f.course f.form f.class) b.registers registers
+      → IsTopFrame w at g p path under f below b bs → IsTopFrame w at g p path under (at_left f left) below (frame_now b registers block) bs
   top_moves f left below b bs registers block less keeps top = record {
     more = top.more;
     rest = top.rest;
@@ -77,5 +77,5 @@ module _ (w : World) (at : Numbers) (g : Heap) (p : Planned) (path : List PathFr
   }
 
   -- the frame that runs a block has stepped to the block behind
-  pub top_steps : (f : Going) (below : List Going) (b : Frame) (bs : List Frame) → IsTop w at g p path under f below b bs → IsTop w at g p path under f below (stepping b) bs
+  pub top_steps : (f : Going) (below : List Going) (b : MachineFrame) (bs : List MachineFrame) → IsTopFrame w at g p path under f below b bs → IsTopFrame w at g p path under f below (stepping b) bs
   top_steps f below b bs top = top_moves f f.left below b bs b.registers (b.block + 1) (λ awaits. awaits) (low_itself w (PlanCode f.course f.form f.class) b.registers) top

@@ -18,9 +18,9 @@ use Rattle.cxx_program.specs.declared.program.TypedBody.{TypedBody}
 use Rattle.cxx_program.specs.Typed.{Scope, IsTyped, begins, assigns, IsConverted, a_right, an_object}
 use Rattle.path_model.specs.Values.{Value, Unset}
 use Rattle.path_plan.specs.Whole.{construction}
-use Rattle.path_model.specs.States.{State, Planned, Frame as PathFrame, InBody, bodies_of, with_objects, with_frames}
+use Rattle.path_model.specs.States.{ProgramState, Planned, Frame as PathFrame, InBody, plan_bodies, with_objects, with_frames}
 use Rattle.path_model.specs.TypedStates.{AreValues, AreTypedFrames}
-use Rattle.path_model.specs.Effects.{made as with_made, building, taker, new_made}
+use Rattle.path_model.specs.Effects.{with_new_object as with_made, building, taker, new_made}
 use Rattle.path_model.specs.Runs.{Move, asks_object, call_limit, limit_of, most_heap_bytes, heap_total, move_by}
 use Rattle.path_model.proofs.TypedValues.{values_set}
 use Rattle.byte_code.specs.declared.op.Op.{Op}
@@ -28,27 +28,27 @@ use Rattle.byte_code.specs.declared.op.Op.TheVariants.{Jump, New as NewOp}
 use Rattle.byte_memory.specs.Regions.{rounded}
 use Rattle.byte_memory.specs.Store.{IsRoom, open_of}
 use Rattle.byte_machine.specs.declared.turn.MachineTurn.TheVariants.{Went, Limit}
-use Rattle.byte_machine.specs.Heap.{heap_limit, made as with_listed}
+use Rattle.byte_machine.specs.Heap.{heap_limit, with_heap_object as with_listed}
 use Rattle.byte_machine.specs.Calls.{most_calls, kept_for, frame_at, made_at}
 use Rattle.byte_machine.specs.Effects.{jumping}
-use Rattle.byte_machine.specs.Frames.{Frame}
+use Rattle.byte_machine.specs.Frames.{MachineFrame}
 use Rattle.byte_machine.specs.Running.{Running, Answers}
 use Rattle.byte_machine.specs.Runs.{MayAsk}
-use Rattle.byte_machine.specs.Leads.{Leads, LeadsBlock}
+use Rattle.byte_machine.specs.Leads.{OpsLead, LeadsBlock}
 use Rattle.byte_machine.specs.declared.turn.RawOut.{RawOut}
 use Rattle.byte_machine.proofs.Leads.{below as less, not_below, leads_end}
 use Rattle.byte_machine.proofs.CallLeads.{leads_new, leads_new_full, leads_new_deep, room_within}
 use Rattle.byte_machine.proofs.ControlLeads.{leads_jump}
-use Rattle.code_blocks.specs.Blocks.{first_place, statement_ops}
+use Rattle.code_blocks.specs.Blocks.{routine_start, statement_ops}
 use Rattle.code_ops.specs.Setups.{PlanCode}
 use Rattle.code_ops.specs.declared.routines.Course.TheVariants.{Constructs}
 use Rattle.code_ops.specs.Uses.{check_ops, sorted_checks}
 use Rattle.path_plan.specs.Plans.{InFull}
 use Rattle.code_statements.specs.Rights.{object_taken}
-use Rattle.agree_relation.specs.Worlds.{classes_in, places_in, fixed}
+use Rattle.agree_relation.specs.Worlds.{world_classes, places_in, fixed}
 use Rattle.agree_relation.specs.Words.{heap_of}
 use Rattle.agree_relation.specs.Frames.{HasVariables, KeepsObject}
-use Rattle.agree_relation.specs.Stands.{Stands}
+use Rattle.agree_relation.specs.Stands.{StateStands}
 use Rattle.agree_relation.specs.Agrees.{ReadAs, Agrees, StandsNow}
 use Rattle.agree_statements.specs.Registers.{at_registers, body_on, frame_on}
 use Rattle.agree_statements.proofs.Registers.{variables_on}
@@ -74,14 +74,14 @@ module _ {statement : TypedStatement} (scene : Scene statement) (locals : List V
   open scene use {w, at, s, f, below, body, b}
 
   -- the state behind the statement, but for the object
-  abbrev on : State
+  abbrev on : ProgramState
   on = state_on s s.objects s.globals (body_on f locals statement.next) below
 
   -- a variable takes a new object; the locals are those behind the front of the statement
   pub record MakesObject : Type 0 where
-    pub locals_typed : AreValues (classes_in w) s.objects.classes locals body.locals
-    pub known : d.0 < length (classes_in w)
-    pub moves : move_in w s ≡ move_by (new_made (classes_in w) w.setup.program (state_on s s.objects s.globals (body_on f locals statement.next) below) d (taker variable c)) (limit_of (places_in w).size s (asks_object d))
+    pub locals_typed : AreValues (world_classes w) s.objects.classes locals body.locals
+    pub known : d.0 < length (world_classes w)
+    pub moves : move_in w s ≡ move_by (new_made (world_classes w) w.setup.program (state_on s s.objects s.globals (body_on f locals statement.next) below) d (taker variable c)) (limit_of (places_in w).size s (asks_object d))
 
   abbrev size : ℕ
   size = (places_in w).size d
@@ -89,7 +89,7 @@ module _ {statement : TypedStatement} (scene : Scene statement) (locals : List V
   -- limits
 
   limited : (limit : LimitNo) → MakesObject → limit_of (places_in w).size s (asks_object d) ≡ Some limit → (new : Running) → Reaches scene new (Answers (Limit (limit_no limit)))
-  limited limit makes e new = subst (λ (m : Move). Agrees w at m new (Limit (limit_no limit))) (sym (makes.moves ∙ ap (move_by (new_made (classes_in w) w.setup.program on d (taker variable c))) e)) refl
+  limited limit makes e new = subst (λ (m : Move). Agrees w at m new (Limit (limit_no limit))) (sym (makes.moves ∙ ap (move_by (new_made (world_classes w) w.setup.program on d (taker variable c))) e)) refl
 
   heap_is : b.heap ≡ heap_total (places_in w).size s.objects.classes
   heap_is = scene.begins.stands.columns.objects.heap_sum
@@ -108,11 +108,11 @@ module _ {statement : TypedStatement} (scene : Scene statement) (locals : List V
   -- the object is made
 
   abbrev start_of_plan : ℕ
-  start_of_plan = at (first_place w.setup (PlanCode Constructs InFull d))
+  start_of_plan = at (routine_start w.setup (PlanCode Constructs InFull d))
 
-  held : MakesObject → AreHeld (classes_in w) s.objects.classes (InBody (body_on f locals statement.next) ∷ below)
+  held : MakesObject → AreHeld (world_classes w) s.objects.classes (InBody (body_on f locals statement.next) ∷ below)
   held makes =
-      let h = classes_in w in
+      let h = world_classes w in
       let typed = subst (λ (frames : List PathFrame). AreTypedFrames h w.setup.program s.objects.classes frames) scene.next.frames scene.next.typed.frames in
       let all = frames_held h w.setup.program s.objects.classes (InBody f ∷ below) typed in
       (record { this = all.0.this; local = λ n v there. locals_held h s.objects.classes locals body.locals makes.locals_typed n v there }, all.1)
@@ -127,20 +127,20 @@ module _ {statement : TypedStatement} (scene : Scene statement) (locals : List V
       let after = stands_after w at s f below b (top scene) s.objects b.memory s.globals b.globals locals statement.next old (record { classes = refl; phases = refl }) refl scene.begins.stands.columns scene.begins.stands.globals
       (variables_on w (here scene) (body_on f locals f.next) statement.next old variables) in
       let target = taker variable c in
-      let planned : Planned = record { object = length s.objects.classes; is_building = true; events = construction (classes_in w) (bodies_of w.setup.program) (length s.objects.classes) d; target = target } in
+      let planned : Planned = record { object = length s.objects.classes; is_building = true; events = construction (world_classes w) (plan_bodies w.setup.program) (length s.objects.classes) d; target = target } in
       let keeps = subst (λ (o : Option TypedBody). KeepsObject w planned d o kept) (sym scene.next.there) (object_taken_kept w scene.world body variable d c) in
       let made = object_stands w at on b.memory b.objects b.heap b.notes b.globals waits b.calls scene.world after d start makes.known room target kept scene.next.typed.leaves scene.next.typed.globals (held makes) keeps in
-      let stack : opened ∷ waits ≡ (opened ∷ b.opened) ++ waits = ap (λ (o : List Frame). opened ∷ (o ++ waits)) (sym scene.begins.opened) in
-      let behind = with_frames (with_objects on (with_made on.objects d)) (building (classes_in w) w.setup.program (length s.objects.classes) d target ∷ on.frames) in
-      let stands : StandsNow w at behind new = subst (λ (frames : List Frame). Stands w at behind (open_of b.memory start size) (with_listed b.objects start size d.0) (b.heap + rounded size) b.notes b.globals frames (b.calls + 1)) stack made in
+      let stack : opened ∷ waits ≡ (opened ∷ b.opened) ++ waits = ap (λ (o : List MachineFrame). opened ∷ (o ++ waits)) (sym scene.begins.opened) in
+      let behind = with_frames (with_objects on (with_made on.objects d)) (building (world_classes w) w.setup.program (length s.objects.classes) d target ∷ on.frames) in
+      let stands : StandsNow w at behind new = subst (λ (frames : List MachineFrame). StateStands w at behind (open_of b.memory start size) (with_listed b.objects start size d.0) (b.heap + rounded size) b.notes b.globals frames (b.calls + 1)) stack made in
       let told : ReadAs w at (heap_of behind.objects.classes new.memory.regions) b.outs [] = subst (λ (outs : List RawOut). ReadAs w at (heap_of behind.objects.classes new.memory.regions) outs []) (sym scene.begins.silent) tt in
-      subst (λ (m : Move). Agrees w at m new Went) (sym (makes.moves ∙ ap (move_by (new_made (classes_in w) w.setup.program on d target)) none)) (stands, told, refl)
+      subst (λ (m : Move). Agrees w at m new Went) (sym (makes.moves ∙ ap (move_by (new_made (world_classes w) w.setup.program on d target)) none)) (stands, told, refl)
 
   pub new_right_does : MakesObject → DoesRight scene locals variable (record { right = New d; conversion = c })
   new_right_does makes old variables =
       let code = start_of_plan in
       let result = object_taken (block scene) variable d c in
-      subst (λ (checks : List Op). Leads (fixed w) (checks ++ (NewOp size d.0 code result ∷ Jump (to_next scene statement.next) ∷ [])) (at_registers b old) (Reaches scene)) (sym no_checks)
+      subst (λ (checks : List Op). OpsLead (fixed w) (checks ++ (NewOp size d.0 code result ∷ Jump (to_next scene statement.next) ∷ [])) (at_registers b old) (Reaches scene)) (sym no_checks)
       (⊎_elim
       (λ (past : heap_limit < b.heap + rounded size). leads_new_full (fixed w) size d.0 code result past (limited L8 makes (heap_past past) (at_registers b old)))
       (λ (fits : b.heap + rounded size ≤ heap_limit). ⊎_elim
@@ -171,7 +171,7 @@ module _ (variable : Variable) (d : ClassId) (c : Conversion) (line next : ℕ) 
   assign_new_does = assign_does variable (record { right = New d; conversion = c }) line next scene
       (new_right_does scene f.locals variable d c (record {
         locals_typed = (sees scene).locals;
-        known = assigned_known (classes_in w) (scope scene) variable d c (kind_typed scene);
+        known = assigned_known (world_classes w) (scope scene) variable d c (kind_typed scene);
         moves = move_asks w s f below body assignment scene.world scene.next tt refl;
       }))
 
@@ -183,10 +183,10 @@ module _ (n : ℕ) (d : ClassId) (c : Conversion) (line next : ℕ) (scene : Sce
 
   pub declare_new_does : LeadsBlock (fixed w) (statement_ops w.setup at (top scene).on.routine body f.next (record { kind = Declare n (Some (record { right = New d; conversion = c })); line = line; next = next })) b (Agrees w at (move_in w s))
   declare_new_does =
-      let k = declared_known (classes_in w) (scope scene) n d c (kind_typed scene) in
+      let k = declared_known (world_classes w) (scope scene) n d c (kind_typed scene) in
       declare_does n (record { right = New d; conversion = c }) line next scene
       (new_right_does scene (set f.locals n Unset) (Local n) d c (record {
-        locals_typed = values_set (classes_in w) s.objects.classes f.locals body.locals n k.0 Unset (sees scene).locals k.1 tt;
+        locals_typed = values_set (world_classes w) s.objects.classes f.locals body.locals n k.0 Unset (sees scene).locals k.1 tt;
         known = k.2;
         moves = move_asks w s f below body declaration scene.world scene.next tt refl;
       }))

@@ -14,28 +14,28 @@ use Rattle.path_plan.specs.Runs.{renewed}
 use Rattle.path_plan.specs.Whole.{whole_part, construction, destruction, IsSameBut}
 use Rattle.path_plan.proofs.Other.{other_renewed, renewed_new}
 use Rattle.path_model.specs.Values.{Value, Leaf}
-use Rattle.path_model.specs.States.{State, Planned, Target, bodies_of, with_objects, with_frames}
+use Rattle.path_model.specs.States.{ProgramState, Planned, Target, plan_bodies, with_objects, with_frames}
 use Rattle.path_model.specs.TypedStates.{AreValues, IsValue, IsLeafMade}
-use Rattle.path_model.specs.Effects.{made as with_made, building, ending}
-use Rattle.code_blocks.specs.Blocks.{first_place}
+use Rattle.path_model.specs.Effects.{with_new_object as with_made, building, ending}
+use Rattle.code_blocks.specs.Blocks.{routine_start}
 use Rattle.code_ops.specs.Setups.{PlanCode}
 use Rattle.code_ops.specs.declared.routines.Course.TheVariants.{Constructs, Deletes}
 use Rattle.byte_memory.specs.Regions.{rounded}
 use Rattle.byte_memory.specs.Store.{Store, IsRoom, open_of}
 use Rattle.byte_shadow.specs.Shadows.{Notes}
 use Rattle.byte_machine.specs.Calls.{frame_at}
-use Rattle.byte_machine.specs.Frames.{Frame, Kept, nothing_kept}
-use Rattle.byte_machine.specs.Heap.{made as with_listed}
+use Rattle.byte_machine.specs.Frames.{MachineFrame, Kept, nothing_kept}
+use Rattle.byte_machine.specs.Heap.{with_heap_object as with_listed}
 use Rattle.byte_machine.specs.declared.heap.Opened.{Opened}
 use Rattle.agree_parts.specs.Heaps.{Heap}
-use Rattle.agree_parts.specs.Placed.{IsObject, IsPlaced}
+use Rattle.agree_parts.specs.Placed.{IsObject, AreObjectsPlaced}
 use Rattle.agree_parts.proofs.Growth.{new_object}
 use Rattle.agree_parts.proofs.Objects.{one_start}
-use Rattle.agree_relation.specs.Worlds.{World, IsWorld, classes_in, places_in, fixed}
+use Rattle.agree_relation.specs.Worlds.{World, IsProgramWorld, world_classes, places_in, fixed}
 use Rattle.agree_relation.specs.Words.{heap_of, register_word}
-use Rattle.agree_relation.specs.Frames.{Numbers, body_below, object_kept, KeepsObject}
+use Rattle.agree_relation.specs.Frames.{PlaceNumbers, body_below, object_kept, KeepsObject}
 use Rattle.agree_relation.specs.Goings.{going, events_left}
-use Rattle.agree_relation.specs.Stands.{Stands}
+use Rattle.agree_relation.specs.Stands.{StateStands}
 use Rattle.agree_relation.proofs.ColumnsMade.{object_made}
 use Rattle.agree_relation.proofs.Grown.{heap_grown, address_grown, word_grown}
 use Rattle.agree_relation.proofs.Objects.{objects_placed, whole_address}
@@ -43,7 +43,7 @@ use Rattle.agree_relation.proofs.ObjectsMade.{new_region}
 use Rattle.agree_events.proofs.Noted.{at_part}
 use Rattle.agree_events.proofs.Events.{construction_events, destruction_events}
 use Rattle.agree_events.proofs.Firsts.{planned_first, planned_more}
-use Rattle.agree_objects.specs.Grown.{Grows, AreHeld}
+use Rattle.agree_objects.specs.Grown.{HeapGrows, AreHeld}
 use Rattle.agree_objects.proofs.Growing.{stand_grown}
 use Rattle.agree_objects.proofs.PlansOpened.{plan_counts, plan_opened}
 
@@ -54,13 +54,13 @@ renewed_same n s = record {
   running = λ j o other. sym ((other_renewed j n s other).running o);
 }
 
-module _ (w : World) (at : Numbers) (t : State) (memory : Store) (opened : List Opened) (heap : ℕ) (notes : Notes) (globals : List (Option ℕ)) (stack : List Frame) (calls : ℕ) (world : IsWorld w) (stands : Stands w at t memory opened heap notes globals stack calls) where
+module _ (w : World) (at : PlaceNumbers) (t : ProgramState) (memory : Store) (opened : List Opened) (heap : ℕ) (notes : Notes) (globals : List (Option ℕ)) (stack : List MachineFrame) (calls : ℕ) (world : IsProgramWorld w) (stands : StateStands w at t memory opened heap notes globals stack calls) where
   abbrev before : Heap
   before = heap_of t.objects.classes memory.regions
 
   -- one object more
 
-  module _ (d : ClassId) (start : ℕ) (known : d.0 < length (classes_in w)) (room : IsRoom memory start ((places_in w).size d)) where
+  module _ (d : ClassId) (start : ℕ) (known : d.0 < length (world_classes w)) (room : IsRoom memory start ((places_in w).size d)) where
     abbrev size : ℕ
     size = (places_in w).size d
 
@@ -70,17 +70,17 @@ module _ (w : World) (at : Numbers) (t : State) (memory : Store) (opened : List 
     abbrev now : Heap
     now = heap_of (t.objects.classes ++ d ∷ []) (memory.regions ++ new_region start ((places_in w).size d) ∷ [])
 
-    placed : IsPlaced (classes_in w) (places_in w) (heap_of t.objects.classes memory.regions)
+    placed : AreObjectsPlaced (world_classes w) (places_in w) (heap_of t.objects.classes memory.regions)
     placed = objects_placed w t.objects memory.regions opened heap stands.columns.objects
 
-    heap_grows : Grows w before now
+    heap_grows : HeapGrows w before now
     heap_grows = record {
       object = λ k c there. get_front t.objects.classes (d ∷ []) k c there;
       same = λ p c made. address_grown w t.objects.classes memory.regions d c (new_region start size) p placed made;
       word = λ v type typed. word_grown w t.objects.classes memory.regions d (new_region start size) (256 ^ 8) v type placed typed;
     }
 
-    words_grown : (values : List Value) (types : Types) → AreValues (classes_in w) t.objects.classes values types → map (register_word w now) values ≡ map (register_word w before) values
+    words_grown : (values : List Value) (types : Types) → AreValues (world_classes w) t.objects.classes values types → map (register_word w now) values ≡ map (register_word w before) values
     words_grown [] types typed = refl
     words_grown (v ∷ values) [] typed = absurd typed
     words_grown (v ∷ values) (type ∷ types) typed =
@@ -90,20 +90,20 @@ module _ (w : World) (at : Numbers) (t : State) (memory : Store) (opened : List 
 
     -- the plan of the new object
     abbrev planned : Option Target → Planned
-    planned target = record { object = number; is_building = true; events = construction (classes_in w) (bodies_of w.setup.program) number d; target = target }
+    planned target = record { object = number; is_building = true; events = construction (world_classes w) (plan_bodies w.setup.program) number d; target = target }
 
-    pub object_stands : (target : Option Target) (kept : Kept) → ((l : Leaf) (type : ValueType ClassId) → IsLeafMade (classes_in w) t.objects.classes l type → IsValue (classes_in w) t.objects.classes (t.objects.leaf l) type)
-        → AreValues (classes_in w) t.objects.classes t.globals w.setup.program.globals → AreHeld (classes_in w) t.objects.classes t.frames
-        → KeepsObject w (record { object = length t.objects.classes; is_building = true; events = construction (classes_in w) (bodies_of w.setup.program) (length t.objects.classes) d; target = target }) d (body_below w t.frames) kept
-        → Stands w at (with_frames (with_objects t (with_made t.objects d)) (building (classes_in w) w.setup.program (length t.objects.classes) d target ∷ t.frames)) (open_of memory start ((places_in w).size d)) (with_listed opened start ((places_in w).size d) d.0) (heap + rounded ((places_in w).size d)) notes globals
-        (frame_at (fixed w) (at (first_place w.setup (PlanCode Constructs InFull d))) start [] kept ∷ stack) (calls + 1)
+    pub object_stands : (target : Option Target) (kept : Kept) → ((l : Leaf) (type : ValueType ClassId) → IsLeafMade (world_classes w) t.objects.classes l type → IsValue (world_classes w) t.objects.classes (t.objects.leaf l) type)
+        → AreValues (world_classes w) t.objects.classes t.globals w.setup.program.globals → AreHeld (world_classes w) t.objects.classes t.frames
+        → KeepsObject w (record { object = length t.objects.classes; is_building = true; events = construction (world_classes w) (plan_bodies w.setup.program) (length t.objects.classes) d; target = target }) d (body_below w t.frames) kept
+        → StateStands w at (with_frames (with_objects t (with_made t.objects d)) (building (world_classes w) w.setup.program (length t.objects.classes) d target ∷ t.frames)) (open_of memory start ((places_in w).size d)) (with_listed opened start ((places_in w).size d) d.0) (heap + rounded ((places_in w).size d)) notes globals
+        (frame_at (fixed w) (at (routine_start w.setup (PlanCode Constructs InFull d))) start [] kept ∷ stack) (calls + 1)
     object_stands target kept leaves typed held keeps =
         let columns = object_made w t.objects memory opened heap notes d start world stands.columns known room leaves in
         let there : slice_get now.classes number ≡ Some d = get_last t.objects.classes d in
         let new = renewed_new number t.objects.phases in
         let more = planned_more w t.objects.classes t.objects.phases (renewed number t.objects.phases) d stands.frames.goings (renewed_same number t.objects.phases) new stands.frames.planned in
         let over = stand_grown w at before now heap_grows None t.frames (λ f none. absurd (cc)) held stands.frames.goings stack stands.frames.planned.going stands.frames.frames in
-        let events : construction (classes_in w) (bodies_of w.setup.program) number d ≡ events_left w (going w Constructs InFull d (whole_part number d) ∷ []) = sym (construction_events w world.hierarchy number d [] ∙ append-nil (construction (classes_in w) (bodies_of w.setup.program) number d)) in
+        let events : construction (world_classes w) (plan_bodies w.setup.program) number d ≡ events_left w (going w Constructs InFull d (whole_part number d) ∷ []) = sym (construction_events w world.hierarchy number d [] ∙ append-nil (construction (world_classes w) (plan_bodies w.setup.program) number d)) in
         record {
           columns = columns;
           globals = stands.globals ∙ sym (words_grown t.globals w.setup.program.globals typed);
@@ -117,7 +117,7 @@ module _ (w : World) (at : Numbers) (t : State) (memory : Store) (opened : List 
       where
         place : start ≡ at_part w now (whole_part number d)
         place =
-            let made : IsObject now number d start = subst (λ (g : Heap). IsObject g number d start) (sym (heap_grown t.objects.classes memory.regions d (new_region start size))) (new_object (classes_in w) (places_in w) before d start placed) in
+            let made : IsObject now number d start = subst (λ (g : Heap). IsObject g number d start) (sym (heap_grown t.objects.classes memory.regions d (new_region start size))) (new_object (world_classes w) (places_in w) before d start placed) in
             one_start now number d start made ∙ sym (whole_address w now number d (get_last t.objects.classes d))
 
   -- one that is deleted
@@ -126,12 +126,12 @@ module _ (w : World) (at : Numbers) (t : State) (memory : Store) (opened : List 
   nothing_keeps p c none None = refl
   nothing_keeps p c none (Some body) = ap (object_kept w body c) (sym none)
 
-  pub ending_stands : (k : ℕ) (c : ClassId) → slice_get t.objects.classes k ≡ Some c → c.0 < length (classes_in w) → ((o : List Step) → t.objects.phases.running k o ≡ [])
-      → Stands w at (with_frames t (ending (classes_in w) w.setup.program k c ∷ t.frames)) memory opened heap notes globals
-      (frame_at (fixed w) (at (first_place w.setup (PlanCode Deletes InFull c))) (at_part w (heap_of t.objects.classes memory.regions) (whole_part k c)) [] nothing_kept ∷ stack) (calls + 1)
+  pub ending_stands : (k : ℕ) (c : ClassId) → slice_get t.objects.classes k ≡ Some c → c.0 < length (world_classes w) → ((o : List Step) → t.objects.phases.running k o ≡ [])
+      → StateStands w at (with_frames t (ending (world_classes w) w.setup.program k c ∷ t.frames)) memory opened heap notes globals
+      (frame_at (fixed w) (at (routine_start w.setup (PlanCode Deletes InFull c))) (at_part w (heap_of t.objects.classes memory.regions) (whole_part k c)) [] nothing_kept ∷ stack) (calls + 1)
   ending_stands k c there known idle =
-      let events : destruction (classes_in w) (bodies_of w.setup.program) k c ≡ events_left w (going w Deletes InFull c (whole_part k c) ∷ []) = sym (destruction_events w world.hierarchy k c [] ∙ append-nil (destruction (classes_in w) (bodies_of w.setup.program) k c)) in
-      let p : Planned = record { object = k; is_building = false; events = destruction (classes_in w) (bodies_of w.setup.program) k c; target = None } in
+      let events : destruction (world_classes w) (plan_bodies w.setup.program) k c ≡ events_left w (going w Deletes InFull c (whole_part k c) ∷ []) = sym (destruction_events w world.hierarchy k c [] ∙ append-nil (destruction (world_classes w) (plan_bodies w.setup.program) k c)) in
+      let p : Planned = record { object = k; is_building = false; events = destruction (world_classes w) (plan_bodies w.setup.program) k c; target = None } in
       record {
         columns = stands.columns;
         globals = stands.globals;

@@ -13,12 +13,12 @@ use Rattle.abi_sound.specs.declared.class_layout.ClassLayout.{ClassLayout}
 use Rattle.abi_sound.specs.Places.{Places, places_of}
 use Rattle.byte_memory.specs.declared.memory.Region.{Region}
 use Rattle.byte_memory.specs.declared.memory.MemoryFault.TheVariants.{Closed}
-use Rattle.byte_memory.specs.Regions.{IsAscendingBy, fault_at, close_fault, holds, starts, shut}
+use Rattle.byte_memory.specs.Regions.{IsAscendingBy, fault_at, close_fault, holds_bytes, starts, shut}
 use Rattle.byte_memory.specs.Store.{Store, IsRoom, open_of}
 use Rattle.byte_memory.proofs.Ascending.{HasAddress, find-last}
 use Rattle.byte_memory.proofs.Reached.{holds-address, shut_same, slice_get-shut}
-use Rattle.agree_parts.specs.Heaps.{Heap, no_objects, grown}
-use Rattle.agree_parts.specs.Placed.{IsObject, IsPlaced, IsLaid, LieIn, IsFree}
+use Rattle.agree_parts.specs.Heaps.{Heap, empty_heap, grown}
+use Rattle.agree_parts.specs.Placed.{IsObject, AreObjectsPlaced, AreObjectsLaid, LieIn, IsFree}
 use Rattle.agree_parts.specs.Regions.{AreExtents, AreRegions}
 use Rattle.agree_parts.proofs.Objects.{also_there}
 
@@ -40,13 +40,13 @@ pub record HasObject {X : Type 0} (l : Places) (g : Heap) (start size : X → �
   pub object : IsObject g k class (start x)
   pub sized : size x ≡ l.size class
 
-pub object_of_item : {X : Type 0} (h : Classes) (l : Places) (g : Heap) (start size : X → ℕ) (xs : List X) (k : ℕ) (x : X) → IsPlaced h l g → AreExtents l g start size xs → slice_get xs k ≡ Some x → HasObject l g start size k x
+pub object_of_item : {X : Type 0} (h : Classes) (l : Places) (g : Heap) (start size : X → ℕ) (xs : List X) (k : ℕ) (x : X) → AreObjectsPlaced h l g → AreExtents l g start size xs → slice_get xs k ≡ Some x → HasObject l g start size k x
 object_of_item h l g start size xs k x placed extents there =
     let first : slice_get g.starts k ≡ Some (start x) = ap (λ ys. slice_get ys k) (sym extents.starts) ∙ get_map start xs k x there in
     let class = also_there g.starts g.classes k (start x) (sym placed.one_each) first in
     record { class = class.0; object = record { class = class.1; there = first }; sized = extents.sizes k x class.0 there class.1 }
 
-pub items_ascend : {X : Type 0} (h : Classes) (l : Places) (g : Heap) (start size : X → ℕ) (xs : List X) → IsPlaced h l g → AreExtents l g start size xs → IsAscendingBy start size xs
+pub items_ascend : {X : Type 0} (h : Classes) (l : Places) (g : Heap) (start size : X → ℕ) (xs : List X) → AreObjectsPlaced h l g → AreExtents l g start size xs → IsAscendingBy start size xs
 items_ascend h l g start size xs placed extents i j x y less here there =
     let a = object_of_item h l g start size xs i x placed extents here in
     let b = object_of_item h l g start size xs j y placed extents there in
@@ -55,7 +55,7 @@ items_ascend h l g start size xs placed extents i j x y less here there =
     omega arith
 
 -- a test that asks for the address finds the item of the object that has it
-found_by : {X : Type 0} (h : Classes) (l : Places) (g : Heap) (start size : X → ℕ) (xs : List X) (p : X → Bool) (at k : ℕ) (c : ClassId) (first : ℕ) → IsPlaced h l g → AreExtents l g start size xs → HasAddress start size xs at p → IsObject g k c first →
+found_by : {X : Type 0} (h : Classes) (l : Places) (g : Heap) (start size : X → ℕ) (xs : List X) (p : X → Bool) (at k : ℕ) (c : ClassId) (first : ℕ) → AreObjectsPlaced h l g → AreExtents l g start size xs → HasAddress start size xs at p → IsObject g k c first →
     ((x : X) → start x ≡ first → size x ≡ l.size c → p x ≡ true) → find p xs ≡ slice_get xs k
 found_by h l g start size xs p at k c first placed extents has object pass =
     let x = item_of l g start size xs k c first extents object in
@@ -66,7 +66,7 @@ abbrev pub has_address : {X : Type 0} → (X → ℕ) → (X → ℕ) → ℕ �
 has_address start size at x = nat_le (start x) at && nat_lt at (start x + size x)
 
 -- an address in an object finds its item
-pub item_found : {X : Type 0} (h : Classes) (l : Places) (g : Heap) (start size : X → ℕ) (xs : List X) (k at : ℕ) → IsPlaced h l g → AreExtents l g start size xs → LieIn l g k at 1 → find (has_address start size at) xs ≡ slice_get xs k
+pub item_found : {X : Type 0} (h : Classes) (l : Places) (g : Heap) (start size : X → ℕ) (xs : List X) (k at : ℕ) → AreObjectsPlaced h l g → AreExtents l g start size xs → LieIn l g k at 1 → find (has_address start size at) xs ≡ slice_get xs k
 item_found h l g start size xs k at placed extents inside =
     let low = inside.low in
     let high = inside.high in
@@ -74,15 +74,15 @@ item_found h l g start size xs k at placed extents inside =
     (λ x starts sized. grind (arith, nat_tests))
 
 -- bytes in an object find its region
-pub region_found : (h : Classes) (l : Places) (g : Heap) (regions : List Region) (k at n : ℕ) → IsPlaced h l g → AreRegions l g regions → 0 < n → LieIn l g k at n → find (holds at n) regions ≡ slice_get regions k
+pub region_found : (h : Classes) (l : Places) (g : Heap) (regions : List Region) (k at n : ℕ) → AreObjectsPlaced h l g → AreRegions l g regions → 0 < n → LieIn l g k at n → find (holds_bytes at n) regions ≡ slice_get regions k
 region_found h l g regions k at n placed extents some inside =
     let low = inside.low in
     let high = inside.high in
-    found_by h l g (λ (r : Region). r.start) (λ r. r.size) regions (holds at n) at k inside.class inside.start placed extents (holds-address regions at n some) inside.object
+    found_by h l g (λ (r : Region). r.start) (λ r. r.size) regions (holds_bytes at n) at k inside.class inside.start placed extents (holds-address regions at n some) inside.object
     (λ r starts sized. grind (arith, nat_tests))
 
 -- and so does the address where the object starts
-pub start_found : (h : Classes) (rows : List ClassLayout) (g : Heap) (regions : List Region) (k start : ℕ) (c : ClassId) → IsLaid h rows g → AreRegions (places_of h rows) g regions → IsObject g k c start → find (starts start) regions ≡ slice_get regions k
+pub start_found : (h : Classes) (rows : List ClassLayout) (g : Heap) (regions : List Region) (k start : ℕ) (c : ClassId) → AreObjectsLaid h rows g → AreRegions (places_of h rows) g regions → IsObject g k c start → find (starts start) regions ≡ slice_get regions k
 start_found h rows g regions k start c laid extents object =
     found_by h (places_of h rows) g (λ (r : Region). r.start) (λ r. r.size) regions (starts start) start k c start laid.placed extents has object (λ r starts sized. grind (arith, nat_tests))
   where
@@ -98,22 +98,22 @@ pub object_region : (l : Places) (g : Heap) (regions : List Region) (k : ℕ) (c
 object_region l g regions k c start extents object = let x = item_of l g (λ (r : Region). r.start) (λ r. r.size) regions k c start extents object in (x.item, x.there, x.starts, x.sized)
 
 -- bytes in an object can be reached while its region is open
-pub reached_open : (h : Classes) (l : Places) (g : Heap) (regions : List Region) (r : Region) (k at n : ℕ) → IsPlaced h l g → AreRegions l g regions → 0 < n → LieIn l g k at n → slice_get regions k ≡ Some r → r.is_open ≡ true → fault_at regions at n ≡ None
+pub reached_open : (h : Classes) (l : Places) (g : Heap) (regions : List Region) (r : Region) (k at n : ℕ) → AreObjectsPlaced h l g → AreRegions l g regions → 0 < n → LieIn l g k at n → slice_get regions k ≡ Some r → r.is_open ≡ true → fault_at regions at n ≡ None
 reached_open h l g regions r k at n placed extents some inside there is_open = rw (region_found h l g regions k at n placed extents some inside, there, is_open) refl
 
 -- and are refused as closed else
-pub refused_closed : (h : Classes) (l : Places) (g : Heap) (regions : List Region) (r : Region) (k at n : ℕ) → IsPlaced h l g → AreRegions l g regions → 0 < n → LieIn l g k at n → slice_get regions k ≡ Some r → r.is_open ≡ false → fault_at regions at n ≡ Some (Closed at)
+pub refused_closed : (h : Classes) (l : Places) (g : Heap) (regions : List Region) (r : Region) (k at n : ℕ) → AreObjectsPlaced h l g → AreRegions l g regions → 0 < n → LieIn l g k at n → slice_get regions k ≡ Some r → r.is_open ≡ false → fault_at regions at n ≡ Some (Closed at)
 refused_closed h l g regions r k at n placed extents some inside there is_closed = rw (region_found h l g regions k at n placed extents some inside, there, is_closed) refl
 
 -- an open one can be closed at its start
-pub start_closes : (h : Classes) (rows : List ClassLayout) (g : Heap) (regions : List Region) (r : Region) (k : ℕ) (c : ClassId) (start : ℕ) → IsLaid h rows g → AreRegions (places_of h rows) g regions → IsObject g k c start → slice_get regions k ≡ Some r → r.is_open ≡ true → close_fault regions start ≡ None
+pub start_closes : (h : Classes) (rows : List ClassLayout) (g : Heap) (regions : List Region) (r : Region) (k : ℕ) (c : ClassId) (start : ℕ) → AreObjectsLaid h rows g → AreRegions (places_of h rows) g regions → IsObject g k c start → slice_get regions k ≡ Some r → r.is_open ≡ true → close_fault regions start ≡ None
 start_closes h rows g regions r k c start laid extents object there is_open = rw (start_found h rows g regions k start c laid extents object, there, is_open) refl
 
-pub no_regions : (l : Places) → AreRegions l no_objects []
+pub no_regions : (l : Places) → AreRegions l empty_heap []
 no_regions l = record { starts = refl; sizes = λ k r c there class. absurd (let e : None ≡ Some r = there in cc) }
 
 -- one more item is that of one more object
-pub items_grown : {X : Type 0} (h : Classes) (l : Places) (g : Heap) (start size : X → ℕ) (xs : List X) (x : X) (c : ClassId) → IsPlaced h l g → AreExtents l g start size xs → size x ≡ l.size c → AreExtents l (grown g c (start x)) start size (xs ++ x ∷ [])
+pub items_grown : {X : Type 0} (h : Classes) (l : Places) (g : Heap) (start size : X → ℕ) (xs : List X) (x : X) (c : ClassId) → AreObjectsPlaced h l g → AreExtents l g start size xs → size x ≡ l.size c → AreExtents l (grown g c (start x)) start size (xs ++ x ∷ [])
 items_grown {X} h l g start size xs x c placed extents sized = record {
   starts = map-append start xs (x ∷ []) ∙ ap (λ ys. ys ++ start x ∷ []) extents.starts;
   sizes = λ k y d there class. ⊎_elim (λ old. of_old k y d old class) (λ new. of_new k y d new.0 new.1 class) (get_pushed xs x k y there);
@@ -128,7 +128,7 @@ items_grown {X} h l g start size xs x c placed extents sized = record {
     of_new : (k : ℕ) (y : X) (d : ClassId) → k ≡ length xs → y ≡ x → slice_get (g.classes ++ c ∷ []) k ≡ Some d → size y ≡ l.size d
     of_new k y d at same class = ⊎_elim (λ before. let within = slice_get_within g.classes k d before in let long = as_long in absurd (omega arith)) (λ last. ap size same ∙ (sized ∙ ap l.size (sym last.1))) (get_pushed g.classes c k d class)
 
-pub regions_grown : (h : Classes) (l : Places) (g : Heap) (c : ClassId) (memory : Store) (at : ℕ) → IsPlaced h l g → AreRegions l g memory.regions → AreRegions l (grown g c at) (open_of memory at (l.size c)).regions
+pub regions_grown : (h : Classes) (l : Places) (g : Heap) (c : ClassId) (memory : Store) (at : ℕ) → AreObjectsPlaced h l g → AreRegions l g memory.regions → AreRegions l (grown g c at) (open_of memory at (l.size c)).regions
 regions_grown h l g c memory at placed extents = items_grown h l g (λ (r : Region). r.start) (λ r. r.size) memory.regions (record { start = at; size = l.size c; is_open = true }) c placed extents refl
 
 -- a memory with room for an object is free there

@@ -12,13 +12,13 @@ use Rattle.path_model.specs.Values.{Leaf}
 use Rattle.path_model.specs.TypedStates.{IsPartMade, IsLeafMade}
 use Rattle.abi_sound.specs.Places.{Places}
 use Rattle.abi_sound.specs.Locations.{element_place, span_of}
-use Rattle.agree_parts.specs.Heaps.{Heap, no_objects, or_zero, start_of, grown}
+use Rattle.agree_parts.specs.Heaps.{Heap, empty_heap, or_zero, object_start, grown}
 use Rattle.agree_parts.specs.Addresses.{part_place, address, member_within, leaf_bits}
-use Rattle.agree_parts.specs.Placed.{IsObject, IsPlaced, LieIn, IsFree}
+use Rattle.agree_parts.specs.Placed.{IsObject, AreObjectsPlaced, LieIn, IsFree}
 use Rattle.agree_parts.proofs.Objects.{object_there}
 
 -- without objects there is nothing to lie apart
-pub none_placed : (h : Classes) (l : Places) → IsPlaced h l no_objects
+pub none_placed : (h : Classes) (l : Places) → AreObjectsPlaced h l empty_heap
 none_placed h l = record {
   one_each = refl;
   known = λ k c class. absurd (let e : None ≡ Some c = class in cc);
@@ -28,18 +28,18 @@ none_placed h l = record {
 }
 
 -- it has the next number
-pub new_object : (h : Classes) (l : Places) (g : Heap) (c : ClassId) (start : ℕ) → IsPlaced h l g → IsObject (grown g c start) (length g.classes) c start
+pub new_object : (h : Classes) (l : Places) (g : Heap) (c : ClassId) (start : ℕ) → AreObjectsPlaced h l g → IsObject (grown g c start) (length g.classes) c start
 new_object h l g c start placed = record { class = get_last g.classes c; there = ap (slice_get (g.starts ++ start ∷ [])) (sym placed.one_each) ∙ get_last g.starts start }
 
 -- an object that is there now was there, or is the new one
-pub object_before : (h : Classes) (l : Places) (g : Heap) (c : ClassId) (start : ℕ) → IsPlaced h l g → (k : ℕ) (d : ClassId) (first : ℕ) → IsObject (grown g c start) k d first → IsObject g k d first ⊎ ((k ≡ length g.classes) × (d ≡ c) × (first ≡ start))
+pub object_before : (h : Classes) (l : Places) (g : Heap) (c : ClassId) (start : ℕ) → AreObjectsPlaced h l g → (k : ℕ) (d : ClassId) (first : ℕ) → IsObject (grown g c start) k d first → IsObject g k d first ⊎ ((k ≡ length g.classes) × (d ≡ c) × (first ≡ start))
 object_before h l g c start placed k d first object = ⊎_elim
     (λ class. ⊎_elim (λ there. inl (record { class = class; there = there })) (λ there. let within = slice_get_within g.classes k d class in let last = there.0 in let each = placed.one_each in absurd (omega arith)) (get_pushed g.starts start k first object.there))
     (λ class. ⊎_elim (λ there. let within = slice_get_within g.starts k first there in let last = class.0 in let each = placed.one_each in absurd (omega arith)) (λ there. inr (class.0, class.1, there.1)) (get_pushed g.starts start k first object.there))
     (get_pushed g.classes c k d object.class)
 
 -- objects still lie apart
-pub still_placed : (h : Classes) (l : Places) (g : Heap) (c : ClassId) (start : ℕ) → IsPlaced h l g → IsFree h l g c start → IsPlaced h l (grown g c start)
+pub still_placed : (h : Classes) (l : Places) (g : Heap) (c : ClassId) (start : ℕ) → AreObjectsPlaced h l g → IsFree h l g c start → AreObjectsPlaced h l (grown g c start)
 still_placed h l g c start placed free = record {
   one_each = length_pushed g.starts start ∙ (ap (λ n. n + 1) placed.one_each ∙ sym (length_pushed g.classes c));
   known = λ k d class. ⊎_elim (λ old. placed.known k d old) (λ new. subst (λ (x : ClassId). x.0 < length h) (sym new.1) free.known) (get_pushed g.classes c k d class);
@@ -52,14 +52,14 @@ still_placed h l g c start placed free = record {
 }
 
 -- a part lies where it lay
-pub address_kept : (h : Classes) (l : Places) (g : Heap) (c d : ClassId) (start : ℕ) (p : ObjectPart) → IsPlaced h l g → IsPartMade h g.classes p d → address h l (grown g c start) p ≡ address h l g p
+pub address_kept : (h : Classes) (l : Places) (g : Heap) (c d : ClassId) (start : ℕ) (p : ObjectPart) → AreObjectsPlaced h l g → IsPartMade h g.classes p d → address h l (grown g c start) p ≡ address h l g p
 address_kept h l g c d start p placed m =
     let there = (object_there h l g p.object m.class placed m.made).there in
-    let at : start_of (grown g c start) p.object ≡ start_of g p.object = ap or_zero (get_front g.starts (start ∷ []) p.object _ there) in
+    let at : object_start (grown g c start) p.object ≡ object_start g p.object = ap or_zero (get_front g.starts (start ∷ []) p.object _ there) in
     let place : part_place h l (slice_get (g.classes ++ c ∷ []) p.object) p ≡ part_place h l (slice_get g.classes p.object) p = ap (λ (o : Option ClassId). part_place h l o p) (get_front g.classes (c ∷ []) p.object m.class m.made ∙ sym m.made) in
     omega (arith, at, place)
 
-pub leaf_kept : (h : Classes) (l : Places) (g : Heap) (c : ClassId) (start : ℕ) (a : Leaf) (t : ValueType ClassId) → IsPlaced h l g → IsLeafMade h g.classes a t → leaf_bits h l (grown g c start) a ≡ leaf_bits h l g a
+pub leaf_kept : (h : Classes) (l : Places) (g : Heap) (c : ClassId) (start : ℕ) (a : Leaf) (t : ValueType ClassId) → AreObjectsPlaced h l g → IsLeafMade h g.classes a t → leaf_bits h l (grown g c start) a ≡ leaf_bits h l g a
 leaf_kept h l g c start a t placed m =
     ap (λ n. span_of h l (n + element_place h l (class_of a.part.at) a.member a.index) (member_within (class_of a.part.at) a.member)) (address_kept h l g c m.class start a.part placed m.part)
 

@@ -10,7 +10,7 @@ use Rattle.cxx_subobject.specs.Subobjects.{class_of}
 use Rattle.cxx_subobject.specs.Locations.{Step, hops_of_steps, hops_of}
 use Rattle.cxx_subobject.proofs.LocationLemmas.{hops_outside}
 use Rattle.abi_sound.specs.Places.{Places}
-use Rattle.abi_sound.specs.Locations.{element_class, owner_class}
+use Rattle.abi_sound.specs.Locations.{element_class, class_at_steps}
 use Rattle.abi_sound.specs.Chains.{IsInChain, ShareChain, downwards, upwards, in_element}
 use Rattle.abi_sound.proofs.PlaceLemmas.{element_class_is}
 
@@ -61,12 +61,12 @@ pub record HasOneOwner (h : Classes) (l : Places) (c : ClassId) (hops others : L
   pub complete : ClassId
   pub at_first : Subobject
   pub at_second : Subobject
-  pub leads : owner_class h c steps ≡ Some complete
+  pub leads : class_at_steps h c steps ≡ Some complete
   pub first : hops ≡ hops_of steps at_first
   pub second : others ≡ hops_of steps at_second
   pub chain : IsInChain l complete at_first at_second ⊎ IsInChain l complete at_second at_first
 
-class_outside : (h : Classes) (c e d : ClassId) (step : Step) (steps : List Step) → element_class h (class_of step.base) step.member ≡ Some e → owner_class h e steps ≡ Some d → owner_class h c (steps ++ step ∷ []) ≡ Some d
+class_outside : (h : Classes) (c e d : ClassId) (step : Step) (steps : List Step) → element_class h (class_of step.base) step.member ≡ Some e → class_at_steps h e steps ≡ Some d → class_at_steps h c (steps ++ step ∷ []) ≡ Some d
 class_outside h c e d step [] first leads = first ∙ leads
 class_outside h c e d step (inner ∷ steps) first leads = leads
 

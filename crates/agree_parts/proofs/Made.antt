@@ -27,9 +27,9 @@ use Rattle.path_model.proofs.TypedPlaces.{element_made}
 use Rattle.path_model.proofs.TypedValues.{inner_made}
 use Rattle.path_model.proofs.TypedViews.{owner_is}
 use Rattle.abi_sound.specs.Places.{Places, size_of_value}
-use Rattle.abi_sound.specs.Locations.{base_place_in, owner_place, place_at, last_member, span_of, leaf_span, bits_of_type, bits_of_value, bits_of_member, owner_class as class_behind}
+use Rattle.abi_sound.specs.Locations.{base_place_in, owner_place, place_along_hops, last_member, span_of, leaf_span, bits_of_type, bits_of_value, bits_of_member, class_at_steps as class_behind}
 use Rattle.abi_sound.proofs.PlaceLemmas.{owner_class_is, owner_place_is, behind_steps, place_at_value, element_place_is}
-use Rattle.agree_parts.specs.Heaps.{Heap, start_of}
+use Rattle.agree_parts.specs.Heaps.{Heap, object_start}
 use Rattle.agree_parts.specs.Addresses.{part_place, address, leaf_address, span, member_within, leaf_bits}
 
 -- parts of parts
@@ -112,7 +112,7 @@ class_known h g p c keeps known m =
 -- places
 
 -- the address of a part, by the place of its complete object and its own there
-pub address_in : (h : Classes) (l : Places) (g : Heap) (p : ObjectPart) (c d : ClassId) → slice_get g.classes p.object ≡ Some c → IsOwner h c p.owner d → address h l g p ≡ start_of g p.object + (owner_place h l c p.owner + l.place d p.at)
+pub address_in : (h : Classes) (l : Places) (g : Heap) (p : ObjectPart) (c d : ClassId) → slice_get g.classes p.object ≡ Some c → IsOwner h c p.owner d → address h l g p ≡ object_start g p.object + (owner_place h l c p.owner + l.place d p.at)
 address_in h l g p c d made owner =
     let in_object : part_place h l (slice_get g.classes p.object) p ≡ part_place h l (Some c) p = ap (λ (o : Option ClassId). part_place h l o p) made in
     let own : base_place_in l (class_behind h c p.owner) p.at ≡ l.place d p.at = ap (λ (o : Option ClassId). base_place_in l o p.at) (owner_class_is h c d p.owner owner) in
@@ -122,7 +122,7 @@ address_in h l g p c d made owner =
 pub part_leads : (h : Classes) (g : Heap) (p : ObjectPart) (c : ClassId) → (m : IsPartMade h g.classes p c) → LeadsTo h m.class (hops_of p.owner p.at) (Object c)
 part_leads h g p c m = hops_lead h m.class p.owner m.inside.0 c p.at m.inside.1 m.inside.2 m.of_class
 
-pub part_at : (h : Classes) (l : Places) (g : Heap) (p : ObjectPart) (c : ClassId) → (m : IsPartMade h g.classes p c) → address h l g p ≡ start_of g p.object + place_at h l m.class (hops_of p.owner p.at)
+pub part_at : (h : Classes) (l : Places) (g : Heap) (p : ObjectPart) (c : ClassId) → (m : IsPartMade h g.classes p c) → address h l g p ≡ object_start g p.object + place_along_hops h l m.class (hops_of p.owner p.at)
 part_at h l g p c m = let own = address_in h l g p m.class m.inside.0 m.made m.inside.1 in let place = owner_place_is h l m.class m.inside.0 p.owner p.at m.inside.1 in omega (arith, own, place)
 
 -- the address of a leaf, from that of its part
@@ -136,7 +136,7 @@ leaf_hops a = hops_to_element a.part.owner a.part.at a.member a.index
 pub leaf_leads : (h : Classes) (g : Heap) (a : Leaf) (t : ValueType ClassId) → (m : IsLeafMade h g.classes a t) → LeadsTo h m.part.class (leaf_hops a) (Value t)
 leaf_leads h g a t m = hops_lead_to_leaf h m.part.class a.part.owner m.part.inside.0 m.class a.part.at a.member a.index t m.part.inside.1 m.part.inside.2 m.part.of_class m.element
 
-pub leaf_at : (h : Classes) (l : Places) (g : Heap) (a : Leaf) (t : ValueType ClassId) → (m : IsLeafMade h g.classes a t) → leaf_address h l g a ≡ start_of g a.part.object + place_at h l m.part.class (leaf_hops a)
+pub leaf_at : (h : Classes) (l : Places) (g : Heap) (a : Leaf) (t : ValueType ClassId) → (m : IsLeafMade h g.classes a t) → leaf_address h l g a ≡ object_start g a.part.object + place_along_hops h l m.part.class (leaf_hops a)
 leaf_at h l g a t m =
     let from_part = leaf_from_part h l g a m.class t m.part.of_class m.element in
     let own = address_in h l g a.part m.part.class m.part.inside.0 m.part.made m.part.inside.1 in
@@ -174,13 +174,13 @@ bits_from_part h l g a c t class is =
 
 -- and by where its object starts
 pub leaf_span_is : (h : Classes) (l : Places) (g : Heap) (a : Leaf) (t : ValueType ClassId) → (m : IsLeafMade h g.classes a t) →
-    leaf_bits h l g a ≡ span (8 * start_of g a.part.object + (leaf_span h l m.part.class (leaf_hops a)).start) (leaf_span h l m.part.class (leaf_hops a)).length
+    leaf_bits h l g a ≡ span (8 * object_start g a.part.object + (leaf_span h l m.part.class (leaf_hops a)).start) (leaf_span h l m.part.class (leaf_hops a)).length
 leaf_span_is h l g a t m =
-    let place = place_at h l m.part.class (leaf_hops a) in
+    let place = place_along_hops h l m.part.class (leaf_hops a) in
     let first = l.first m.class a.member in
     let bits = bits_of_member (slice_get (members_of h m.class) a.member) in
     let at = leaf_at h l g a t m in
-    let sum : 8 * leaf_address h l g a + first ≡ 8 * start_of g a.part.object + (8 * place + first) = omega (arith, at) in
+    let sum : 8 * leaf_address h l g a + first ≡ 8 * object_start g a.part.object + (8 * place + first) = omega (arith, at) in
     ap (λ (o : Option ClassId). span_of h l (leaf_address h l g a) (member_within o a.member)) m.part.of_class
     ∙ (ap (λ n. span n bits) sum
-    ∙ ap (λ (o : Option (ClassId × ℕ)). span (8 * start_of g a.part.object + (span_of h l place o).start) (span_of h l place o).length) (sym (leaf_last h g a t m)))
+    ∙ ap (λ (o : Option (ClassId × ℕ)). span (8 * object_start g a.part.object + (span_of h l place o).start) (span_of h l place o).length) (sym (leaf_last h g a t m)))

@@ -9,16 +9,16 @@ use Rattle.cxx_hierarchy.specs.Classes.{Classes}
 use Rattle.abi_sound.specs.Places.{Places}
 use Rattle.abi_sound.specs.Locations.{Span, AreDisjoint}
 use Rattle.byte_memory.specs.Store.{byte_span}
-use Rattle.agree_parts.specs.Heaps.{Heap, or_zero, start_of}
+use Rattle.agree_parts.specs.Heaps.{Heap, or_zero, object_start}
 use Rattle.agree_parts.specs.Addresses.{span, AreApart}
-use Rattle.agree_parts.specs.Placed.{IsObject, IsPlaced, LieIn, BitsLieIn}
+use Rattle.agree_parts.specs.Placed.{IsObject, AreObjectsPlaced, LieIn, BitsLieIn}
 
 -- there is an item at the same place of a list as long
 pub also_there : {X Y : Type 0} (xs : List X) (ys : List Y) (k : ℕ) (x : X) → length ys ≡ length xs → slice_get xs k ≡ Some x → (y : Y) × (slice_get ys k ≡ Some y)
 also_there xs ys k x e there = let within = slice_get_within xs k x there in get_within ys k (omega arith)
 
 -- a class at a number is that of an object
-pub object_there : (h : Classes) (l : Places) (g : Heap) (k : ℕ) (c : ClassId) → IsPlaced h l g → slice_get g.classes k ≡ Some c → IsObject g k c (start_of g k)
+pub object_there : (h : Classes) (l : Places) (g : Heap) (k : ℕ) (c : ClassId) → AreObjectsPlaced h l g → slice_get g.classes k ≡ Some c → IsObject g k c (object_start g k)
 object_there h l g k c placed class =
     let there = also_there g.classes g.starts k c placed.one_each class in
     record { class = class; there = there.1 ∙ ap (λ n. Some n) (sym (ap or_zero there.1)) }
@@ -27,11 +27,11 @@ object_there h l g k c placed class =
 pub one_class : (g : Heap) (k : ℕ) (c d : ClassId) → slice_get g.classes k ≡ Some c → slice_get g.classes k ≡ Some d → c ≡ d
 one_class g k c d e f = cc
 
-pub one_start : (g : Heap) (k : ℕ) (c : ClassId) (start : ℕ) → IsObject g k c start → start ≡ start_of g k
+pub one_start : (g : Heap) (k : ℕ) (c : ClassId) (start : ℕ) → IsObject g k c start → start ≡ object_start g k
 one_start g k c start object = sym (ap or_zero object.there)
 
 -- what lies in two objects lies apart
-pub objects_apart : (h : Classes) (l : Places) (g : Heap) (k j at n there m : ℕ) → IsPlaced h l g → LieIn l g k at n → LieIn l g j there m → (k ≡ j → ⊥) → AreApart at n there m
+pub objects_apart : (h : Classes) (l : Places) (g : Heap) (k j at n there m : ℕ) → AreObjectsPlaced h l g → LieIn l g k at n → LieIn l g j there m → (k ≡ j → ⊥) → AreApart at n there m
 objects_apart h l g k j at n there m placed a b other = ⊎_elim before after (cases_lt k j)
   where
     before : k < j → AreApart at n there m
@@ -45,7 +45,7 @@ pub fewer_lie : (l : Places) (g : Heap) (k at n m : ℕ) → m ≤ n → LieIn l
 fewer_lie l g k at n m fewer a = let high = a.high in record { class = a.class; start = a.start; object = a.object; low = a.low; high = omega arith }
 
 -- bits in two objects have none in common
-pub bits_apart : (h : Classes) (l : Places) (g : Heap) (k j : ℕ) (x y : Span) → IsPlaced h l g → BitsLieIn l g k x → BitsLieIn l g j y → (k ≡ j → ⊥) → AreDisjoint x y
+pub bits_apart : (h : Classes) (l : Places) (g : Heap) (k j : ℕ) (x y : Span) → AreObjectsPlaced h l g → BitsLieIn l g k x → BitsLieIn l g j y → (k ≡ j → ⊥) → AreDisjoint x y
 bits_apart h l g k j x y placed a b other = ⊎_elim before after (cases_lt k j)
   where
     before : k < j → AreDisjoint x y

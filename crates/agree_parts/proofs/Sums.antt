@@ -20,8 +20,8 @@ use Rattle.path_model.specs.Places.{owner_class}
 use Rattle.path_model.specs.TypedStates.{IsPartMade}
 use Rattle.path_model.proofs.TypedValues.{inner_made}
 use Rattle.abi_sound.specs.declared.class_layout.ClassLayout.{ClassLayout}
-use Rattle.abi_sound.specs.Places.{places_of, size_of_value, base_place}
-use Rattle.abi_sound.specs.Locations.{base_place_in, bits_of_value, owner_class as class_behind}
+use Rattle.abi_sound.specs.Places.{places_of, size_of_value, direct_base_place}
+use Rattle.abi_sound.specs.Locations.{base_place_in, bits_of_value, class_at_steps as class_behind}
 use Rattle.abi_sound.proofs.PlaceLemmas.{joined, direct_place, owner_class_is, element_place_is}
 use Rattle.agree_parts.specs.Heaps.{Heap}
 use Rattle.agree_parts.specs.Addresses.{address, leaf_address, span, leaf_bits}
@@ -77,8 +77,8 @@ to_base h rows g p c b m listed plain =
     let own = address_in h l g p m.class m.inside.0 m.made m.inside.1 in
     let base = address_in h l g (base_part p b) m.class m.inside.0 m.made m.inside.1 in
     let longer : l.place m.inside.0 (base_part p b).at ≡ l.place m.inside.0 (subobject p.at.root (p.at.path ++ b.class ∷ [])) = ap (l.place m.inside.0) (base_down p.at b plain) in
-    let sum : l.place m.inside.0 (subobject p.at.root (p.at.path ++ b.class ∷ [])) ≡ l.place m.inside.0 p.at + base_place h rows c b.class = direct_place h rows m.inside.0 c b.class p.at m.of_class in
-    let direct : l.place c (subobject Whole (c ∷ b.class ∷ [])) ≡ base_place h rows c b.class = omega arith in
+    let sum : l.place m.inside.0 (subobject p.at.root (p.at.path ++ b.class ∷ [])) ≡ l.place m.inside.0 p.at + direct_base_place h rows c b.class = direct_place h rows m.inside.0 c b.class p.at m.of_class in
+    let direct : l.place c (subobject Whole (c ∷ b.class ∷ [])) ≡ direct_base_place h rows c b.class = omega arith in
     omega arith
 
 -- an element that is an object lies behind the part by the member's place and the elements before it

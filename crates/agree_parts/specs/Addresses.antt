@@ -6,17 +6,17 @@ use Rattle.cxx_subobject.specs.Subobjects.{class_of}
 use Rattle.cxx_subobject.specs.Locations.{ObjectPart}
 use Rattle.path_model.specs.Values.{Leaf}
 use Rattle.abi_sound.specs.Places.{Places}
-use Rattle.abi_sound.specs.Locations.{Span, base_place_in, element_place, owner_class, owner_place, span_of}
-use Rattle.agree_parts.specs.Heaps.{Heap, start_of}
+use Rattle.abi_sound.specs.Locations.{Span, base_place_in, element_place, class_at_steps, owner_place, span_of}
+use Rattle.agree_parts.specs.Heaps.{Heap, object_start}
 
 -- the place of a part in its object: that of the complete object to which its steps lead, and there that of the subobject
 abbrev pub part_place : Classes → Places → Option ClassId → ObjectPart → ℕ
 part_place h l None p = 0
-part_place h l (Some c) p = owner_place h l c p.owner + base_place_in l (owner_class h c p.owner) p.at
+part_place h l (Some c) p = owner_place h l c p.owner + base_place_in l (class_at_steps h c p.owner) p.at
 
 -- the address of a part: where its object starts, and its place there
 abbrev pub address : Classes → Places → Heap → ObjectPart → ℕ
-address h l g p = start_of g p.object + part_place h l (slice_get g.classes p.object) p
+address h l g p = object_start g p.object + part_place h l (slice_get g.classes p.object) p
 
 -- the address of a leaf: that of its part, the place of the member in the part's class, and the elements before it
 abbrev pub leaf_address : Classes → Places → Heap → Leaf → ℕ

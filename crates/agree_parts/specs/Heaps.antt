@@ -8,16 +8,16 @@ pub record Heap : Type 0 where
   pub starts : List ℕ
 
 -- no object was made yet
-abbrev pub no_objects : Heap
-no_objects = record { classes = []; starts = [] }
+abbrev pub empty_heap : Heap
+empty_heap = record { classes = []; starts = [] }
 
 abbrev pub or_zero : Option ℕ → ℕ
 or_zero None = 0
 or_zero (Some n) = n
 
 -- where an object starts
-abbrev pub start_of : Heap → ℕ → ℕ
-start_of g k = or_zero (slice_get g.starts k)
+abbrev pub object_start : Heap → ℕ → ℕ
+object_start g k = or_zero (slice_get g.starts k)
 
 -- the heap after one more object of this class was made at this address
 abbrev pub grown : Heap → ClassId → ℕ → Heap

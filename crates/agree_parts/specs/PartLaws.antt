@@ -24,12 +24,12 @@ use Rattle.byte_memory.specs.Regions.{close_fault}
 use Rattle.byte_memory.specs.Store.{byte_span}
 use Rattle.agree_parts.specs.Heaps.{Heap}
 use Rattle.agree_parts.specs.Addresses.{address, leaf_address, span, leaf_bits, AreApart}
-use Rattle.agree_parts.specs.Placed.{IsObject, IsLaid, LieIn}
+use Rattle.agree_parts.specs.Placed.{IsObject, AreObjectsLaid, LieIn}
 use Rattle.agree_parts.specs.Regions.{AreRegions}
 
 -- the bytes that the bits of a leaf touch lie in its object
 abbrev pub LeafBytesLieInside : Classes → List ClassLayout → Heap → Type 0
-LeafBytesLieInside h rows g = (a : Leaf) (c : ClassId) (t : ValueType ClassId) → IsLaid h rows g → IsPartMade h g.classes a.part c →
+LeafBytesLieInside h rows g = (a : Leaf) (c : ClassId) (t : ValueType ClassId) → AreObjectsLaid h rows g → IsPartMade h g.classes a.part c →
     IsElement h c a.member a.index (Value t) →
     LieIn (places_of h rows) g a.part.object (leaf_address h (places_of h rows) g a) (byte_span ((places_of h rows).first c a.member) (bits_of_value (width_of_member h c a.member) t))
 
@@ -74,35 +74,35 @@ VirtualBasesLieInWholes h rows g = (p : ObjectPart) (c v : ClassId) → IsPartMa
 
 -- a leaf and a virtual pointer have no bit in common
 abbrev pub LeavesMissPointers : Classes → List ClassLayout → Heap → Type 0
-LeavesMissPointers h rows g = (a : Leaf) (t : ValueType ClassId) (p : ObjectPart) (c : ClassId) → IsLaid h rows g → IsLeafMade h g.classes a t →
+LeavesMissPointers h rows g = (a : Leaf) (t : ValueType ClassId) (p : ObjectPart) (c : ClassId) → AreObjectsLaid h rows g → IsLeafMade h g.classes a t →
     IsPartMade h g.classes p c → IsDynamic h c → AreDisjoint (leaf_bits h (places_of h rows) g a) (pointer_span (address h (places_of h rows) g p))
 
 -- the virtual pointers of two complete objects have no byte in common
 abbrev pub PointersOfOthersLieApart : Classes → List ClassLayout → Heap → Type 0
-PointersOfOthersLieApart h rows g = (p q : ObjectPart) (c d : ClassId) → IsLaid h rows g → IsPartMade h g.classes p c → IsPartMade h g.classes q d →
+PointersOfOthersLieApart h rows g = (p q : ObjectPart) (c d : ClassId) → AreObjectsLaid h rows g → IsPartMade h g.classes p c → IsPartMade h g.classes q d →
     IsDynamic h c → IsDynamic h d → ((p.object ≡ q.object) × (p.owner ≡ q.owner) → ⊥) →
     AreApart (address h (places_of h rows) g p) 8 (address h (places_of h rows) g q) 8
 
 -- the virtual pointers of one complete object have no byte in common where neither subobject is in the chain of the other
 abbrev pub PointersOfOneLieApart : Classes → List ClassLayout → Heap → Type 0
-PointersOfOneLieApart h rows g = (p q : ObjectPart) (c d e : ClassId) → IsLaid h rows g → IsPartMade h g.classes p c → IsPartMade h g.classes q d →
+PointersOfOneLieApart h rows g = (p q : ObjectPart) (c d e : ClassId) → AreObjectsLaid h rows g → IsPartMade h g.classes p c → IsPartMade h g.classes q d →
     IsDynamic h c → IsDynamic h d → p.object ≡ q.object → p.owner ≡ q.owner → owner_class h g.classes p.object p.owner ≡ Some e →
     IsInChain (places_of h rows) e p.at q.at ⊎ (IsInChain (places_of h rows) e q.at p.at ⊎ AreApart (address h (places_of h rows) g p) 8 (address h (places_of h rows) g q) 8)
 
 -- all subobjects of a chain lie at one address
 abbrev pub ChainsShareAnAddress : Classes → List ClassLayout → Heap → Type 0
-ChainsShareAnAddress h rows g = (p : ObjectPart) (c e : ClassId) (s : Subobject) → IsLaid h rows g → IsPartMade h g.classes p c →
+ChainsShareAnAddress h rows g = (p : ObjectPart) (c e : ClassId) (s : Subobject) → AreObjectsLaid h rows g → IsPartMade h g.classes p c →
     owner_class h g.classes p.object p.owner ≡ Some e → IsInChain (places_of h rows) e p.at s →
     address h (places_of h rows) g (part p.object p.owner s) ≡ address h (places_of h rows) g p
 
 -- the region of an object that is open can be closed where the object starts
 abbrev pub OpenObjectsClose : Classes → List ClassLayout → Heap → Type 0
-OpenObjectsClose h rows g = (regions : List Region) (r : Region) (k : ℕ) (c : ClassId) (start : ℕ) → IsLaid h rows g →
+OpenObjectsClose h rows g = (regions : List Region) (r : Region) (k : ℕ) (c : ClassId) (start : ℕ) → AreObjectsLaid h rows g →
     AreRegions (places_of h rows) g regions → IsObject g k c start → slice_get regions k ≡ Some r → r.is_open ≡ true →
     close_fault regions start ≡ None
 
 -- the bits of a leaf lie in the 8 bytes from its address on
 abbrev pub LeafBitsLieNear : Classes → List ClassLayout → Heap → Type 0
-LeafBitsLieNear h rows g = (a : Leaf) (c : ClassId) (t : ValueType ClassId) → IsLaid h rows g → IsPartMade h g.classes a.part c →
+LeafBitsLieNear h rows g = (a : Leaf) (c : ClassId) (t : ValueType ClassId) → AreObjectsLaid h rows g → IsPartMade h g.classes a.part c →
     IsElement h c a.member a.index (Value t) →
     ((places_of h rows).first c a.member < 8) × ((places_of h rows).first c a.member + bits_of_value (width_of_member h c a.member) t ≤ 64)

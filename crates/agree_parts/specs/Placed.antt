@@ -15,7 +15,7 @@ pub record IsObject (g : Heap) (k : ℕ) (c : ClassId) (start : ℕ) : Type 0 wh
   pub there : slice_get g.starts k ≡ Some start
 
 -- objects of known classes lie above address 0 and below 2^41, each before the later ones
-pub record IsPlaced (h : Classes) (l : Places) (g : Heap) : Type 0 where
+pub record AreObjectsPlaced (h : Classes) (l : Places) (g : Heap) : Type 0 where
   pub one_each : length g.starts ≡ length g.classes
   pub known : (k : ℕ) (c : ClassId) → slice_get g.classes k ≡ Some c → c.0 < length h
   pub positive : (k : ℕ) (c : ClassId) (start : ℕ) → IsObject g k c start → 0 < start
@@ -23,10 +23,10 @@ pub record IsPlaced (h : Classes) (l : Places) (g : Heap) : Type 0 where
   pub ascending : (i j : ℕ) (c d : ClassId) (first second : ℕ) → i < j → IsObject g i c first → IsObject g j d second → first + l.size c ≤ second
 
 -- they are objects of a hierarchy, by a sound layout of it
-pub record IsLaid (h : Classes) (rows : List ClassLayout) (g : Heap) : Type 0 where
+pub record AreObjectsLaid (h : Classes) (rows : List ClassLayout) (g : Heap) : Type 0 where
   pub hierarchy : IsHierarchy h
   pub sound : IsSoundLayout h rows
-  pub placed : IsPlaced h (places_of h rows) g
+  pub placed : AreObjectsPlaced h (places_of h rows) g
 
 -- the n bytes at an address lie in object k
 pub record LieIn (l : Places) (g : Heap) (k at n : ℕ) : Type 0 where

@@ -2,7 +2,7 @@
 //!
 //! The rules of the language name a part by steps and paths, and a machine has its address. The crate owns heaps of objects
 //! (`Heap`: the class of each and where it starts), the address of a part and of a leaf (`specs/Addresses.antt`), what it means
-//! that objects lie apart (`IsPlaced`), and that regions of a memory are theirs (`AreRegions`).
+//! that objects lie apart (`AreObjectsPlaced`), and that regions of a memory are theirs (`AreRegions`).
 //!
 //! Its functions are laws, which do nothing: over any sound layout, parts and leaves lie inside their objects; one place names
 //! one part of a class; the places of bases, elements and leaves are sums that the class alone tells; leaves and virtual pointers

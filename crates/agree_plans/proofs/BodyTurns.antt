@@ -7,7 +7,7 @@ use Rattle.std.proofs.lemmas.Option.{slice_get_cases}
 use Rattle.cxx_hierarchy.specs.declared.records.ClassId.{ClassId}
 use Rattle.cxx_program.specs.declared.program.Owner.TheVariants.{Constructor, Destructor}
 use Rattle.cxx_program.specs.declared.program.TypedBody.{TypedBody}
-use Rattle.path_model.specs.States.{State, Running as PathBody, Planned, Frame as PathFrame, InBody, InPlan, body_of, with_frames}
+use Rattle.path_model.specs.States.{ProgramState, RunningBody as PathBody, Planned, Frame as PathFrame, InBody, InPlan, owned_body, with_frames}
 use Rattle.path_model.specs.Effects.{Goes}
 use Rattle.path_model.specs.Steps.{event_step}
 use Rattle.path_model.specs.TypedStates.{IsTypedState, AreTypedFrames}
@@ -19,15 +19,15 @@ use Rattle.code_blocks.specs.Blocks.{AtStatement, event_block, closing_ops}
 use Rattle.code_blocks.specs.Items.{Item, Does}
 use Rattle.code_blocks.specs.Lowered.{IsEnd, statement_block, body_block}
 use Rattle.code_blocks.specs.declared.items.Kind.TheVariants.{AtBody, AtDone}
-use Rattle.code_ops.specs.Setups.{Routine, PlanCode, body_in}
+use Rattle.code_ops.specs.Setups.{Routine, PlanCode, body_of_routine}
 use Rattle.code_ops.specs.declared.routines.Course.{Course}
 use Rattle.code_ops.specs.declared.routines.Course.TheVariants.{Constructs, Destroys}
 use Rattle.agree_parts.proofs.Inside.{known_class}
-use Rattle.agree_relation.specs.Worlds.{World, IsWorld, classes_in, fixed}
+use Rattle.agree_relation.specs.Worlds.{World, IsProgramWorld, world_classes, fixed}
 use Rattle.agree_relation.specs.Words.{heap_of}
 use Rattle.agree_relation.specs.Agrees.{Agrees}
 use Rattle.agree_relation.proofs.Objects.{objects_laid}
-use Rattle.agree_statements.specs.Statements.{BeginsAt}
+use Rattle.agree_statements.specs.Statements.{BeginsBlock}
 use Rattle.agree_statements.proofs.Moves.{move_in}
 use Rattle.agree_events.specs.Turns.{InPlanBody}
 use Rattle.agree_events.proofs.Bodies.{constructor_left}
@@ -37,15 +37,15 @@ use Rattle.agree_plans.specs.Turns.{IsUnderWay, HasBlock}
 use Rattle.agree_plans.proofs.EventTurns.{event_leads}
 
 -- a body of a plan is on top of a state, at its end
-module _ (w : World) (world : IsWorld w) (s : State) (fb : PathBody) (p : Planned) (path : List PathFrame) (body : TypedBody) (frames_are : s.frames ≡ InBody fb ∷ InPlan p ∷ path) (there : body_of w.setup.program fb.owner ≡ Some body) (over : slice_get body.statements fb.next ≡ None) (typed : IsTypedState (classes_in w) w.setup.program s)
-    (b : Running) (begins : BeginsAt w world.lowered.at s b) where
-  typed_frames : AreTypedFrames (classes_in w) w.setup.program s.objects.classes (InBody fb ∷ InPlan p ∷ path)
-  typed_frames = subst (λ (fs : List PathFrame). AreTypedFrames (classes_in w) w.setup.program s.objects.classes fs) frames_are typed.frames
+module _ (w : World) (world : IsProgramWorld w) (s : ProgramState) (fb : PathBody) (p : Planned) (path : List PathFrame) (body : TypedBody) (frames_are : s.frames ≡ InBody fb ∷ InPlan p ∷ path) (there : owned_body w.setup.program fb.owner ≡ Some body) (over : slice_get body.statements fb.next ≡ None) (typed : IsTypedState (world_classes w) w.setup.program s)
+    (b : Running) (begins : BeginsBlock w world.lowered.at s b) where
+  typed_frames : AreTypedFrames (world_classes w) w.setup.program s.objects.classes (InBody fb ∷ InPlan p ∷ path)
+  typed_frames = subst (λ (fs : List PathFrame). AreTypedFrames (world_classes w) w.setup.program s.objects.classes fs) frames_are typed.frames
 
   -- it is behind all statements
   at_end : nat_eq fb.next (length body.statements) ≡ true
   at_end =
-      eq-eqb fb.next (length body.statements) (behind_last (classes_in w) w.setup.program s fb (InPlan p ∷ path) body frames_are there over typed)
+      eq-eqb fb.next (length body.statements) (behind_last (world_classes w) w.setup.program s fb (InPlan p ∷ path) body frames_are there over typed)
 
   module _ (inside : InPlanBody w world.lowered.at s fb p path b begins) where
     open inside use {f, left}
@@ -53,16 +53,16 @@ module _ (w : World) (world : IsWorld w) (s : State) (fb : PathBody) (p : Planne
     abbrev routine : Routine
     routine = PlanCode f.course f.form f.class
 
-    its_body : body_in w.setup routine ≡ Some body
-    its_body = ap (body_of w.setup.program) (sym inside.owner) ∙ there
+    its_body : body_of_routine w.setup routine ≡ Some body
+    its_body = ap (owned_body w.setup.program) (sym inside.owner) ∙ there
 
     abbrev block : Block
     block = record { ops = closing_ops w.setup world.lowered.at routine; line = body.close_line }
 
     block_there : slice_get w.code.blocks begins.top.block ≡ Some block
     block_there =
-        let known = known_class (classes_in w) w.setup.rows (heap_of s.objects.classes b.memory.regions) f.part f.class (objects_laid w s.objects b.memory.regions b.objects b.heap world begins.stands.columns.objects) inside.planned.going.0.made in
-        let is : body_block w.setup world.lowered.at routine fb.next (body_in w.setup routine) ≡ Some block =
+        let known = known_class (world_classes w) w.setup.rows (heap_of s.objects.classes b.memory.regions) f.part f.class (objects_laid w s.objects b.memory.regions b.objects b.heap world begins.stands.columns.objects) inside.planned.going.0.made in
+        let is : body_block w.setup world.lowered.at routine fb.next (body_of_routine w.setup routine) ≡ Some block =
         ap (body_block w.setup world.lowered.at routine fb.next) its_body ∙ (ap (statement_block w.setup world.lowered.at routine body fb.next) over ∙ ap (λ t. if t then Some block else None) at_end) in
         ap (slice_get w.code.blocks) inside.block ∙ world.lowered.each (AtStatement routine fb.next) block (known, inside.planned.going.0.course) is
 

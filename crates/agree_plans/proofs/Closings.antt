@@ -14,39 +14,39 @@ use Rattle.cxx_program.specs.declared.program.TypedProgram.{TypedProgram}
 use Rattle.cxx_subobject.specs.Subobjects.{class_of}
 use Rattle.foundation.proofs.Truth.{split}
 use Rattle.path_plan.specs.Places.{ObjectPart, base_part, shared_part, element}
-use Rattle.path_plan.specs.Phases.{Event, Body, Done, End}
+use Rattle.path_plan.specs.Phases.{PartEvent, Body, Done, End}
 use Rattle.path_plan.specs.Plans.{Form, InFull, AsBase, Inner, backwards, upto, virtual_order, shared_events, base_events, init_events, typed_events, member_events, body_events, built_by, build, typed_ending, member_ending, ended_by, unbuild}
 use Rattle.path_plan.specs.Whole.{whole_part, construction, destruction}
 use Rattle.path_plan.proofs.Bases.{class_base}
-use Rattle.path_model.specs.States.{bodies_of, body_of, is_body}
+use Rattle.path_model.specs.States.{plan_bodies, owned_body, is_body}
 use Rattle.path_model.specs.Outs.{class_or_first}
 use Rattle.path_model.specs.Steps.{class_of_part}
-use Rattle.agree_plans.specs.Courses.{IsClosing, StartsOwn, Follows}
+use Rattle.agree_plans.specs.Courses.{IsClosing, StartsOwn, EventsFollow}
 
 module _ (program : TypedProgram) (building : Bool) where
   -- a list that may stand behind any event
-  pub record IsPlain (es : List Event) : Type 0 where
+  pub record IsPlain (es : List PartEvent) : Type 0 where
     pub starts : StartsOwn program es
-    pub follows : Follows program building es
+    pub follows : EventsFollow program building es
 
   plain_none : IsPlain []
   plain_none = record { starts = tt; follows = tt }
 
-  plain_cons : (e : Event) (es : List Event) → (IsClosing program e → ⊥) → IsPlain es → IsPlain (e ∷ es)
+  plain_cons : (e : PartEvent) (es : List PartEvent) → (IsClosing program e → ⊥) → IsPlain es → IsPlain (e ∷ es)
   plain_cons e es own a = record { starts = own; follows = (λ other. a.starts, a.follows) }
 
-  starts_append : (es fs : List Event) → StartsOwn program es → StartsOwn program fs → StartsOwn program (es ++ fs)
+  starts_append : (es fs : List PartEvent) → StartsOwn program es → StartsOwn program fs → StartsOwn program (es ++ fs)
   starts_append [] fs a b = b
   starts_append (e ∷ es) fs a b = a
 
-  follows_append : (es fs : List Event) → Follows program building es → IsPlain fs → Follows program building (es ++ fs)
+  follows_append : (es fs : List PartEvent) → EventsFollow program building es → IsPlain fs → EventsFollow program building (es ++ fs)
   follows_append [] fs a b = b.follows
   follows_append (e ∷ es) fs a b = (λ other. starts_append es fs (a.0 other) b.starts, follows_append es fs a.1 b)
 
-  plain_append : (es fs : List Event) → IsPlain es → IsPlain fs → IsPlain (es ++ fs)
+  plain_append : (es fs : List PartEvent) → IsPlain es → IsPlain fs → IsPlain (es ++ fs)
   plain_append es fs a b = record { starts = starts_append es fs a.starts b.starts; follows = follows_append es fs a.follows b }
 
-  plain_flat : {X : Type 0} (f : X → List Event) (xs : List X) → ((x : X) → IsPlain (f x)) → IsPlain (flat_map f xs)
+  plain_flat : {X : Type 0} (f : X → List PartEvent) (xs : List X) → ((x : X) → IsPlain (f x)) → IsPlain (flat_map f xs)
   plain_flat f [] each = plain_none
   plain_flat f (x ∷ xs) each = plain_append (f x) (flat_map f xs) (each x) (plain_flat f xs each)
 
@@ -68,11 +68,11 @@ module _ (program : TypedProgram) (building : Bool) where
   init_plain true p m = plain_cons _ [] (λ closing. closing) plain_none
   init_plain false p m = plain_none
 
-  typed_plain : (inner : Inner) → AllPlain inner → (c : ClassId) (p : ObjectPart) (m : ℕ) (indices : List ℕ) (type : FieldType ClassId) → IsPlain (typed_events inner (bodies_of program) c p m indices type)
-  typed_plain inner all c p m indices (Value type) = init_plain ((bodies_of program).initializer c m) p m
+  typed_plain : (inner : Inner) → AllPlain inner → (c : ClassId) (p : ObjectPart) (m : ℕ) (indices : List ℕ) (type : FieldType ClassId) → IsPlain (typed_events inner (plan_bodies program) c p m indices type)
+  typed_plain inner all c p m indices (Value type) = init_plain ((plan_bodies program).initializer c m) p m
   typed_plain inner all c p m indices (Object d) = elements_plain inner all p m d indices
 
-  member_plain : (inner : Inner) → AllPlain inner → (c : ClassId) (p : ObjectPart) (m : ℕ) (o : Option (Member ClassId)) → IsPlain (member_events inner (bodies_of program) c p m o)
+  member_plain : (inner : Inner) → AllPlain inner → (c : ClassId) (p : ObjectPart) (m : ℕ) (o : Option (Member ClassId)) → IsPlain (member_events inner (plan_bodies program) c p m o)
   member_plain inner all c p m None = plain_none
   member_plain inner all c p m (Some member) = typed_plain inner all c p m (upto (elements_of member.count)) member.ty
 
@@ -87,29 +87,29 @@ module _ (program : TypedProgram) (building : Bool) where
 module _ (h : Classes) (program : TypedProgram) where
   -- construction
 
-  last_plain : (c : ClassId) (p : ObjectPart) → class_of p.at ≡ Some c → (declared : Bool) → is_body (body_of program (Constructor c)) ≡ declared → IsPlain program true (body_events declared p ++ Done p ∷ [])
+  last_plain : (c : ClassId) (p : ObjectPart) → class_of p.at ≡ Some c → (declared : Bool) → is_body (owned_body program (Constructor c)) ≡ declared → IsPlain program true (body_events declared p ++ Done p ∷ [])
   last_plain c p class true is = record { starts = λ closing. closing; follows = (λ other. absurd other, (λ other. tt, tt)) }
   last_plain c p class false is =
       let same : class_of_part p ≡ c = ap class_or_first class in
-      let open_end : is_body (body_of program (Constructor (class_of_part p))) ≡ false = ap (λ d. is_body (body_of program (Constructor d))) same ∙ is in
+      let open_end : is_body (owned_body program (Constructor (class_of_part p))) ≡ false = ap (λ d. is_body (owned_body program (Constructor d))) same ∙ is in
       plain_cons program true (Done p) [] (λ closing. let f : true ≡ false = sym closing ∙ open_end in cc) (plain_none program true)
 
-  built_plain : (inner : Inner) → AllPlain program true inner → AllPlain program true (built_by h (bodies_of program) inner)
+  built_plain : (inner : Inner) → AllPlain program true inner → AllPlain program true (built_by h (plan_bodies program) inner)
   built_plain inner all form c p class =
       plain_cons program true _ _ (λ closing. closing)
       (plain_append program true (shared_events inner form p (virtual_order h c)) _ (shared_plain program true inner all form p (virtual_order h c))
       (plain_append program true (flat_map (base_events inner p) (bases_of h c)) _ (plain_flat program true (base_events inner p) (bases_of h c) (base_plain program true inner all c p class))
       (plain_cons program true _ _ (λ closing. closing)
-      (plain_append program true (flat_map (λ m. member_events inner (bodies_of program) c p m (slice_get (members_of h c) m)) (upto (length (members_of h c)))) _
-      (plain_flat program true (λ m. member_events inner (bodies_of program) c p m (slice_get (members_of h c) m)) (upto (length (members_of h c))) (λ m. member_plain program true inner all c p m (slice_get (members_of h c) m)))
-      (last_plain c p class ((bodies_of program).constructor c) refl)))))
+      (plain_append program true (flat_map (λ m. member_events inner (plan_bodies program) c p m (slice_get (members_of h c) m)) (upto (length (members_of h c)))) _
+      (plain_flat program true (λ m. member_events inner (plan_bodies program) c p m (slice_get (members_of h c) m)) (upto (length (members_of h c))) (λ m. member_plain program true inner all c p m (slice_get (members_of h c) m)))
+      (last_plain c p class ((plan_bodies program).constructor c) refl)))))
 
-  build_plain : (n : ℕ) → AllPlain program true (build h (bodies_of program) n)
+  build_plain : (n : ℕ) → AllPlain program true (build h (plan_bodies program) n)
   unfolding build
   build_plain zero form c p class = plain_none program true
-  build_plain (suc n) form c p class = built_plain (build h (bodies_of program) n) (build_plain n) form c p class
+  build_plain (suc n) form c p class = built_plain (build h (plan_bodies program) n) (build_plain n) form c p class
 
-  pub construction_plain : (k : ℕ) (c : ClassId) → IsPlain program true (construction h (bodies_of program) k c)
+  pub construction_plain : (k : ℕ) (c : ClassId) → IsPlain program true (construction h (plan_bodies program) k c)
   construction_plain k c = build_plain (c.0 + 1) InFull c (whole_part k c) refl
 
   -- destruction
@@ -118,10 +118,10 @@ module _ (h : Classes) (program : TypedProgram) where
   first_plain true p = plain_cons program false (Body p) [] (λ closing. closing) (plain_none program false)
   first_plain false p = plain_none program false
 
-  ended_plain : (inner : Inner) → AllPlain program false inner → AllPlain program false (ended_by h (bodies_of program) inner)
+  ended_plain : (inner : Inner) → AllPlain program false inner → AllPlain program false (ended_by h (plan_bodies program) inner)
   ended_plain inner all form c p class =
       plain_cons program false _ _ (λ closing. closing)
-      (plain_append program false (body_events ((bodies_of program).destructor c) p) _ (first_plain ((bodies_of program).destructor c) p)
+      (plain_append program false (body_events ((plan_bodies program).destructor c) p) _ (first_plain ((plan_bodies program).destructor c) p)
       (plain_append program false (flat_map (λ m. member_ending inner p m (slice_get (members_of h c) m)) (backwards (upto (length (members_of h c))))) _
       (plain_flat program false (λ m. member_ending inner p m (slice_get (members_of h c) m)) (backwards (upto (length (members_of h c)))) (λ m. member_ending_plain program false inner all p m (slice_get (members_of h c) m)))
       (plain_cons program false _ _ (λ closing. closing)
@@ -129,10 +129,10 @@ module _ (h : Classes) (program : TypedProgram) where
       (plain_append program false (shared_events inner form p (backwards (virtual_order h c))) _ (shared_plain program false inner all form p (backwards (virtual_order h c)))
       (plain_cons program false (End p) [] (λ closing. closing) (plain_none program false)))))))
 
-  unbuild_plain : (n : ℕ) → AllPlain program false (unbuild h (bodies_of program) n)
+  unbuild_plain : (n : ℕ) → AllPlain program false (unbuild h (plan_bodies program) n)
   unfolding unbuild
   unbuild_plain zero form c p class = plain_none program false
-  unbuild_plain (suc n) form c p class = ended_plain (unbuild h (bodies_of program) n) (unbuild_plain n) form c p class
+  unbuild_plain (suc n) form c p class = ended_plain (unbuild h (plan_bodies program) n) (unbuild_plain n) form c p class
 
-  pub destruction_plain : (k : ℕ) (c : ClassId) → IsPlain program false (destruction h (bodies_of program) k c)
+  pub destruction_plain : (k : ℕ) (c : ClassId) → IsPlain program false (destruction h (plan_bodies program) k c)
   destruction_plain k c = unbuild_plain (c.0 + 1) InFull c (whole_part k c) refl

@@ -7,8 +7,8 @@ use Rattle.cxx_hierarchy.specs.declared.records.ClassId.{ClassId}
 use Rattle.cxx_hierarchy.specs.Classes.{bases_of, members_of}
 use Rattle.cxx_hierarchy.specs.Hierarchies.{IsHierarchy}
 use Rattle.path_plan.specs.Plans.{Form, upto, backwards, virtual_order}
-use Rattle.path_model.specs.States.{bodies_of}
-use Rattle.code_blocks.specs.Items.{Item, Does, shared_items, base_items, member_items, body_items, ended_items}
+use Rattle.path_model.specs.States.{plan_bodies}
+use Rattle.code_blocks.specs.Items.{Item, Does, shared_base_items, base_items, member_items, body_items, ended_items}
 use Rattle.code_blocks.specs.Lowered.{IsEnd}
 use Rattle.code_blocks.specs.declared.items.Kind.{Kind}
 use Rattle.code_blocks.specs.declared.items.Kind.TheVariants.{AtBegin, AtReady, AtDone, AtEnding, AtBases, AtEnd}
@@ -32,8 +32,8 @@ split_last i j as_ bs ms ys z = simp append_assoc
 
 pub last_is_done : (x : Setup) (form : Form) (c : ClassId) (k : Kind) → IsEnd x Constructs form c (Does k ∷ []) → k ≡ AtDone
 last_is_done x form c k end =
-    let bodies = bodies_of x.program in
-    let shared = shared_items form (virtual_order x.h c) in
+    let bodies = plan_bodies x.program in
+    let shared = shared_base_items form (virtual_order x.h c) in
     let bases = flat_map base_items (bases_of x.h c) in
     let members = flat_map (λ m. member_items (bodies.initializer c m) Forwards m (slice_get (members_of x.h c) m)) (upto (length (members_of x.h c))) in
     let body = body_items (bodies.constructor c) in
@@ -46,10 +46,10 @@ none_before [] ys e = refl
 none_before (x ∷ xs) ys e = absurd (let count : suc (length xs + length ys) ≡ length ys = ap suc (sym (length-append xs ys)) ∙ ap length e in omega (arith, count))
 
 -- and that of a destruction that it has ended
-ended_last : (x : Setup) (form : Form) (c : ClassId) (k : Kind) (before : List Item) → before ++ Does k ∷ [] ≡ ended_items x.h (bodies_of x.program) form c → k ≡ AtEnd
+ended_last : (x : Setup) (form : Form) (c : ClassId) (k : Kind) (before : List Item) → before ++ Does k ∷ [] ≡ ended_items x.h (plan_bodies x.program) form c → k ≡ AtEnd
 ended_last x form c k before is =
-    let bodies = bodies_of x.program in
-    let shared = shared_items form (backwards (virtual_order x.h c)) in
+    let bodies = plan_bodies x.program in
+    let shared = shared_base_items form (backwards (virtual_order x.h c)) in
     let bases = flat_map base_items (backwards (bases_of x.h c)) in
     let members = flat_map (λ m. member_items false Backwards m (slice_get (members_of x.h c) m)) (backwards (upto (length (members_of x.h c)))) in
     let body = body_items (bodies.destructor c) in

@@ -13,13 +13,13 @@ use Rattle.path_rules.specs.declared.Undefined.TheVariants.{NullUse, Dangling, N
 use Rattle.path_plan.specs.Phases.{Complete, is_complete, is_ready}
 use Rattle.path_plan.specs.Whole.{whole_part}
 use Rattle.path_model.specs.Values.{Pointer, Objects}
-use Rattle.path_model.specs.Uses.{Guards, convert, views, is_shared}
+use Rattle.path_model.specs.Uses.{Guards, convert, uses_of_view, is_shared}
 use Rattle.path_model.specs.Rules.{breaks, is_broken, is_unready, is_outside}
 use Rattle.path_model.specs.Typed.{AllSettled}
 use Rattle.path_model.proofs.Facts.{whole_seen, not_unready}
 
 -- a part that is ready and within the view
-guarded : (h : Classes) (x : Objects) (q : ObjectPart) → is_unready x q ≡ false → is_outside h x q ≡ false → (shared : Bool) (rule : Undefined) → list_any (breaks h x rule) (Guards (Pointer q) ∷ views shared (Pointer q)) ≡ false
+guarded : (h : Classes) (x : Objects) (q : ObjectPart) → is_unready x q ≡ false → is_outside h x q ≡ false → (shared : Bool) (rule : Undefined) → list_any (breaks h x rule) (Guards (Pointer q) ∷ uses_of_view shared (Pointer q)) ≡ false
 guarded h x q ready within true NullUse = refl
 guarded h x q ready within true Dangling = refl
 guarded h x q ready within true NotReady = rw ready refl

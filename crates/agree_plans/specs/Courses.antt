@@ -3,33 +3,33 @@ use Rattle.std.specs.Prelude.{◌≡◌, Bool, true, false, None, List, [], ◌�
 use Rattle.cxx_program.specs.declared.program.Owner.{Owner}
 use Rattle.cxx_program.specs.declared.program.Owner.TheVariants.{Main, Function, Constructor, Destructor}
 use Rattle.cxx_program.specs.declared.program.TypedProgram.{TypedProgram}
-use Rattle.path_plan.specs.Phases.{Event, Body, Done}
-use Rattle.path_model.specs.States.{Planned, Frame, InBody, InPlan, State, body_of, is_body}
+use Rattle.path_plan.specs.Phases.{PartEvent, Body, Done}
+use Rattle.path_model.specs.States.{Planned, Frame, InBody, InPlan, ProgramState, owned_body, is_body}
 use Rattle.path_model.specs.Steps.{class_of_part}
 
 -- the last event of a constructor that has a body: the end of the body does it, and it has no block of its own
-abbrev pub IsClosing : TypedProgram → Event → Type 0
-IsClosing program (Done p) = is_body (body_of program (Constructor (class_of_part p))) ≡ true
+abbrev pub IsClosing : TypedProgram → PartEvent → Type 0
+IsClosing program (Done p) = is_body (owned_body program (Constructor (class_of_part p))) ≡ true
 IsClosing program e = ⊥
 
 -- the next event is no such one
-abbrev pub StartsOwn : TypedProgram → List Event → Type 0
+abbrev pub StartsOwn : TypedProgram → List PartEvent → Type 0
 StartsOwn program [] = Unit {0}
 StartsOwn program (e ∷ es) = IsClosing program e → ⊥
 
 -- no such event comes behind an event, but for a body of a construction
-abbrev pub IsOther : Bool → Event → Type 0
-IsOther true (Body p) = ⊥
-IsOther is_building e = Unit {0}
+abbrev pub IsNoConstructorBody : Bool → PartEvent → Type 0
+IsNoConstructorBody true (Body p) = ⊥
+IsNoConstructorBody is_building e = Unit {0}
 
 -- the events of a plan follow one another so
-abbrev pub Follows : TypedProgram → Bool → List Event → Type 0
-Follows program is_building [] = Unit {0}
-Follows program is_building (e ∷ es) = (IsOther is_building e → StartsOwn program es) × Follows program is_building es
+abbrev pub EventsFollow : TypedProgram → Bool → List PartEvent → Type 0
+EventsFollow program is_building [] = Unit {0}
+EventsFollow program is_building (e ∷ es) = (IsNoConstructorBody is_building e → StartsOwn program es) × EventsFollow program is_building es
 
 -- a plan in order; and nobody waits for a destruction
 pub record IsOrderly (program : TypedProgram) (p : Planned) : Type 0 where
-  pub follows : Follows program p.is_building p.events
+  pub follows : EventsFollow program p.is_building p.events
   pub silent : p.is_building ≡ false → p.target ≡ None
 
 -- a plan on top of frames does its next event
@@ -52,5 +52,5 @@ AreOrderly program (InBody f ∷ below) = MayGoBehind program f.owner below × A
 AreOrderly program (InPlan p ∷ below) = IsOrderly program p × MayGo program below × AreOrderly program below
 
 -- and so is a state
-abbrev pub IsInOrder : TypedProgram → State → Type 0
-IsInOrder program s = MayGo program s.frames × AreOrderly program s.frames
+abbrev pub IsOrderlyState : TypedProgram → ProgramState → Type 0
+IsOrderlyState program s = MayGo program s.frames × AreOrderly program s.frames

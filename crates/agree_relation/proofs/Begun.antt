@@ -9,7 +9,7 @@ use Rattle.cxx_subobject.specs.declared.Subobject.{Subobject}
 use Rattle.cxx_subobject.specs.Subobjects.{IsSubobject, Leads, whole, shared, subobject, class_of, class_of_path, whole_of}
 use Rattle.cxx_subobject.specs.Locations.{Step, ObjectPart}
 use Rattle.cxx_subobject.proofs.TestLemmas.{class_below}
-use Rattle.path_plan.specs.Places.{part, IsIn}
+use Rattle.path_plan.specs.Places.{part, IsPartWithin}
 use Rattle.path_plan.specs.Phases.{Raw, is_ready}
 use Rattle.path_plan.specs.Plans.{Bodies}
 use Rattle.path_plan.specs.Views.{view, Settled}
@@ -37,7 +37,7 @@ never_empty [] b e = cc
 never_empty (x ∷ xs) b e = cc
 
 module _ (h : Classes) (keeps : IsHierarchy h) (bodies : Bodies) (r : Run) (reached : Reached h bodies r) where
-  inside : (p : ObjectPart) (c : ClassId) → (m : IsPartMade h r.classes p c) → IsIn h p (whole_part p.object m.class)
+  inside : (p : ObjectPart) (c : ClassId) → (m : IsPartMade h r.classes p c) → IsPartWithin h p (whole_part p.object m.class)
   inside p c m = whole_has_part h p.object m.class p refl m.inside
 
   -- the complete object of a part that is ready has a view
@@ -46,7 +46,7 @@ module _ (h : Classes) (keeps : IsHierarchy h) (bodies : Bodies) (r : Run) (reac
   ready_seen p c d made owner complete valid settled ready = ⊎_elim
       (λ seen. (p.at, seen))
       (λ full. complete_seen h keeps bodies r reached p.object made.class made.made p.owner d p.at (member_class_is h r.classes p.object p.owner d owner) (root p.owner owner) (inside p c made)
-      (subst (λ (x : ClassId). IsIn h (part p.object p.owner (whole_of d)) (whole_part p.object x)) (same complete.made) (inside (part p.object p.owner (whole_of d)) d complete)) full)
+      (subst (λ (x : ClassId). IsPartWithin h (part p.object p.owner (whole_of d)) (whole_part p.object x)) (same complete.made) (inside (part p.object p.owner (whole_of d)) d complete)) full)
       (ready_cases h p.object r.phases settled p.owner d p.at valid ready)
     where
       root : (o : List Step) → owner_class h r.classes p.object o ≡ Some d → o ≡ [] → d ≡ made.class
@@ -59,7 +59,7 @@ module _ (h : Classes) (keeps : IsHierarchy h) (bodies : Bodies) (r : Run) (reac
       same there = let f : Some complete.class ≡ Some made.class = sym there ∙ made.made in let one : complete.class ≡ made.class = cc in one
 
   -- along a path of bases that are not virtual
-  along : (k : ℕ) (o : List Step) (c0 c : ClassId) (x : Subobject) (path : List ClassId) → slice_get r.classes k ≡ Some c0 → IsIn h (part k o x) (whole_part k c0) → (x.path ≡ [] → ⊥) → class_of x ≡ Some c → Leads h c path →
+  along : (k : ℕ) (o : List Step) (c0 c : ClassId) (x : Subobject) (path : List ClassId) → slice_get r.classes k ≡ Some c0 → IsPartWithin h (part k o x) (whole_part k c0) → (x.path ≡ [] → ⊥) → class_of x ≡ Some c → Leads h c path →
       (r.phases.phase (part k o (subobject x.root (x.path ++ path))) ≡ Raw → ⊥) → r.phases.phase (part k o x) ≡ Raw → ⊥
   along k o c0 c x [] made in_whole some class leads begun raw = begun (ap (λ (xs : List ClassId). r.phases.phase (part k o (subobject x.root xs))) (append-nil x.path) ∙ raw)
   along k o c0 c x (b ∷ path) made in_whole some class leads begun raw =

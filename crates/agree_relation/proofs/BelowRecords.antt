@@ -11,12 +11,12 @@ use Rattle.cxx_subobject.specs.Subobjects.{class_of}
 use Rattle.abi_sound.specs.Places.{Places}
 use Rattle.abi_slots.specs.declared.words.GroupName.{GroupName}
 use Rattle.abi_slots.specs.declared.words.Table.{Table}
-use Rattle.abi_slots.specs.Groups.{IsTable, view_of}
+use Rattle.abi_slots.specs.Groups.{IsTable, view_of_group}
 use Rattle.abi_slots.specs.Images.{all_words, point_at, point_words}
 use Rattle.abi_slots.specs.Seen.{IsPointOf, PlacedTables}
 use Rattle.abi_slots.specs.Views.{View, heads}
 use Rattle.agree_relation.specs.Columns.{ArePlacedFor}
-use Rattle.agree_relation.specs.Worlds.{World, IsWorld, classes_in, places_in}
+use Rattle.agree_relation.specs.Worlds.{World, IsProgramWorld, world_classes, places_in}
 use Rattle.agree_relation.proofs.Tables.{group_is}
 
 -- of the words of tables so many at least stand before an address point, and there are some
@@ -52,19 +52,19 @@ has_front h l x head table is =
     record { some = omega arith; few = omega arith }
 
 -- an address point of the group of a view
-pub point_below : (w : World) (x : View) (placed : PlacedTables) → IsWorld w → ArePlacedFor w x placed → class_of x.at_sub ≡ Some x.class → (s : Subobject) (point : ℕ) → IsPointOf (classes_in w) (places_in w) x placed s point → point ≤ w.addresses.records
+pub point_below : (w : World) (x : View) (placed : PlacedTables) → IsProgramWorld w → ArePlacedFor w x placed → class_of x.at_sub ≡ Some x.class → (s : Subobject) (point : ℕ) → IsPointOf (world_classes w) (places_in w) x placed s point → point ≤ w.addresses.records
 point_below w x placed world stand class s point at =
-    let h = classes_in w in
+    let h = world_classes w in
     let l = places_in w in
     let of = group_is w stand.number stand.group world stand.there in
     let both : Some x.class ≡ Some of.class = sym class ∙ (ap (λ (n : GroupName). class_of n.view) (sym stand.named) ∙ of.view.of_class) in
     let same : of.class ≡ x.class = cc in
-    let view : view_of stand.group of.class ≡ x = λ i. record { complete = (stand.named i).complete; at_sub = (stand.named i).view; class = same i } in
-    let head : slice_get (heads h l (view_of stand.group of.class)) at.number ≡ Some at.head = ap (λ (v : View). slice_get (heads h l v) at.number) view ∙ at.at_head in
+    let view : view_of_group stand.group of.class ≡ x = λ i. record { complete = (stand.named i).complete; at_sub = (stand.named i).view; class = same i } in
+    let head : slice_get (heads h l (view_of_group stand.group of.class)) at.number ≡ Some at.head = ap (λ (v : View). slice_get (heads h l v) at.number) view ∙ at.at_head in
     let size = of.tables.size in
-    let within = slice_get_within (heads h l (view_of stand.group of.class)) at.number at.head head in
+    let within = slice_get_within (heads h l (view_of_group stand.group of.class)) at.number at.head head in
     let table = get_within stand.group.tables at.number (omega arith) in
-    let front = has_front h l (view_of stand.group of.class) at.head table.0 (of.tables.each at.number at.head table.0 head table.1) in
+    let front = has_front h l (view_of_group stand.group of.class) at.head table.0 (of.tables.each at.number at.head table.0 head table.1) in
     let has = has_point stand.group.tables at.number table.0 table.1 front.some front.few in
     let some = has.some in
     let few = has.few in
@@ -74,7 +74,7 @@ point_below w x placed world stand class s point at =
     omega arith
 
 -- and the record of a class
-pub record_above : (w : World) (c : ClassId) → IsWorld w → c.0 < length (classes_in w) → w.addresses.records ≤ w.addresses.info c
+pub record_above : (w : World) (c : ClassId) → IsProgramWorld w → c.0 < length (world_classes w) → w.addresses.records ≤ w.addresses.info c
 record_above w c world known =
     let size = world.tables.one_info_each in
     let info = get_within w.infos c.0 (omega arith) in

@@ -8,16 +8,16 @@ use Rattle.cxx_hierarchy.specs.declared.records.ClassId.{ClassId}
 use Rattle.cxx_hierarchy.proofs.Listed.{get_map}
 use Rattle.path_model.specs.Values.{Objects}
 use Rattle.byte_memory.specs.declared.memory.Region.{Region}
-use Rattle.byte_memory.specs.Bits.{cleared, is_among}
+use Rattle.byte_memory.specs.Bits.{cleared, is_among_places}
 use Rattle.byte_memory.specs.Regions.{shut}
 use Rattle.byte_memory.specs.Store.{Store, Closes, close_of}
 use Rattle.byte_memory.proofs.Reached.{slice_get-shut, IsAscending-shut, total_of-shut}
 use Rattle.byte_machine.specs.declared.heap.Opened.{Opened}
 use Rattle.byte_machine.proofs.Leads.{same_number, other_number}
-use Rattle.agree_parts.specs.Heaps.{start_of}
+use Rattle.agree_parts.specs.Heaps.{object_start}
 use Rattle.agree_parts.proofs.Objects.{object_there}
 use Rattle.agree_parts.proofs.Found.{regions_shut, start_found}
-use Rattle.agree_relation.specs.Worlds.{World, IsWorld, classes_in, places_in}
+use Rattle.agree_relation.specs.Worlds.{World, IsProgramWorld, world_classes, places_in}
 use Rattle.agree_relation.specs.Words.{heap_of}
 use Rattle.agree_relation.specs.Columns.{IsRegionOf, listed_as, ObjectsStand}
 use Rattle.agree_relation.proofs.Objects.{HasRegion, object_has_region, objects_regions, objects_placed, objects_laid}
@@ -35,7 +35,7 @@ with_closed s closed = record { classes = s.classes; is_closed = closed; phases 
 pub cleared_outside : (bit : ℕ → Option Bool) (at n place : ℕ) → (place < at) ⊎ (at + n ≤ place) → cleared bit at n place ≡ bit place
 cleared_outside bit at n place outside = ap (λ (b : Bool). if b then None else bit place) (no_test outside)
   where
-    no_test : (place < at) ⊎ (at + n ≤ place) → is_among at n place ≡ false
+    no_test : (place < at) ⊎ (at + n ≤ place) → is_among_places at n place ≡ false
     no_test o = ⊎_elim (λ (less : place < at). grind (arith, nat_tests)) (λ (more : at + n ≤ place). grind (arith, nat_tests)) o
 
 -- objects start where they did
@@ -45,27 +45,27 @@ heap_shut w s regions opened heap at o =
     λ i. record { classes = s.classes; starts = same.starts i }
 
 -- what the machine closes at the start of an object is that object
-pub closes_object : (w : World) (s : Objects) (old new : Store) (opened : List Opened) (heap k : ℕ) (c : ClassId) → IsWorld w → ObjectsStand w s old.regions opened heap → slice_get s.classes k ≡ Some c → Closes old new (start_of (heap_of s.classes old.regions) k) →
-    new ≡ close_of old (start_of (heap_of s.classes old.regions) k) ((places_in w).size c)
+pub closes_object : (w : World) (s : Objects) (old new : Store) (opened : List Opened) (heap k : ℕ) (c : ClassId) → IsProgramWorld w → ObjectsStand w s old.regions opened heap → slice_get s.classes k ≡ Some c → Closes old new (object_start (heap_of s.classes old.regions) k) →
+    new ≡ close_of old (object_start (heap_of s.classes old.regions) k) ((places_in w).size c)
 closes_object w s old new opened heap k c world o class closes =
     let g = heap_of s.classes old.regions in
     let r = object_has_region w s old.regions opened heap k c o class in
-    let found = start_found (classes_in w) w.setup.rows g old.regions k (start_of g k) c (objects_laid w s old.regions opened heap world o) (objects_regions w s old.regions opened heap o) (object_there (classes_in w) (places_in w) g k c (objects_placed w s old.regions opened heap o) class) in
+    let found = start_found (world_classes w) w.setup.rows g old.regions k (object_start g k) c (objects_laid w s old.regions opened heap world o) (objects_regions w s old.regions opened heap o) (object_there (world_classes w) (places_in w) g k c (objects_placed w s old.regions opened heap o) class) in
     let is : Some closes.region ≡ Some r.region = sym closes.there ∙ (found ∙ r.there) in
     let one : closes.region ≡ r.region = cc in
-    closes.new_is ∙ ap (λ (n : ℕ). close_of old (start_of g k) n) (ap (λ (x : Region). x.size) one ∙ r.of.size)
+    closes.new_is ∙ ap (λ (n : ℕ). close_of old (object_start g k) n) (ap (λ (x : Region). x.size) one ∙ r.of.size)
 
-module _ (w : World) (s : Objects) (regions : List Region) (opened : List Opened) (heap k : ℕ) (c : ClassId) (closed : ℕ → Bool) (world : IsWorld w) (o : ObjectsStand w s regions opened heap) (class : slice_get s.classes k ≡ Some c) (closing : IsClosing s k closed) where
+module _ (w : World) (s : Objects) (regions : List Region) (opened : List Opened) (heap k : ℕ) (c : ClassId) (closed : ℕ → Bool) (world : IsProgramWorld w) (o : ObjectsStand w s regions opened heap) (class : slice_get s.classes k ≡ Some c) (closing : IsClosing s k closed) where
   abbrev start : ℕ
-  start = start_of (heap_of s.classes regions) k
+  start = object_start (heap_of s.classes regions) k
 
   -- two objects do not start at one place
-  starts_apart : (j : ℕ) (d : ClassId) → slice_get s.classes j ≡ Some d → (j ≡ k → ⊥) → start_of (heap_of s.classes regions) j ≡ start → ⊥
+  starts_apart : (j : ℕ) (d : ClassId) → slice_get s.classes j ≡ Some d → (j ≡ k → ⊥) → object_start (heap_of s.classes regions) j ≡ start → ⊥
   starts_apart j d there other same =
       let g = heap_of s.classes regions in
       let placed = objects_placed w s regions opened heap o in
-      let a = object_there (classes_in w) (places_in w) g j d placed there in
-      let b = object_there (classes_in w) (places_in w) g k c placed class in
+      let a = object_there (world_classes w) (places_in w) g j d placed there in
+      let b = object_there (world_classes w) (places_in w) g k c placed class in
       let first = (world.sound.each d (placed.known j d there)).positive in
       let second = (world.sound.each c (placed.known k c class)).positive in
       ⊎_elim
@@ -84,7 +84,7 @@ module _ (w : World) (s : Objects) (regions : List Region) (opened : List Opened
       by_number : (old : HasRegion w s regions j d) → (j ≡ k) ⊎ (j ≡ k → ⊥) → IsRegionOf w d (closed j) (shut start old.region)
       by_number old cases = ⊎_elim
           (λ (same : j ≡ k).
-          let at_start : old.region.start ≡ start = old.start ∙ ap (start_of (heap_of s.classes regions)) same in
+          let at_start : old.region.start ≡ start = old.start ∙ ap (object_start (heap_of s.classes regions)) same in
           let test : nat_eq old.region.start start ≡ true = ap (λ (n : ℕ). nat_eq n start) at_start ∙ same_number start in
           let now : closed j ≡ true = ap closed same ∙ closing.here in
           subst (λ (b : Bool). IsRegionOf w d (closed j) (if b then record old.region { is_open = false } else old.region)) (sym test)

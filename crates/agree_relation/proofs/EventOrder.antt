@@ -13,75 +13,75 @@ use Rattle.cxx_hierarchy.specs.Classes.{Classes, bases_of, members_of}
 use Rattle.cxx_hierarchy.specs.Declarations.{elements_of}
 use Rattle.cxx_subobject.specs.Locations.{ObjectPart}
 use Rattle.path_plan.specs.Places.{base_part, shared_part, element}
-use Rattle.path_plan.specs.Phases.{Event, Begin, Ready, Init, Body, Done, Ending, Bases, End}
+use Rattle.path_plan.specs.Phases.{PartEvent, Begin, Ready, Init, Body, Done, Ending, Bases, End}
 use Rattle.path_plan.specs.Plans.{Bodies, Form, InFull, AsBase, Inner, virtual_order, upto, backwards, shared_events, base_events, init_events, typed_events, body_events, member_events, built_by, typed_ending, member_ending, ended_by}
 
 -- up to the first a of a list there is no b
-abbrev pub Before : Event → Event → List Event → Type 0
+abbrev pub Before : PartEvent → PartEvent → List PartEvent → Type 0
 Before a b [] = Unit {0}
 Before a b (e ∷ es) = (e ≡ b → ⊥) × ((e ≡ a) ⊎ Before a b es)
 
 -- behind each a of a list there is a b
-abbrev pub Behind : Event → Event → List Event → Type 0
+abbrev pub Behind : PartEvent → PartEvent → List PartEvent → Type 0
 Behind a b [] = Unit {0}
 Behind a b (e ∷ es) = (e ≡ a → Has es b) × Behind a b es
 
 -- there is no a
-abbrev pub Lacks : Event → List Event → Type 0
+abbrev pub Lacks : PartEvent → List PartEvent → Type 0
 Lacks a [] = Unit {0}
 Lacks a (e ∷ es) = (e ≡ a → ⊥) × Lacks a es
 
 -- what is used of them
 
-pub front_has : (a b : Event) (xs ys : List Event) → Before a b (xs ++ ys) → Has xs b → Has xs a
+pub front_has : (a b : PartEvent) (xs ys : List PartEvent) → Before a b (xs ++ ys) → Has xs b → Has xs a
 front_has a b [] ys order has = absurd has
 front_has a b (e ∷ xs) ys order has = ⊎_elim (λ same. absurd (order.0 same)) (λ more. ⊎_elim (λ first. inl first) (λ rest. inr (front_has a b xs ys rest more)) order.1) has
 
-end_all : (a b : Event) (ys : List Event) → Behind a b ys → Has ys a → Has ys b
+end_all : (a b : PartEvent) (ys : List PartEvent) → Behind a b ys → Has ys a → Has ys b
 end_all a b [] order has = absurd has
 end_all a b (e ∷ ys) order has = ⊎_elim (λ same. inr (order.0 same)) (λ more. inr (end_all a b ys order.1 more)) has
 
-pub end_has : (a b : Event) (xs ys : List Event) → Behind a b (xs ++ ys) → Has ys a → Has ys b
+pub end_has : (a b : PartEvent) (xs ys : List PartEvent) → Behind a b (xs ++ ys) → Has ys a → Has ys b
 end_has a b [] ys order has = end_all a b ys order has
 end_has a b (e ∷ xs) ys order has = end_has a b xs ys order.1 has
 
-pub lacks_front : (a : Event) (xs ys : List Event) → Lacks a (xs ++ ys) → Has xs a → ⊥
+pub lacks_front : (a : PartEvent) (xs ys : List PartEvent) → Lacks a (xs ++ ys) → Has xs a → ⊥
 lacks_front a [] ys lacks has = has
 lacks_front a (e ∷ xs) ys lacks has = ⊎_elim (λ same. lacks.0 same) (λ more. lacks_front a xs ys lacks.1 more) has
 
 -- where b is last
-pub ends_behind : (a b : Event) (xs : List Event) → (b ≡ a → ⊥) → Behind a b (xs ++ b ∷ [])
+pub ends_behind : (a b : PartEvent) (xs : List PartEvent) → (b ≡ a → ⊥) → Behind a b (xs ++ b ∷ [])
 ends_behind a b [] differ = (λ same. absurd (differ same), tt)
 ends_behind a b (e ∷ xs) differ = (λ _. has_right xs (b ∷ []) b (inl refl), ends_behind a b xs differ)
 
 -- lists of which something holds, put together
-pub record IsClosed (B : List Event → Type 0) : Type 0 where
+pub record IsClosed (B : List PartEvent → Type 0) : Type 0 where
   pub none : B []
-  pub joined : (xs ys : List Event) → B xs → B ys → B (xs ++ ys)
+  pub joined : (xs ys : List PartEvent) → B xs → B ys → B (xs ++ ys)
 
-before_joined : (a b : Event) (xs ys : List Event) → Before a b xs → Before a b ys → Before a b (xs ++ ys)
+before_joined : (a b : PartEvent) (xs ys : List PartEvent) → Before a b xs → Before a b ys → Before a b (xs ++ ys)
 before_joined a b [] ys s t = t
 before_joined a b (e ∷ xs) ys s t = (s.0, ⊎_elim (λ first. inl first) (λ rest. inr (before_joined a b xs ys rest t)) s.1)
 
-pub before_closed : (a b : Event) → IsClosed (Before a b)
+pub before_closed : (a b : PartEvent) → IsClosed (Before a b)
 before_closed a b = record { none = tt; joined = before_joined a b }
 
-behind_joined : (a b : Event) (xs ys : List Event) → Behind a b xs → Behind a b ys → Behind a b (xs ++ ys)
+behind_joined : (a b : PartEvent) (xs ys : List PartEvent) → Behind a b xs → Behind a b ys → Behind a b (xs ++ ys)
 behind_joined a b [] ys s t = t
 behind_joined a b (e ∷ xs) ys s t = (λ same. has_left xs ys b (s.0 same), behind_joined a b xs ys s.1 t)
 
-pub behind_closed : (a b : Event) → IsClosed (Behind a b)
+pub behind_closed : (a b : PartEvent) → IsClosed (Behind a b)
 behind_closed a b = record { none = tt; joined = behind_joined a b }
 
-lacks_joined : (a : Event) (xs ys : List Event) → Lacks a xs → Lacks a ys → Lacks a (xs ++ ys)
+lacks_joined : (a : PartEvent) (xs ys : List PartEvent) → Lacks a xs → Lacks a ys → Lacks a (xs ++ ys)
 lacks_joined a [] ys s t = t
 lacks_joined a (e ∷ xs) ys s t = (s.0, lacks_joined a xs ys s.1 t)
 
-pub lacks_closed : (a : Event) → IsClosed (Lacks a)
+pub lacks_closed : (a : PartEvent) → IsClosed (Lacks a)
 lacks_closed a = record { none = tt; joined = lacks_joined a }
 
-module _ (B : List Event → Type 0) (closed : IsClosed B) where
-  flat_has : {X : Type 0} (f : X → List Event) (xs : List X) → ((x : X) → Has xs x → B (f x)) → B (flat_map f xs)
+module _ (B : List PartEvent → Type 0) (closed : IsClosed B) where
+  flat_has : {X : Type 0} (f : X → List PartEvent) (xs : List X) → ((x : X) → Has xs x → B (f x)) → B (flat_map f xs)
   flat_has f [] each = closed.none
   flat_has f (x ∷ xs) each = closed.joined (f x) (flat_map f xs) (each x (inl refl)) (flat_has f xs (λ y more. each y (inr more)))
 

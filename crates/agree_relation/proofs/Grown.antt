@@ -16,9 +16,9 @@ use Rattle.path_model.specs.TypedStates.{IsPartMade, IsLeafMade, IsValue}
 use Rattle.byte_memory.specs.declared.memory.Region.{Region}
 use Rattle.agree_parts.specs.Heaps.{Heap, grown}
 use Rattle.agree_parts.specs.Addresses.{address, leaf_bits}
-use Rattle.agree_parts.specs.Placed.{IsPlaced}
+use Rattle.agree_parts.specs.Placed.{AreObjectsPlaced}
 use Rattle.agree_parts.proofs.Growth.{address_kept, leaf_kept}
-use Rattle.agree_relation.specs.Worlds.{World, classes_in, places_in}
+use Rattle.agree_relation.specs.Worlds.{World, world_classes, places_in}
 use Rattle.agree_relation.specs.Words.{start_in, heap_of, word_modulo}
 
 -- two numbers are one, or not
@@ -44,19 +44,19 @@ leaf_less h classes c a t m old = record { class = m.class; part = part_less h c
 
 -- where they lie
 
-pub address_grown : (w : World) (classes : List ClassId) (regions : List Region) (c d : ClassId) (new : Region) (p : ObjectPart) → IsPlaced (classes_in w) (places_in w) (heap_of classes regions) → IsPartMade (classes_in w) classes p d →
-    address (classes_in w) (places_in w) (heap_of (classes ++ c ∷ []) (regions ++ new ∷ [])) p ≡ address (classes_in w) (places_in w) (heap_of classes regions) p
+pub address_grown : (w : World) (classes : List ClassId) (regions : List Region) (c d : ClassId) (new : Region) (p : ObjectPart) → AreObjectsPlaced (world_classes w) (places_in w) (heap_of classes regions) → IsPartMade (world_classes w) classes p d →
+    address (world_classes w) (places_in w) (heap_of (classes ++ c ∷ []) (regions ++ new ∷ [])) p ≡ address (world_classes w) (places_in w) (heap_of classes regions) p
 address_grown w classes regions c d new p placed made =
-    ap (λ (g : Heap). address (classes_in w) (places_in w) g p) (heap_grown classes regions c new) ∙ address_kept (classes_in w) (places_in w) (heap_of classes regions) c d new.start p placed made
+    ap (λ (g : Heap). address (world_classes w) (places_in w) g p) (heap_grown classes regions c new) ∙ address_kept (world_classes w) (places_in w) (heap_of classes regions) c d new.start p placed made
 
-pub leaf_grown : (w : World) (classes : List ClassId) (regions : List Region) (c : ClassId) (new : Region) (a : Leaf) (t : ValueType ClassId) → IsPlaced (classes_in w) (places_in w) (heap_of classes regions) → IsLeafMade (classes_in w) classes a t →
-    leaf_bits (classes_in w) (places_in w) (heap_of (classes ++ c ∷ []) (regions ++ new ∷ [])) a ≡ leaf_bits (classes_in w) (places_in w) (heap_of classes regions) a
+pub leaf_grown : (w : World) (classes : List ClassId) (regions : List Region) (c : ClassId) (new : Region) (a : Leaf) (t : ValueType ClassId) → AreObjectsPlaced (world_classes w) (places_in w) (heap_of classes regions) → IsLeafMade (world_classes w) classes a t →
+    leaf_bits (world_classes w) (places_in w) (heap_of (classes ++ c ∷ []) (regions ++ new ∷ [])) a ≡ leaf_bits (world_classes w) (places_in w) (heap_of classes regions) a
 leaf_grown w classes regions c new a t placed made =
-    ap (λ (g : Heap). leaf_bits (classes_in w) (places_in w) g a) (heap_grown classes regions c new) ∙ leaf_kept (classes_in w) (places_in w) (heap_of classes regions) c new.start a t placed made
+    ap (λ (g : Heap). leaf_bits (world_classes w) (places_in w) g a) (heap_grown classes regions c new) ∙ leaf_kept (world_classes w) (places_in w) (heap_of classes regions) c new.start a t placed made
 
 -- values of a type
 
-pub word_grown : (w : World) (classes : List ClassId) (regions : List Region) (c : ClassId) (new : Region) (n : ℕ) (v : Value) (t : ValueType ClassId) → IsPlaced (classes_in w) (places_in w) (heap_of classes regions) → IsValue (classes_in w) classes v t →
+pub word_grown : (w : World) (classes : List ClassId) (regions : List Region) (c : ClassId) (new : Region) (n : ℕ) (v : Value) (t : ValueType ClassId) → AreObjectsPlaced (world_classes w) (places_in w) (heap_of classes regions) → IsValue (world_classes w) classes v t →
     word_modulo w (heap_of (classes ++ c ∷ []) (regions ++ new ∷ [])) n v ≡ word_modulo w (heap_of classes regions) n v
 word_grown w classes regions c new n Unset t placed typed = refl
 word_grown w classes regions c new n (Number z) t placed typed = refl

@@ -30,7 +30,7 @@ use Rattle.abi_dyncast.specs.Casts.{TellsWithin, CanTellWithin}
 use Rattle.agree_parts.specs.Addresses.{address}
 use Rattle.agree_parts.proofs.Made.{complete_made}
 use Rattle.agree_parts.proofs.Inside.{known_class}
-use Rattle.agree_relation.specs.Worlds.{World, IsWorld, classes_in, places_in}
+use Rattle.agree_relation.specs.Worlds.{World, IsProgramWorld, world_classes, places_in}
 use Rattle.agree_relation.specs.Words.{heap_of}
 use Rattle.agree_relation.specs.Columns.{ColumnsStand, HasPointers}
 use Rattle.agree_relation.proofs.Objects.{objects_laid}
@@ -38,7 +38,7 @@ use Rattle.agree_relation.proofs.Tables.{world_no_point}
 use Rattle.agree_relation.proofs.Within.{tells_can, tells_is}
 
 -- a view whose class has no table is told to have no part
-pub plain_can : (w : World) (memory : Store) (at : ℕ) (e : ClassId) → IsWorld w → e.0 < length (classes_in w) → (IsDynamic (classes_in w) e → ⊥) → CanTellWithin (word_at w.image) w.image.base memory w.parts at e.0
+pub plain_can : (w : World) (memory : Store) (at : ℕ) (e : ClassId) → IsProgramWorld w → e.0 < length (world_classes w) → (IsDynamic (world_classes w) e → ⊥) → CanTellWithin (word_at w.image) w.image.base memory w.parts at e.0
 plain_can w memory at e world known plain =
     let none = world_no_point w e world known plain in
     let inside = word_inside w.image (w.image.base + 16 * e.0) 0 none in
@@ -50,25 +50,25 @@ plain_can w memory at e world known plain =
       walk = λ some. absurd (let zero_is = ap word_in none in omega arith);
     }
 
-pub plain_is : (w : World) (memory : Store) (at : ℕ) (e : ClassId) (there class : ℕ) (told : Bool) → IsWorld w → e.0 < length (classes_in w) → (IsDynamic (classes_in w) e → ⊥) → TellsWithin (word_at w.image) w.image.base memory at e.0 there class told → told ≡ false
+pub plain_is : (w : World) (memory : Store) (at : ℕ) (e : ClassId) (there class : ℕ) (told : Bool) → IsProgramWorld w → e.0 < length (world_classes w) → (IsDynamic (world_classes w) e → ⊥) → TellsWithin (word_at w.image) w.image.base memory at e.0 there class told → told ≡ false
 plain_is w memory at e there class told world known plain tells = is_false told (λ t. let is = tells.0 t in let some = is.dynamic in let zero_is = ap word_in (world_no_point w e world known plain) in omega arith)
 
-module _ (w : World) (s : Objects) (memory : Store) (opened : List Opened) (heap : ℕ) (notes : Notes) (world : IsWorld w) (columns : ColumnsStand w s memory opened heap notes) (p : ObjectPart) (c d e : ClassId) (x : Subobject) (made : IsPartMade (classes_in w) s.classes p c) (owner : class_of_owner (classes_in w) s p ≡ Some d) (seen : view s.phases p.object p.owner d ≡ Some x) (there : IsPartMade (classes_in w) s.classes (part p.object p.owner x) e) (ready : is_ready (s.phases.phase (part p.object p.owner x)) ≡ true) (open_there : s.is_closed p.object ≡ false) where
+module _ (w : World) (s : Objects) (memory : Store) (opened : List Opened) (heap : ℕ) (notes : Notes) (world : IsProgramWorld w) (columns : ColumnsStand w s memory opened heap notes) (p : ObjectPart) (c d e : ClassId) (x : Subobject) (made : IsPartMade (world_classes w) s.classes p c) (owner : class_of_owner (world_classes w) s p ≡ Some d) (seen : view s.phases p.object p.owner d ≡ Some x) (there : IsPartMade (world_classes w) s.classes (part p.object p.owner x) e) (ready : is_ready (s.phases.phase (part p.object p.owner x)) ≡ true) (open_there : s.is_closed p.object ≡ false) where
   -- the pointers of the view
-  pub view_pointers : IsDynamic (classes_in w) e → HasPointers w (heap_of s.classes memory.regions) memory (part p.object p.owner x) e d
-  view_pointers dynamic = columns.pointers.pointers p.object p.owner d e x (complete_made (classes_in w) (heap_of s.classes memory.regions) p c d made owner) there open_there seen ready dynamic
+  pub view_pointers : IsDynamic (world_classes w) e → HasPointers w (heap_of s.classes memory.regions) memory (part p.object p.owner x) e d
+  view_pointers dynamic = columns.pointers.pointers p.object p.owner d e x (complete_made (world_classes w) (heap_of s.classes memory.regions) p c d made owner) there open_there seen ready dynamic
 
-  view_known : e.0 < length (classes_in w)
-  view_known = known_class (classes_in w) w.setup.rows (heap_of s.classes memory.regions) (part p.object p.owner x) e (objects_laid w s memory.regions opened heap world columns.objects) there
+  view_known : e.0 < length (world_classes w)
+  view_known = known_class (world_classes w) w.setup.rows (heap_of s.classes memory.regions) (part p.object p.owner x) e (objects_laid w s memory.regions opened heap world columns.objects) there
 
   -- outside is what is not within the view
-  pub outside_is : is_outside (classes_in w) s p ≡ not (is_within (classes_in w) x p.at)
-  outside_is = ap (λ (o : Option Subobject). is_outside_of (classes_in w) o p.at) (ap (view_in s.phases p.object p.owner) owner ∙ seen)
+  pub outside_is : is_outside (world_classes w) s p ≡ not (is_within (world_classes w) x p.at)
+  outside_is = ap (λ (o : Option Subobject). is_outside_of (world_classes w) o p.at) (ap (view_in s.phases p.object p.owner) owner ∙ seen)
 
   -- a dynamic part lies in no view whose class is not
-  not_in_plain : IsDynamic (classes_in w) c → (IsDynamic (classes_in w) e → ⊥) → is_within (classes_in w) x p.at ≡ false
-  not_in_plain dynamic plain = is_false (is_within (classes_in w) x p.at) (λ t.
-      let h = classes_in w in
+  not_in_plain : IsDynamic (world_classes w) c → (IsDynamic (world_classes w) e → ⊥) → is_within (world_classes w) x p.at ≡ false
+  not_in_plain dynamic plain = is_false (is_within (world_classes w) x p.at) (λ t.
+      let h = world_classes w in
       let k = within_inside h x p.at t in
       let both : Some k.class ≡ Some e = sym k.of_class ∙ there.of_class in
       let same : k.class ≡ e = cc in
@@ -77,9 +77,9 @@ module _ (w : World) (s : Objects) (memory : Store) (opened : List Opened) (heap
       plain (dynamic_whole h e c k.part valid of_class dynamic))
 
   -- the machine can be told
-  pub view_can : CanTellWithin (word_at w.image) w.image.base memory w.parts (address (classes_in w) (places_in w) (heap_of s.classes memory.regions) (part p.object p.owner x)) e.0
+  pub view_can : CanTellWithin (word_at w.image) w.image.base memory w.parts (address (world_classes w) (places_in w) (heap_of s.classes memory.regions) (part p.object p.owner x)) e.0
   view_can =
-      let h = classes_in w in
+      let h = world_classes w in
       let g = heap_of s.classes memory.regions in
       let laid = objects_laid w s memory.regions opened heap world columns.objects in
       split (is_dynamic h e) (λ b. CanTellWithin (word_at w.image) w.image.base memory w.parts (address h (places_in w) g (part p.object p.owner x)) e.0)
@@ -87,10 +87,10 @@ module _ (w : World) (s : Objects) (memory : Store) (opened : List Opened) (heap
       (λ no_dynamic. plain_can w memory (address h (places_in w) g (part p.object p.owner x)) e world view_known (λ dynamic. not_both (dynamic_test h world.hierarchy e dynamic) no_dynamic))
 
   -- and is told, of a dynamic part, what the rule says
-  pub view_is_told : IsDynamic (classes_in w) c → (told : Bool) →
-      TellsWithin (word_at w.image) w.image.base memory (address (classes_in w) (places_in w) (heap_of s.classes memory.regions) (part p.object p.owner x)) e.0 (address (classes_in w) (places_in w) (heap_of s.classes memory.regions) p) c.0 told → told ≡ not (is_outside (classes_in w) s p)
+  pub view_is_told : IsDynamic (world_classes w) c → (told : Bool) →
+      TellsWithin (word_at w.image) w.image.base memory (address (world_classes w) (places_in w) (heap_of s.classes memory.regions) (part p.object p.owner x)) e.0 (address (world_classes w) (places_in w) (heap_of s.classes memory.regions) p) c.0 told → told ≡ not (is_outside (world_classes w) s p)
   view_is_told dynamic_part told tells =
-      let h = classes_in w in
+      let h = world_classes w in
       let g = heap_of s.classes memory.regions in
       let laid = objects_laid w s memory.regions opened heap world columns.objects in
       split (is_dynamic h e) (λ b. told ≡ is_within h x p.at)

@@ -9,13 +9,13 @@ use Rattle.path_plan.specs.Places.{part}
 use Rattle.path_model.specs.Values.{Objects}
 use Rattle.byte_memory.specs.declared.memory.Region.{Region}
 use Rattle.byte_machine.specs.declared.heap.Opened.{Opened}
-use Rattle.agree_parts.specs.Heaps.{Heap, or_zero, start_of}
+use Rattle.agree_parts.specs.Heaps.{Heap, or_zero, object_start}
 use Rattle.agree_parts.specs.Addresses.{address}
-use Rattle.agree_parts.specs.Placed.{IsPlaced, IsLaid}
+use Rattle.agree_parts.specs.Placed.{AreObjectsPlaced, AreObjectsLaid}
 use Rattle.agree_parts.specs.Regions.{AreRegions}
 use Rattle.agree_parts.proofs.Objects.{also_there}
 use Rattle.agree_parts.proofs.Found.{object_region}
-use Rattle.agree_relation.specs.Worlds.{World, IsWorld, classes_in, places_in}
+use Rattle.agree_relation.specs.Worlds.{World, IsProgramWorld, world_classes, places_in}
 use Rattle.agree_relation.specs.Words.{start_in, heap_of}
 use Rattle.agree_relation.specs.Columns.{IsRegionOf, ObjectsStand}
 
@@ -28,18 +28,18 @@ pub record HasRegion (w : World) (s : Objects) (regions : List Region) (k : ℕ)
   pub region : Region
   pub there : slice_get regions k ≡ Some region
   pub of : IsRegionOf w c (s.is_closed k) region
-  pub start : region.start ≡ start_of (heap_of s.classes regions) k
+  pub start : region.start ≡ object_start (heap_of s.classes regions) k
 
 pub object_has_region : (w : World) (s : Objects) (regions : List Region) (opened : List Opened) (heap k : ℕ) (c : ClassId) → ObjectsStand w s regions opened heap → slice_get s.classes k ≡ Some c → HasRegion w s regions k c
 object_has_region w s regions opened heap k c o class =
     let found = also_there s.classes regions k c o.count class in
     record { region = found.0; there = found.1; of = o.region k c found.0 class found.1; start = started found.0 found.1 }
   where
-    started : (r : Region) → slice_get regions k ≡ Some r → r.start ≡ start_of (heap_of s.classes regions) k
+    started : (r : Region) → slice_get regions k ≡ Some r → r.start ≡ object_start (heap_of s.classes regions) k
     started r there = sym (ap or_zero (get_map start_in regions k r there))
 
 -- the objects lie apart
-pub objects_placed : (w : World) (s : Objects) (regions : List Region) (opened : List Opened) (heap : ℕ) → ObjectsStand w s regions opened heap → IsPlaced (classes_in w) (places_in w) (heap_of s.classes regions)
+pub objects_placed : (w : World) (s : Objects) (regions : List Region) (opened : List Opened) (heap : ℕ) → ObjectsStand w s regions opened heap → AreObjectsPlaced (world_classes w) (places_in w) (heap_of s.classes regions)
 objects_placed w s regions opened heap o =
     let g = heap_of s.classes regions in
     let l = places_in w in
@@ -60,9 +60,9 @@ objects_placed w s regions opened heap o =
     }
 
 -- they are objects of the program's hierarchy, by its layout
-pub objects_laid : (w : World) (s : Objects) (regions : List Region) (opened : List Opened) (heap : ℕ) → IsWorld w → ObjectsStand w s regions opened heap → IsLaid (classes_in w) w.setup.rows (heap_of s.classes regions)
+pub objects_laid : (w : World) (s : Objects) (regions : List Region) (opened : List Opened) (heap : ℕ) → IsProgramWorld w → ObjectsStand w s regions opened heap → AreObjectsLaid (world_classes w) w.setup.rows (heap_of s.classes regions)
 objects_laid w s regions opened heap world o = record { hierarchy = world.hierarchy; sound = world.sound; placed = objects_placed w s regions opened heap o }
 
 -- where a heap object starts is the address of its whole
-pub whole_address : (w : World) (g : Heap) (k : ℕ) (c : ClassId) → slice_get g.classes k ≡ Some c → address (classes_in w) (places_in w) g (part k [] (whole_of c)) ≡ start_of g k
+pub whole_address : (w : World) (g : Heap) (k : ℕ) (c : ClassId) → slice_get g.classes k ≡ Some c → address (world_classes w) (places_in w) g (part k [] (whole_of c)) ≡ object_start g k
 whole_address w g k c class = rw class (omega arith)

@@ -6,16 +6,16 @@ use Rattle.std.proofs.lemmas.List.Sums.{sum_by_push}
 use Rattle.foundation.proofs.Places.{get_front, get_last, get_pushed, length_pushed}
 use Rattle.cxx_hierarchy.specs.declared.records.ClassId.{ClassId}
 use Rattle.path_model.specs.Values.{Objects}
-use Rattle.path_model.specs.Effects.{made as with_made}
-use Rattle.path_model.specs.Runs.{rounded as rounded_size}
+use Rattle.path_model.specs.Effects.{with_new_object as with_made}
+use Rattle.path_model.specs.Runs.{size_in_heap as rounded_size}
 use Rattle.byte_memory.specs.declared.memory.Region.{Region}
 use Rattle.byte_memory.specs.Regions.{rounded}
 use Rattle.byte_memory.specs.Store.{Store, IsRoom}
 use Rattle.byte_memory.proofs.Ascending.{IsAscendingBy-push}
 use Rattle.byte_machine.specs.declared.heap.Opened.{Opened}
-use Rattle.byte_machine.specs.Heap.{made as with_listed}
+use Rattle.byte_machine.specs.Heap.{with_heap_object as with_listed}
 use Rattle.byte_machine.proofs.Leads.{same_number, other_number}
-use Rattle.agree_relation.specs.Worlds.{World, classes_in, places_in}
+use Rattle.agree_relation.specs.Worlds.{World, world_classes, places_in}
 use Rattle.agree_relation.specs.Columns.{IsRegionOf, listed_as, ObjectsStand}
 
 -- the region of an object of a size
@@ -37,7 +37,7 @@ module _ (w : World) (s : Objects) (regions : List Region) (opened : List Opened
   abbrev new : Region
   new = new_region at ((places_in w).size c)
 
-  region_before : (known : c.0 < length (classes_in w)) (positive : 0 < at) (limit : at + size < 2 ^ 41) (k : ℕ) (d : ClassId) (r : Region) → slice_get (s.classes ++ c ∷ []) k ≡ Some d → slice_get (regions ++ new ∷ []) k ≡ Some r → IsRegionOf w d ((with_made s c).is_closed k) r
+  region_before : (known : c.0 < length (world_classes w)) (positive : 0 < at) (limit : at + size < 2 ^ 41) (k : ℕ) (d : ClassId) (r : Region) → slice_get (s.classes ++ c ∷ []) k ≡ Some d → slice_get (regions ++ new ∷ []) k ≡ Some r → IsRegionOf w d ((with_made s c).is_closed k) r
   region_before known positive limit k d r class there = ⊎_elim
       (λ old_class. ⊎_elim
       (λ old_there. let within = slice_get_within s.classes k d old_class in subst (λ (b : Bool). IsRegionOf w d b r) (sym (closed_before s c k (λ e. omega arith))) (o.region k d r old_class old_there))
@@ -65,7 +65,7 @@ module _ (w : World) (s : Objects) (regions : List Region) (opened : List Opened
       ap (λ (n : ℕ). slice_get (with_listed opened at size c.0) n) last ∙ (get_last opened (listed_as (length opened) c new) ∙ λ i. Some (listed_as (number i) (of_class i) (of_region i)))) (get_pushed regions new k r there))
       (get_pushed s.classes c k d class)
 
-  pub objects_made : (memory : Store) → memory.regions ≡ regions → c.0 < length (classes_in w) → IsRoom memory at size → ObjectsStand w (with_made s c) (regions ++ new ∷ []) (with_listed opened at size c.0) (heap + rounded size)
+  pub objects_made : (memory : Store) → memory.regions ≡ regions → c.0 < length (world_classes w) → IsRoom memory at size → ObjectsStand w (with_made s c) (regions ++ new ∷ []) (with_listed opened at size c.0) (heap + rounded size)
   objects_made memory same known room = record {
     count = length_pushed regions new ∙ (ap (λ (n : ℕ). n + 1) o.count ∙ sym (length_pushed s.classes c));
     ascending = IsAscendingBy-push (λ (r : Region). r.start) (λ r. r.size) regions new o.ascending (subst (λ (rs : List Region). All (λ (r : Region). r.start + r.size ≤ at) rs) same room.above);

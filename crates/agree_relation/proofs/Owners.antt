@@ -18,28 +18,28 @@ use Rattle.path_model.specs.Uses.{class_of_owner}
 use Rattle.path_model.specs.Rules.{is_whole_of, is_no_whole, is_in_heap_object}
 use Rattle.byte_memory.specs.declared.memory.Region.{Region}
 use Rattle.byte_shadow.specs.Shadows.{Notes}
-use Rattle.byte_machine.specs.Checks.{same_pair}
-use Rattle.agree_parts.specs.Heaps.{Heap, start_of}
+use Rattle.byte_machine.specs.Checks.{same_address_and_class}
+use Rattle.agree_parts.specs.Heaps.{Heap, object_start}
 use Rattle.agree_parts.specs.Addresses.{address}
-use Rattle.agree_parts.specs.Placed.{IsLaid}
+use Rattle.agree_parts.specs.Placed.{AreObjectsLaid}
 use Rattle.agree_parts.proofs.Made.{whole_made, complete_made}
 use Rattle.agree_parts.proofs.Apart.{one_part}
-use Rattle.agree_relation.specs.Worlds.{World, classes_in, places_in}
+use Rattle.agree_relation.specs.Worlds.{World, world_classes, places_in}
 use Rattle.agree_relation.specs.Words.{heap_of}
-use Rattle.agree_relation.specs.Columns.{pair_of, PhasesStand}
+use Rattle.agree_relation.specs.Columns.{shadow_pair, PhasesStand}
 use Rattle.agree_relation.proofs.Objects.{whole_address}
 
 -- the complete object of a part that was begun is noted
-pub owner_noted : (w : World) (g : Heap) (s : Phases) (notes : Notes) (p : ObjectPart) (c d : ClassId) → PhasesStand w g s notes → IsPartMade (classes_in w) g.classes p c → owner_class (classes_in w) g.classes p.object p.owner ≡ Some d → (s.phase p ≡ Raw → ⊥) →
-    notes.owner (address (classes_in w) (places_in w) g p) c.0 ≡ Some (pair_of w g (part p.object p.owner (whole_of d)) d)
-owner_noted w g s notes p c d noted made owner begun = noted.owner p c d made (complete_made (classes_in w) g p c d made owner) begun
+pub owner_noted : (w : World) (g : Heap) (s : Phases) (notes : Notes) (p : ObjectPart) (c d : ClassId) → PhasesStand w g s notes → IsPartMade (world_classes w) g.classes p c → owner_class (world_classes w) g.classes p.object p.owner ≡ Some d → (s.phase p ≡ Raw → ⊥) →
+    notes.owner (address (world_classes w) (places_in w) g p) c.0 ≡ Some (shadow_pair w g (part p.object p.owner (whole_of d)) d)
+owner_noted w g s notes p c d noted made owner begun = noted.owner p c d made (complete_made (world_classes w) g p c d made owner) begun
 
 -- pairs are compared in place of parts
 pub same_class : (c d : ClassId) → c.0 ≡ d.0 → c ≡ d
 same_class c d e = λ i. record { 0 = e i }
 
-pub pair_test : (w : World) (g : Heap) (q p : ObjectPart) (d c : ClassId) → IsLaid (classes_in w) w.setup.rows g → IsPartMade (classes_in w) g.classes q d → IsPartMade (classes_in w) g.classes p c →
-    same_pair (pair_of w g q d) (address (classes_in w) (places_in w) g p) c.0 ≡ same_part q p
+pub pair_test : (w : World) (g : Heap) (q p : ObjectPart) (d c : ClassId) → AreObjectsLaid (world_classes w) w.setup.rows g → IsPartMade (world_classes w) g.classes q d → IsPartMade (world_classes w) g.classes p c →
+    same_address_and_class (shadow_pair w g q d) (address (world_classes w) (places_in w) g p) c.0 ≡ same_part q p
 pair_test w g q p d c laid there here = by_test (same_part q p) refl
   where
     one_class : q ≡ p → d ≡ c
@@ -48,17 +48,17 @@ pair_test w g q p d c laid there here = by_test (same_part q p) refl
     same_both : (a b : ℕ) → a ≡ b → (n m : ℕ) → n ≡ m → (nat_eq a b && nat_eq n m) ≡ true
     same_both a b e n m f = rw (eq-eqb a b e, eq-eqb n m f) refl
 
-    apart : same_part q p ≡ false → (x y : Bool) → nat_eq (address (classes_in w) (places_in w) g q) (address (classes_in w) (places_in w) g p) ≡ x → nat_eq d.0 c.0 ≡ y → (x && y) ≡ false
+    apart : same_part q p ≡ false → (x y : Bool) → nat_eq (address (world_classes w) (places_in w) g q) (address (world_classes w) (places_in w) g p) ≡ x → nat_eq d.0 c.0 ≡ y → (x && y) ≡ false
     apart other true true e f =
         let class = same_class d c (eqb-true d.0 c.0 f) in
-        let made : IsPartMade (classes_in w) g.classes q c = subst (λ (z : ClassId). IsPartMade (classes_in w) g.classes q z) class there in
-        let one = one_part (classes_in w) w.setup.rows g q p c laid made here (eqb-true _ _ e) in
+        let made : IsPartMade (world_classes w) g.classes q c = subst (λ (z : ClassId). IsPartMade (world_classes w) g.classes q z) class there in
+        let one = one_part (world_classes w) w.setup.rows g q p c laid made here (eqb-true _ _ e) in
         absurd (let also : same_part q p ≡ true = ap (same_part q) (sym one) ∙ part_itself q in let no_one : true ≡ false = sym also ∙ other in cc)
     apart other true false e f = refl
     apart other false y e f = refl
 
-    by_test : (b : Bool) → same_part q p ≡ b → same_pair (pair_of w g q d) (address (classes_in w) (places_in w) g p) c.0 ≡ b
-    by_test true e = let one = part_same q p e in same_both _ _ (ap (address (classes_in w) (places_in w) g) one) d.0 c.0 (ap (λ (z : ClassId). z.0) (one_class one))
+    by_test : (b : Bool) → same_part q p ≡ b → same_address_and_class (shadow_pair w g q d) (address (world_classes w) (places_in w) g p) c.0 ≡ b
+    by_test true e = let one = part_same q p e in same_both _ _ (ap (address (world_classes w) (places_in w) g) one) d.0 c.0 (ap (λ (z : ClassId). z.0) (one_class one))
     by_test false e = apart e _ _ refl refl
 
 -- the part is the whole of its complete object
@@ -73,11 +73,11 @@ same_turned a b = by_test (same_subobject a b) refl
 pub own_owner : (k : ℕ) (o : List Step) (x y : Subobject) → same_part (part k o x) (part k o y) ≡ same_subobject x y
 own_owner k o x y = rw (owner_itself k o) refl
 
-pub whole_tested : (w : World) (s : Objects) (regions : List Region) (p : ObjectPart) (c d : ClassId) → IsLaid (classes_in w) w.setup.rows (heap_of s.classes regions) → IsPartMade (classes_in w) s.classes p c → class_of_owner (classes_in w) s p ≡ Some d →
-    same_pair (pair_of w (heap_of s.classes regions) (part p.object p.owner (whole_of d)) d) (address (classes_in w) (places_in w) (heap_of s.classes regions) p) c.0 ≡ not (is_no_whole (classes_in w) s p)
+pub whole_tested : (w : World) (s : Objects) (regions : List Region) (p : ObjectPart) (c d : ClassId) → AreObjectsLaid (world_classes w) w.setup.rows (heap_of s.classes regions) → IsPartMade (world_classes w) s.classes p c → class_of_owner (world_classes w) s p ≡ Some d →
+    same_address_and_class (shadow_pair w (heap_of s.classes regions) (part p.object p.owner (whole_of d)) d) (address (world_classes w) (places_in w) (heap_of s.classes regions) p) c.0 ≡ not (is_no_whole (world_classes w) s p)
 whole_tested w s regions p c d laid made owner =
     let g = heap_of s.classes regions in
-    pair_test w g (part p.object p.owner (whole_of d)) p d c laid (complete_made (classes_in w) g p c d made owner) made
+    pair_test w g (part p.object p.owner (whole_of d)) p d c laid (complete_made (world_classes w) g p c d made owner) made
     ∙ (own_owner p.object p.owner (whole_of d) p.at ∙ (same_turned (whole_of d) p.at ∙ (twice_not _ ∙ ap (λ (x : Option ClassId). not (not (is_whole_of x p.at))) (sym owner))))
   where
     twice_not : (b : Bool) → b ≡ not (not b)
@@ -86,16 +86,16 @@ whole_tested w s regions p c d laid made owner =
 
 -- the complete object is the heap object itself, which is of class e
 
-heap_object_tested : (w : World) (g : Heap) (k : ℕ) (o : List Step) (d e : ClassId) → slice_get g.classes k ≡ Some e → owner_class (classes_in w) g.classes k o ≡ Some d → same_part (part k o (whole_of d)) (part k [] (whole_of e)) ≡ is_in_heap_object o
+heap_object_tested : (w : World) (g : Heap) (k : ℕ) (o : List Step) (d e : ClassId) → slice_get g.classes k ≡ Some e → owner_class (world_classes w) g.classes k o ≡ Some d → same_part (part k o (whole_of d)) (part k [] (whole_of e)) ≡ is_in_heap_object o
 heap_object_tested w g k [] d e class owner =
     let f : Some d ≡ Some e = sym owner ∙ class in
     let one : d ≡ e = cc in
     ap (λ (x : ClassId). same_part (part k [] (whole_of d)) (part k [] (whole_of x))) (sym one) ∙ part_itself (part k [] (whole_of d))
 heap_object_tested w g k (step ∷ rest) d e class owner = is_false _ (λ same. let f = part_same (part k (step ∷ rest) (whole_of d)) (part k [] (whole_of e)) same in let g : (step ∷ rest) ≡ [] = ap (λ (x : ObjectPart). x.owner) f in cc)
 
-pub heap_object_pair : (w : World) (g : Heap) (p : ObjectPart) (c d e : ClassId) → IsLaid (classes_in w) w.setup.rows g → IsPartMade (classes_in w) g.classes p c → owner_class (classes_in w) g.classes p.object p.owner ≡ Some d → slice_get g.classes p.object ≡ Some e →
-    same_pair (pair_of w g (part p.object p.owner (whole_of d)) d) (start_of g p.object) e.0 ≡ is_in_heap_object p.owner
+pub heap_object_pair : (w : World) (g : Heap) (p : ObjectPart) (c d e : ClassId) → AreObjectsLaid (world_classes w) w.setup.rows g → IsPartMade (world_classes w) g.classes p c → owner_class (world_classes w) g.classes p.object p.owner ≡ Some d → slice_get g.classes p.object ≡ Some e →
+    same_address_and_class (shadow_pair w g (part p.object p.owner (whole_of d)) d) (object_start g p.object) e.0 ≡ is_in_heap_object p.owner
 heap_object_pair w g p c d e laid made owner class =
-    ap (λ (at : ℕ). same_pair (pair_of w g (part p.object p.owner (whole_of d)) d) at e.0) (sym (whole_address w g p.object e class))
-    ∙ (pair_test w g (part p.object p.owner (whole_of d)) (part p.object [] (whole_of e)) d e laid (complete_made (classes_in w) g p c d made owner) (whole_made (classes_in w) g p.object e class)
+    ap (λ (at : ℕ). same_address_and_class (shadow_pair w g (part p.object p.owner (whole_of d)) d) at e.0) (sym (whole_address w g p.object e class))
+    ∙ (pair_test w g (part p.object p.owner (whole_of d)) (part p.object [] (whole_of e)) d e laid (complete_made (world_classes w) g p c d made owner) (whole_made (world_classes w) g p.object e class)
     ∙ heap_object_tested w g p.object p.owner d e class owner)

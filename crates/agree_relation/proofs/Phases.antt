@@ -14,10 +14,10 @@ use Rattle.byte_code.specs.declared.op.Phase.{Phase as BytePhase}
 use Rattle.byte_code.specs.declared.op.Phase.TheVariants.{InBases as ByteInBases, ReadyBuilding as ByteReadyBuilding, Complete as ByteComplete, ReadyEnding as ByteReadyEnding, EndingBases as ByteEndingBases, Ended as ByteEnded}
 use Rattle.byte_shadow.specs.Shadows.{Notes, ready_at, is_ready_in}
 use Rattle.byte_machine.specs.Checks.{is_complete_phase}
-use Rattle.agree_parts.specs.Heaps.{Heap, start_of}
+use Rattle.agree_parts.specs.Heaps.{Heap, object_start}
 use Rattle.agree_parts.proofs.Made.{whole_made}
 use Rattle.agree_parts.specs.Addresses.{address}
-use Rattle.agree_relation.specs.Worlds.{World, classes_in, places_in}
+use Rattle.agree_relation.specs.Worlds.{World, world_classes, places_in}
 use Rattle.agree_relation.specs.Words.{heap_of}
 use Rattle.agree_relation.specs.Columns.{noted_phase, PhasesStand}
 use Rattle.agree_relation.proofs.Objects.{whole_address}
@@ -61,36 +61,36 @@ noted_incomplete Ended e = inr (ByteEnded, refl, refl)
 
 -- parts
 
-pub part_ready : (w : World) (g : Heap) (s : Phases) (notes : Notes) (p : ObjectPart) (c : ClassId) → PhasesStand w g s notes → IsPartMade (classes_in w) g.classes p c → ready_at notes (address (classes_in w) (places_in w) g p) c.0 ≡ is_ready (s.phase p)
+pub part_ready : (w : World) (g : Heap) (s : Phases) (notes : Notes) (p : ObjectPart) (c : ClassId) → PhasesStand w g s notes → IsPartMade (world_classes w) g.classes p c → ready_at notes (address (world_classes w) (places_in w) g p) c.0 ≡ is_ready (s.phase p)
 part_ready w g s notes p c noted made = ap is_ready_in (noted.phase p c made) ∙ noted_ready (s.phase p)
 
-pub part_complete : (w : World) (g : Heap) (s : Phases) (notes : Notes) (p : ObjectPart) (c : ClassId) → PhasesStand w g s notes → IsPartMade (classes_in w) g.classes p c → is_complete (s.phase p) ≡ true →
-    notes.phase (address (classes_in w) (places_in w) g p) c.0 ≡ Some ByteComplete
+pub part_complete : (w : World) (g : Heap) (s : Phases) (notes : Notes) (p : ObjectPart) (c : ClassId) → PhasesStand w g s notes → IsPartMade (world_classes w) g.classes p c → is_complete (s.phase p) ≡ true →
+    notes.phase (address (world_classes w) (places_in w) g p) c.0 ≡ Some ByteComplete
 part_complete w g s notes p c noted made full = noted.phase p c made ∙ noted_complete (s.phase p) full
 
-pub part_incomplete : (w : World) (g : Heap) (s : Phases) (notes : Notes) (p : ObjectPart) (c : ClassId) → PhasesStand w g s notes → IsPartMade (classes_in w) g.classes p c → is_complete (s.phase p) ≡ false →
-    NotesIncomplete (notes.phase (address (classes_in w) (places_in w) g p) c.0)
+pub part_incomplete : (w : World) (g : Heap) (s : Phases) (notes : Notes) (p : ObjectPart) (c : ClassId) → PhasesStand w g s notes → IsPartMade (world_classes w) g.classes p c → is_complete (s.phase p) ≡ false →
+    NotesIncomplete (notes.phase (address (world_classes w) (places_in w) g p) c.0)
 part_incomplete w g s notes p c noted made less = rw (noted.phase p c made) (noted_incomplete (s.phase p) less)
 
 -- the whole of a heap object, at the address where the object starts
 
 pub object_complete : (w : World) (s : Objects) (regions : List Region) (notes : Notes) (p : ObjectPart) (e : ClassId) → PhasesStand w (heap_of s.classes regions) s.phases notes → slice_get s.classes p.object ≡ Some e → is_incomplete s p ≡ false →
-    notes.phase (start_of (heap_of s.classes regions) p.object) e.0 ≡ Some ByteComplete
+    notes.phase (object_start (heap_of s.classes regions) p.object) e.0 ≡ Some ByteComplete
 object_complete w s regions notes p e noted class less =
     let g = heap_of s.classes regions in
     ap (λ (at : ℕ). notes.phase at e.0) (sym (whole_address w g p.object e class))
-    ∙ part_complete w g s.phases notes (part p.object [] (whole_of e)) e noted (whole_made (classes_in w) g p.object e class) (not_less (is_complete (s.phases.phase (part p.object [] (whole_of e)))) (ap (λ (x : Option ClassId). not (is_whole_complete s p.object x)) (sym class) ∙ less))
+    ∙ part_complete w g s.phases notes (part p.object [] (whole_of e)) e noted (whole_made (world_classes w) g p.object e class) (not_less (is_complete (s.phases.phase (part p.object [] (whole_of e)))) (ap (λ (x : Option ClassId). not (is_whole_complete s p.object x)) (sym class) ∙ less))
   where
     not_less : (b : Bool) → not b ≡ false → b ≡ true
     not_less true e = refl
     not_less false e = absurd (cc)
 
 pub object_incomplete : (w : World) (s : Objects) (regions : List Region) (notes : Notes) (p : ObjectPart) (e : ClassId) → PhasesStand w (heap_of s.classes regions) s.phases notes → slice_get s.classes p.object ≡ Some e → is_incomplete s p ≡ true →
-    NotesIncomplete (notes.phase (start_of (heap_of s.classes regions) p.object) e.0)
+    NotesIncomplete (notes.phase (object_start (heap_of s.classes regions) p.object) e.0)
 object_incomplete w s regions notes p e noted class less =
     let g = heap_of s.classes regions in
     subst (λ (at : ℕ). NotesIncomplete (notes.phase at e.0)) (whole_address w g p.object e class)
-    (part_incomplete w g s.phases notes (part p.object [] (whole_of e)) e noted (whole_made (classes_in w) g p.object e class) (is_less (is_complete (s.phases.phase (part p.object [] (whole_of e)))) (ap (λ (x : Option ClassId). not (is_whole_complete s p.object x)) (sym class) ∙ less)))
+    (part_incomplete w g s.phases notes (part p.object [] (whole_of e)) e noted (whole_made (world_classes w) g p.object e class) (is_less (is_complete (s.phases.phase (part p.object [] (whole_of e)))) (ap (λ (x : Option ClassId). not (is_whole_complete s p.object x)) (sym class) ∙ less)))
   where
     is_less : (b : Bool) → not b ≡ true → b ≡ false
     is_less true e = absurd (cc)

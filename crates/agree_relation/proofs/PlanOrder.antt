@@ -11,7 +11,7 @@ use Rattle.cxx_subobject.specs.Subobjects.{class_of, whole_of, shared_base, base
 use Rattle.cxx_subobject.specs.Locations.{Step, ObjectPart}
 use Rattle.cxx_subobject.proofs.TestLemmas.{base_class}
 use Rattle.path_plan.specs.Places.{part, base_part, shared_part, element}
-use Rattle.path_plan.specs.Phases.{Begin, Done, Event, Ending, Bases, End}
+use Rattle.path_plan.specs.Phases.{Begin, Done, PartEvent, Ending, Bases, End}
 use Rattle.path_plan.specs.Plans.{Bodies, Form, InFull, AsBase, build, unbuild, backwards, shared_events, base_events, body_events, member_ending, virtual_order, upto}
 use Rattle.path_plan.proofs.Same.{Owns, owner_cases, part_cases}
 use Rattle.foundation.proofs.Members.{Has, contains_from_has}
@@ -27,11 +27,11 @@ IsMemberClass h [] d = Unit {0}
 IsMemberClass h (step ∷ rest) d = (c e : ClassId) (member : Member ClassId) → class_of step.base ≡ Some c → slice_get (members_of h c) step.member ≡ Some member → member.ty ≡ Object e → e ≡ d
 
 -- there is a b at the end, and one behind each a
-record EndsBehind (a b : Event) (es : List Event) : Type 0 where
+record EndsBehind (a b : PartEvent) (es : List PartEvent) : Type 0 where
   has : Has es b
   order : Behind a b es
 
-before_end : (a b : Event) (xs es : List Event) → EndsBehind a b es → EndsBehind a b (xs ++ es)
+before_end : (a b : PartEvent) (xs es : List PartEvent) → EndsBehind a b es → EndsBehind a b (xs ++ es)
 before_end a b [] es r = r
 before_end a b (x ∷ xs) es r = let rest = before_end a b xs es r in record { has = inr rest.has; order = (λ _. rest.has, rest.order) }
 

@@ -12,7 +12,7 @@ use Rattle.byte_memory.specs.Store.{Store}
 use Rattle.byte_machine.specs.Running.{table_of}
 use Rattle.agree_parts.specs.Heaps.{Heap}
 use Rattle.agree_parts.specs.Addresses.{address}
-use Rattle.agree_relation.specs.Worlds.{World, classes_in, places_in}
+use Rattle.agree_relation.specs.Worlds.{World, world_classes, places_in}
 use Rattle.agree_relation.specs.Columns.{HasPointers}
 
 -- the word at an address is the same where neither its region nor its bytes have changed
@@ -22,8 +22,8 @@ table_same memory memory' at fault number = rw (fault, number) refl
 
 -- the words of all virtual pointers of a part are the same
 pub record AreTablesSame (w : World) (g : Heap) (memory memory' : Store) (q : ObjectPart) (c : ClassId) : Type 0 where
-  pub each : (i : Subobject) (e : ClassId) → IsSubobject (classes_in w) c i → class_of i ≡ Some e → IsDynamic (classes_in w) e →
-      table_of memory' (address (classes_in w) (places_in w) g (inner_part q i)) ≡ table_of memory (address (classes_in w) (places_in w) g (inner_part q i))
+  pub each : (i : Subobject) (e : ClassId) → IsSubobject (world_classes w) c i → class_of i ≡ Some e → IsDynamic (world_classes w) e →
+      table_of memory' (address (world_classes w) (places_in w) g (inner_part q i)) ≡ table_of memory (address (world_classes w) (places_in w) g (inner_part q i))
 
 pub pointers_kept : (w : World) (g : Heap) (memory memory' : Store) (q : ObjectPart) (c d : ClassId) → AreTablesSame w g memory memory' q c → HasPointers w g memory q c d → HasPointers w g memory' q c d
 pointers_kept w g memory memory' q c d same a = record {

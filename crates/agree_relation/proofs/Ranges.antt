@@ -9,7 +9,7 @@ use Rattle.cxx_hierarchy.specs.declared.records.Scalar.TheVariants.{Bool as TheB
 use Rattle.cxx_hierarchy.specs.declared.records.ValueType.{ValueType}
 use Rattle.cxx_hierarchy.specs.declared.records.ValueType.TheVariants.{Number, Pointer}
 use Rattle.cxx_hierarchy.specs.Scalars.{IsInRange, IsInWidth, is_signed, below_zero, size_of}
-use Rattle.byte_code.specs.Numbers.{IsWithin, IsInBits, IsInBytes, IsInRange as FitsWidth}
+use Rattle.byte_code.specs.Numbers.{FitsRange, IsInBits, IsInBytes, FitsInWidth as FitsWidth}
 use Rattle.abi_sound.specs.Places.{size_of_value}
 use Rattle.code_ops.specs.Setups.{width_of, value_width, bit_width, register_width}
 
@@ -99,18 +99,18 @@ pub half_of : (n : ℕ) → 1 ≤ n → 2 ^ n ≡ 2 * (2 ^ n / 2)
 half_of zero some = absurd (omega arith)
 half_of (suc n) some = let power : 2 ^ suc n ≡ 2 ^ n * 2 = pow-suc 2 n in omega arith
 
-signed_within : (count half : ℕ) (z : ℤ) → count ≡ 2 * half → pos 0 ≤ℤ (z +ℤ pos half) → (z +ℤ pos half) <ℤ pos count → IsWithin count true z
+signed_within : (count half : ℕ) (z : ℤ) → count ≡ 2 * half → pos 0 ≤ℤ (z +ℤ pos half) → (z +ℤ pos half) <ℤ pos count → FitsRange count true z
 signed_within count half (pos a) e low high = let h : a + half < count = omega (arith, ints) in omega arith
 signed_within count half (negsuc a) e low high = let h : suc a ≤ half = omega (arith, ints) in omega arith
 
-unsigned_within : (count : ℕ) (z : ℤ) → pos 0 ≤ℤ (z +ℤ pos 0) → (z +ℤ pos 0) <ℤ pos count → IsWithin count false z
+unsigned_within : (count : ℕ) (z : ℤ) → pos 0 ≤ℤ (z +ℤ pos 0) → (z +ℤ pos 0) <ℤ pos count → FitsRange count false z
 unsigned_within count (pos a) low high = let h : a < count = omega (arith, ints) in omega arith
 unsigned_within count (negsuc a) low high = omega (arith, ints)
 
 -- a number that n bits of a type can hold stands in them
 pub fits_bits : (t : Scalar) (n : ℕ) (z : ℤ) → 1 ≤ n → IsInWidth t n z → IsInBits (bit_width t n) z
-fits_bits t n z some held = subst (λ (s : Bool). IsWithin (2 ^ n) s z) (sym (sign_is t)) (by_sign (is_signed t) held.least held.greatest)
+fits_bits t n z some held = subst (λ (s : Bool). FitsRange (2 ^ n) s z) (sym (sign_is t)) (by_sign (is_signed t) held.least held.greatest)
   where
-    by_sign : (s : Bool) → pos 0 ≤ℤ (z +ℤ pos (below_zero s (2 ^ n))) → (z +ℤ pos (below_zero s (2 ^ n))) <ℤ pos (2 ^ n) → IsWithin (2 ^ n) s z
+    by_sign : (s : Bool) → pos 0 ≤ℤ (z +ℤ pos (below_zero s (2 ^ n))) → (z +ℤ pos (below_zero s (2 ^ n))) <ℤ pos (2 ^ n) → FitsRange (2 ^ n) s z
     by_sign true low high = signed_within (2 ^ n) (2 ^ n / 2) z (half_of n some) low high
     by_sign false low high = unsigned_within (2 ^ n) z low high

@@ -20,7 +20,7 @@ use Rattle.agree_parts.specs.Placed.{LieIn}
 use Rattle.agree_parts.proofs.Found.{reached_open, refused_closed}
 use Rattle.agree_parts.proofs.Inside.{part_inside, leaf_bytes, pointer_inside}
 use Rattle.agree_parts.proofs.Sizes.{element_some}
-use Rattle.agree_relation.specs.Worlds.{World, IsWorld, classes_in, places_in}
+use Rattle.agree_relation.specs.Worlds.{World, IsProgramWorld, world_classes, places_in}
 use Rattle.agree_relation.specs.Words.{heap_of}
 use Rattle.agree_relation.specs.Columns.{ObjectsStand}
 use Rattle.agree_relation.proofs.Objects.{objects_regions, objects_placed, objects_laid, object_has_region}
@@ -30,43 +30,43 @@ use Rattle.agree_relation.proofs.Objects.{objects_regions, objects_placed, objec
 pub inside_open : (w : World) (s : Objects) (regions : List Region) (opened : List Opened) (heap k at n : ℕ) → ObjectsStand w s regions opened heap → 0 < n → LieIn (places_in w) (heap_of s.classes regions) k at n → s.is_closed k ≡ false → fault_at regions at n ≡ None
 inside_open w s regions opened heap k at n o some inside open_there =
     let r = object_has_region w s regions opened heap k inside.class o inside.object.class in
-    reached_open (classes_in w) (places_in w) (heap_of s.classes regions) regions r.region k at n (objects_placed w s regions opened heap o) (objects_regions w s regions opened heap o) some inside r.there (r.of.is_open ∙ ap not open_there)
+    reached_open (world_classes w) (places_in w) (heap_of s.classes regions) regions r.region k at n (objects_placed w s regions opened heap o) (objects_regions w s regions opened heap o) some inside r.there (r.of.is_open ∙ ap not open_there)
 
 pub inside_closed : (w : World) (s : Objects) (regions : List Region) (opened : List Opened) (heap k at n : ℕ) → ObjectsStand w s regions opened heap → 0 < n → LieIn (places_in w) (heap_of s.classes regions) k at n → s.is_closed k ≡ true → fault_at regions at n ≡ Some (Closed at)
 inside_closed w s regions opened heap k at n o some inside shut_there =
     let r = object_has_region w s regions opened heap k inside.class o inside.object.class in
-    refused_closed (classes_in w) (places_in w) (heap_of s.classes regions) regions r.region k at n (objects_placed w s regions opened heap o) (objects_regions w s regions opened heap o) some inside r.there (r.of.is_open ∙ ap not shut_there)
+    refused_closed (world_classes w) (places_in w) (heap_of s.classes regions) regions r.region k at n (objects_placed w s regions opened heap o) (objects_regions w s regions opened heap o) some inside r.there (r.of.is_open ∙ ap not shut_there)
 
 -- the address of a part
 
-pub part_open : (w : World) (s : Objects) (regions : List Region) (opened : List Opened) (heap : ℕ) (p : ObjectPart) (c : ClassId) → IsWorld w → ObjectsStand w s regions opened heap → IsPartMade (classes_in w) s.classes p c → s.is_closed p.object ≡ false →
-    fault_at regions (address (classes_in w) (places_in w) (heap_of s.classes regions) p) 1 ≡ None
+pub part_open : (w : World) (s : Objects) (regions : List Region) (opened : List Opened) (heap : ℕ) (p : ObjectPart) (c : ClassId) → IsProgramWorld w → ObjectsStand w s regions opened heap → IsPartMade (world_classes w) s.classes p c → s.is_closed p.object ≡ false →
+    fault_at regions (address (world_classes w) (places_in w) (heap_of s.classes regions) p) 1 ≡ None
 part_open w s regions opened heap p c world o made open_there =
     let g = heap_of s.classes regions in
-    inside_open w s regions opened heap p.object (address (classes_in w) (places_in w) g p) 1 o (omega arith) (part_inside (classes_in w) w.setup.rows g p c (objects_laid w s regions opened heap world o) made) open_there
+    inside_open w s regions opened heap p.object (address (world_classes w) (places_in w) g p) 1 o (omega arith) (part_inside (world_classes w) w.setup.rows g p c (objects_laid w s regions opened heap world o) made) open_there
 
-pub part_closed : (w : World) (s : Objects) (regions : List Region) (opened : List Opened) (heap : ℕ) (p : ObjectPart) (c : ClassId) → IsWorld w → ObjectsStand w s regions opened heap → IsPartMade (classes_in w) s.classes p c → s.is_closed p.object ≡ true →
-    fault_at regions (address (classes_in w) (places_in w) (heap_of s.classes regions) p) 1 ≡ Some (Closed (address (classes_in w) (places_in w) (heap_of s.classes regions) p))
+pub part_closed : (w : World) (s : Objects) (regions : List Region) (opened : List Opened) (heap : ℕ) (p : ObjectPart) (c : ClassId) → IsProgramWorld w → ObjectsStand w s regions opened heap → IsPartMade (world_classes w) s.classes p c → s.is_closed p.object ≡ true →
+    fault_at regions (address (world_classes w) (places_in w) (heap_of s.classes regions) p) 1 ≡ Some (Closed (address (world_classes w) (places_in w) (heap_of s.classes regions) p))
 part_closed w s regions opened heap p c world o made shut_there =
     let g = heap_of s.classes regions in
-    inside_closed w s regions opened heap p.object (address (classes_in w) (places_in w) g p) 1 o (omega arith) (part_inside (classes_in w) w.setup.rows g p c (objects_laid w s regions opened heap world o) made) shut_there
+    inside_closed w s regions opened heap p.object (address (world_classes w) (places_in w) g p) 1 o (omega arith) (part_inside (world_classes w) w.setup.rows g p c (objects_laid w s regions opened heap world o) made) shut_there
 
 -- the bytes that the bits of a leaf touch
 
 bits_touch : (first n : ℕ) → 0 < n → 0 < byte_span first n
 bits_touch first n some = omega arith
 
-pub leaf_open : (w : World) (s : Objects) (regions : List Region) (opened : List Opened) (heap : ℕ) (a : Leaf) (c : ClassId) (t : ValueType ClassId) → IsWorld w → ObjectsStand w s regions opened heap → IsPartMade (classes_in w) s.classes a.part c → IsElement (classes_in w) c a.member a.index (ValueField t) → s.is_closed a.part.object ≡ false →
-    fault_at regions (leaf_address (classes_in w) (places_in w) (heap_of s.classes regions) a) (byte_span ((places_in w).first c a.member) (bits_of_value (width_of_member (classes_in w) c a.member) t)) ≡ None
+pub leaf_open : (w : World) (s : Objects) (regions : List Region) (opened : List Opened) (heap : ℕ) (a : Leaf) (c : ClassId) (t : ValueType ClassId) → IsProgramWorld w → ObjectsStand w s regions opened heap → IsPartMade (world_classes w) s.classes a.part c → IsElement (world_classes w) c a.member a.index (ValueField t) → s.is_closed a.part.object ≡ false →
+    fault_at regions (leaf_address (world_classes w) (places_in w) (heap_of s.classes regions) a) (byte_span ((places_in w).first c a.member) (bits_of_value (width_of_member (world_classes w) c a.member) t)) ≡ None
 leaf_open w s regions opened heap a c t world o made is open_there =
     let g = heap_of s.classes regions in
-    let some = element_some (classes_in w) c a.member a.index t world.hierarchy is in
-    inside_open w s regions opened heap a.part.object (leaf_address (classes_in w) (places_in w) g a) _ o (bits_touch _ _ some.0) (leaf_bytes (classes_in w) w.setup.rows g a c t (objects_laid w s regions opened heap world o) made is) open_there
+    let some = element_some (world_classes w) c a.member a.index t world.hierarchy is in
+    inside_open w s regions opened heap a.part.object (leaf_address (world_classes w) (places_in w) g a) _ o (bits_touch _ _ some.0) (leaf_bytes (world_classes w) w.setup.rows g a c t (objects_laid w s regions opened heap world o) made is) open_there
 
 -- the 8 bytes of a virtual pointer
 
-pub pointer_open : (w : World) (s : Objects) (regions : List Region) (opened : List Opened) (heap : ℕ) (p : ObjectPart) (c : ClassId) → IsWorld w → ObjectsStand w s regions opened heap → IsPartMade (classes_in w) s.classes p c → IsDynamic (classes_in w) c → s.is_closed p.object ≡ false →
-    fault_at regions (address (classes_in w) (places_in w) (heap_of s.classes regions) p) 8 ≡ None
+pub pointer_open : (w : World) (s : Objects) (regions : List Region) (opened : List Opened) (heap : ℕ) (p : ObjectPart) (c : ClassId) → IsProgramWorld w → ObjectsStand w s regions opened heap → IsPartMade (world_classes w) s.classes p c → IsDynamic (world_classes w) c → s.is_closed p.object ≡ false →
+    fault_at regions (address (world_classes w) (places_in w) (heap_of s.classes regions) p) 8 ≡ None
 pointer_open w s regions opened heap p c world o made dynamic open_there =
     let g = heap_of s.classes regions in
-    inside_open w s regions opened heap p.object (address (classes_in w) (places_in w) g p) 8 o (omega arith) (pointer_inside (classes_in w) w.setup.rows g p c (objects_laid w s regions opened heap world o) made dynamic) open_there
+    inside_open w s regions opened heap p.object (address (world_classes w) (places_in w) g p) 8 o (omega arith) (pointer_inside (world_classes w) w.setup.rows g p c (objects_laid w s regions opened heap world o) made dynamic) open_there

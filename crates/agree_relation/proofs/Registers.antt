@@ -15,9 +15,9 @@ use Rattle.byte_code.proofs.Words.{word_of-low_bits, extended-low_of, extended-l
 use Rattle.code_ops.specs.Setups.{width_of, value_width, bit_width}
 use Rattle.agree_parts.specs.Heaps.{Heap}
 use Rattle.agree_parts.specs.Addresses.{address}
-use Rattle.agree_parts.specs.Placed.{IsLaid}
+use Rattle.agree_parts.specs.Placed.{AreObjectsLaid}
 use Rattle.agree_parts.proofs.Inside.{part_limit}
-use Rattle.agree_relation.specs.Worlds.{World, classes_in, places_in}
+use Rattle.agree_relation.specs.Worlds.{World, world_classes, places_in}
 use Rattle.agree_relation.specs.Words.{word_of_value, register_word}
 use Rattle.agree_relation.proofs.Ranges.{fits_width, fits_bits}
 
@@ -33,7 +33,7 @@ low_address at word n low wide is =
     sym (mod-eq_of_lt small) ∙ (ap (λ x. x % 2 ^ 64) is ∙ ap (λ m. word % 2 ^ m) (sym wide))
 
 -- the low bits of the register of a value are its word
-pub stored_word : (w : World) (g : Heap) (v : Value) (t : ValueType ClassId) (word n : ℕ) → IsLaid (classes_in w) w.setup.rows g → IsValue (classes_in w) g.classes v t → MayHaveBits t n → register_word w g v ≡ Some word → word_of_value w g n v ≡ Some (word % 2 ^ n)
+pub stored_word : (w : World) (g : Heap) (v : Value) (t : ValueType ClassId) (word n : ℕ) → AreObjectsLaid (world_classes w) w.setup.rows g → IsValue (world_classes w) g.classes v t → MayHaveBits t n → register_word w g v ≡ Some word → word_of_value w g n v ≡ Some (word % 2 ^ n)
 stored_word w g Unset t word n laid typed bits e = absurd (cc)
 stored_word w g (Number z) (NumberType t) word n laid typed bits e =
     let is : low_of 8 z ≡ word = cc in
@@ -43,8 +43,8 @@ stored_word w g Null (NumberType t) word n laid typed bits e = absurd typed
 stored_word w g Null (PointerType c) word n laid typed bits e = let is : 0 ≡ word = cc in ap (λ (x : ℕ). Some x) (low_address 0 word n (omega arith) bits is)
 stored_word w g (Pointer p) (NumberType t) word n laid typed bits e = absurd typed
 stored_word w g (Pointer p) (PointerType c) word n laid typed bits e =
-    let is : address (classes_in w) (places_in w) g p ≡ word = cc in
-    ap (λ (x : ℕ). Some x) (low_address (address (classes_in w) (places_in w) g p) word n (part_limit (classes_in w) w.setup.rows g p c laid typed) bits is)
+    let is : address (world_classes w) (places_in w) g p ≡ word = cc in
+    ap (λ (x : ℕ). Some x) (low_address (address (world_classes w) (places_in w) g p) word n (part_limit (world_classes w) w.setup.rows g p c laid typed) bits is)
 
 -- as many numbers stand in bytes as in their bits
 byte_power : (t : Scalar) → 256 ^ (width_of t).bytes ≡ 2 ^ (8 * (width_of t).bytes)
@@ -62,7 +62,7 @@ byte_power LongLong = refl
 byte_power ULongLong = refl
 
 -- what a load makes of the bytes of a value is its register
-pub loaded_word : (w : World) (g : Heap) (v : Value) (t : ValueType ClassId) (low : ℕ) → IsLaid (classes_in w) w.setup.rows g → IsValue (classes_in w) g.classes v t → word_of_value w g (8 * (value_width t).bytes) v ≡ Some low → register_word w g v ≡ Some (extended (value_width t) low)
+pub loaded_word : (w : World) (g : Heap) (v : Value) (t : ValueType ClassId) (low : ℕ) → AreObjectsLaid (world_classes w) w.setup.rows g → IsValue (world_classes w) g.classes v t → word_of_value w g (8 * (value_width t).bytes) v ≡ Some low → register_word w g v ≡ Some (extended (value_width t) low)
 loaded_word w g Unset t low laid typed e = absurd (cc)
 loaded_word w g (Number z) (NumberType t) low laid typed e =
     let is : low_in (2 ^ (8 * (width_of t).bytes)) z ≡ low = cc in
@@ -72,9 +72,9 @@ loaded_word w g Null (NumberType t) low laid typed e = absurd typed
 loaded_word w g Null (PointerType c) low laid typed e = let is : 0 ≡ low = cc in ap (λ (n : ℕ). Some (n % 256 ^ 8)) is
 loaded_word w g (Pointer p) (NumberType t) low laid typed e = absurd typed
 loaded_word w g (Pointer p) (PointerType c) low laid typed e =
-    let is : address (classes_in w) (places_in w) g p ≡ low = cc in
-    let limit = part_limit (classes_in w) w.setup.rows g p c laid typed in
-    ap (λ (n : ℕ). Some n) (sym (mod-eq_of_lt (wide (address (classes_in w) (places_in w) g p) limit)) ∙ ap (λ (n : ℕ). n % 256 ^ 8) is)
+    let is : address (world_classes w) (places_in w) g p ≡ low = cc in
+    let limit = part_limit (world_classes w) w.setup.rows g p c laid typed in
+    ap (λ (n : ℕ). Some n) (sym (mod-eq_of_lt (wide (address (world_classes w) (places_in w) g p) limit)) ∙ ap (λ (n : ℕ). n % 256 ^ 8) is)
   where
     wide : (n : ℕ) → n < 2 ^ 41 → n < 256 ^ 8
     wide n low = omega arith

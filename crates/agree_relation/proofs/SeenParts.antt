@@ -7,8 +7,8 @@ use Rattle.cxx_hierarchy.specs.Classes.{Classes}
 use Rattle.cxx_subobject.specs.declared.Subobject.{Subobject}
 use Rattle.cxx_subobject.specs.Subobjects.{whole_of}
 use Rattle.cxx_subobject.specs.Locations.{Step, ObjectPart}
-use Rattle.path_plan.specs.Places.{part, same_owner, same_part}
-use Rattle.path_plan.specs.Phases.{Phases, End, is_complete, is_ready, first_of}
+use Rattle.path_plan.specs.Places.{part, same_complete_object, same_part}
+use Rattle.path_plan.specs.Phases.{Phases, End, is_complete, is_ready, top_subobject}
 use Rattle.path_plan.specs.Views.{view, Settled}
 use Rattle.path_plan.specs.Whole.{whole_part}
 use Rattle.path_plan.proofs.Same.{owner_same, part_same, part_itself}
@@ -16,20 +16,20 @@ use Rattle.path_model.specs.Values.{Objects}
 use Rattle.path_model.specs.Outs.{class_or_first, object_class}
 use Rattle.path_model.specs.Steps.{ends_object}
 use Rattle.path_model.specs.TypedStates.{IsPartMade}
-use Rattle.agree_relation.specs.Worlds.{World, classes_in}
+use Rattle.agree_relation.specs.Worlds.{World, world_classes}
 use Rattle.agree_relation.specs.Goings.{Going, has_begun, stack_in, AreGoing, ArePlanned}
 use Rattle.agree_relation.proofs.Closing.{IsClosing}
 
 -- the top of a stack is a part whose plan goes on
-top_made : (w : World) (classes : List ClassId) (fs : List Going) (k : ℕ) (o : List Step) (x : Subobject) → AreGoing w classes fs → first_of (stack_in fs k o) ≡ Some x → (e : ClassId) × IsPartMade (classes_in w) classes (part k o x) e
+top_made : (w : World) (classes : List ClassId) (fs : List Going) (k : ℕ) (o : List Step) (x : Subobject) → AreGoing w classes fs → top_subobject (stack_in fs k o) ≡ Some x → (e : ClassId) × IsPartMade (world_classes w) classes (part k o x) e
 top_made w classes [] k o x going e = absurd (let f : None ≡ Some x = e in cc)
-top_made w classes (f ∷ fs) k o x going e = split (has_begun f.left && same_owner f.part.object f.part.owner k o)
-    (λ b. (has_begun f.left && same_owner f.part.object f.part.owner k o) ≡ b → first_of (if b then f.part.at ∷ stack_in fs k o else stack_in fs k o) ≡ Some x → (e : ClassId) × IsPartMade (classes_in w) classes (part k o x) e)
+top_made w classes (f ∷ fs) k o x going e = split (has_begun f.left && same_complete_object f.part.object f.part.owner k o)
+    (λ b. (has_begun f.left && same_complete_object f.part.object f.part.owner k o) ≡ b → top_subobject (if b then f.part.at ∷ stack_in fs k o else stack_in fs k o) ≡ Some x → (e : ClassId) × IsPartMade (world_classes w) classes (part k o x) e)
     (λ begun _ first.
     let at : f.part.at ≡ x = let g : Some f.part.at ≡ Some x = first in cc in
-    let one = owner_same f.part.object f.part.owner k o (right (has_begun f.left) (same_owner f.part.object f.part.owner k o) begun) in
+    let one = owner_same f.part.object f.part.owner k o (right (has_begun f.left) (same_complete_object f.part.object f.part.owner k o) begun) in
     let same : f.part ≡ part k o x = λ i. part (one.0 i) (one.1 i) (at i) in
-    (f.class, subst (λ (p : ObjectPart). IsPartMade (classes_in w) classes p f.class) same going.0.made))
+    (f.class, subst (λ (p : ObjectPart). IsPartMade (world_classes w) classes p f.class) same going.0.made))
     (λ _ _ first. top_made w classes fs k o x going.1 first) refl e
   where
     right : (a b : Bool) → (a && b) ≡ true → b ≡ true
@@ -37,12 +37,12 @@ top_made w classes (f ∷ fs) k o x going e = split (has_begun f.left && same_ow
     right false b both = absurd (cc)
 
 -- the view of a complete object is one of its parts
-pub view_made : (w : World) (classes : List ClassId) (s : Phases) (fs : List Going) (k : ℕ) (o : List Step) (d : ClassId) (x : Subobject) → ArePlanned w classes s fs → IsPartMade (classes_in w) classes (part k o (whole_of d)) d → view s k o d ≡ Some x →
-    (e : ClassId) × IsPartMade (classes_in w) classes (part k o x) e
+pub view_made : (w : World) (classes : List ClassId) (s : Phases) (fs : List Going) (k : ℕ) (o : List Step) (d : ClassId) (x : Subobject) → ArePlanned w classes s fs → IsPartMade (world_classes w) classes (part k o (whole_of d)) d → view s k o d ≡ Some x →
+    (e : ClassId) × IsPartMade (world_classes w) classes (part k o x) e
 view_made w classes s fs k o d x planned whole seen = split (is_complete (s.phase (part k o (whole_of d))))
-    (λ b. (if b then Some (whole_of d) else first_of (s.running k o)) ≡ Some x → (e : ClassId) × IsPartMade (classes_in w) classes (part k o x) e)
-    (λ _ e. let same : whole_of d ≡ x = cc in (d, subst (λ (y : Subobject). IsPartMade (classes_in w) classes (part k o y) d) same whole))
-    (λ _ e. top_made w classes fs k o x planned.going (ap first_of (sym (planned.stack k o)) ∙ e)) seen
+    (λ b. (if b then Some (whole_of d) else top_subobject (s.running k o)) ≡ Some x → (e : ClassId) × IsPartMade (world_classes w) classes (part k o x) e)
+    (λ _ e. let same : whole_of d ≡ x = cc in (d, subst (λ (y : Subobject). IsPartMade (world_classes w) classes (part k o y) d) same whole))
+    (λ _ e. top_made w classes fs k o x planned.going (ap top_subobject (sym (planned.stack k o)) ∙ e)) seen
 
 -- in an object that is settled it is ready
 pub view_ready : (h : Classes) (s : Phases) (k : ℕ) (o : List Step) (d : ClassId) (x : Subobject) → Settled h k s → view s k o d ≡ Some x → is_ready (s.phase (part k o x)) ≡ true

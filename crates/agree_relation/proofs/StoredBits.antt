@@ -2,7 +2,7 @@
 use Rattle.std.proofs.Common.{◌≡◌, ℕ, zero, suc, ◌+◌, ◌-◌, ◌*◌, ◌/◌, ◌%◌, ◌<◌, ◌^◌, Bool, true, Option, Some, ap, ◌∙◌, arith}
 use Rattle.std.specs.Prelude.{if◌then◌else◌}
 use Rattle.std.proofs.lemmas.Bool.Decides.{nat_tests}
-use Rattle.byte_memory.specs.Bits.{has_bit, with_low, number_from, stored, copied, is_among}
+use Rattle.byte_memory.specs.Bits.{has_bit, with_low, number_from, stored, with_bits_copied, is_among_places}
 use Rattle.byte_memory.specs.Store.{Store}
 use Rattle.byte_memory.proofs.BitLists.{has_bit-number, low_bits}
 use Rattle.byte_memory.proofs.BitNumbers.{number_from-same}
@@ -14,7 +14,7 @@ store_span memory x word = record memory { bit = stored memory.bit x.start x.len
 
 -- after bits were copied to others
 abbrev pub copy_span : Store → Span → Span → Store
-copy_span memory from to = record memory { bit = copied memory.bit from.start to.start to.length }
+copy_span memory from to = record memory { bit = with_bits_copied memory.bit from.start to.start to.length }
 
 -- the number in bits that are those of a value
 number_read : (n v at : ℕ) → number_from (λ place. Some (has_bit v place)) at n ≡ Some (v / 2 ^ at % 2 ^ n)
@@ -25,7 +25,7 @@ number_read (suc n) v at =
 
 stored-inside : (n : ℕ) (bit : ℕ → Option Bool) (at v k : ℕ) → k < n → stored bit at n v (at + k) ≡ Some (has_bit v (0 + k))
 stored-inside n bit at v k less =
-    let inside : is_among at n (at + k) ≡ true = grind (arith, nat_tests) in
+    let inside : is_among_places at n (at + k) ≡ true = grind (arith, nat_tests) in
     let back : (at + k) - at ≡ 0 + k = omega arith in
     ap (λ b. if b then Some (has_bit v ((at + k) - at)) else bit (at + k)) inside ∙ ap (λ j. Some (has_bit v j)) back
 

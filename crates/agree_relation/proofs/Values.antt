@@ -7,7 +7,7 @@ use Rattle.path_model.specs.Rules.{is_unset}
 use Rattle.abi_sound.specs.Locations.{Span}
 use Rattle.agree_parts.specs.Heaps.{Heap}
 use Rattle.agree_parts.specs.Addresses.{address}
-use Rattle.agree_relation.specs.Worlds.{World, classes_in, places_in}
+use Rattle.agree_relation.specs.Worlds.{World, world_classes, places_in}
 use Rattle.agree_relation.specs.Words.{word_modulo, AreBitsOf}
 
 -- a value that is set has a word, and the unset one has none
@@ -15,7 +15,7 @@ pub word_some : (w : World) (g : Heap) (n : ℕ) (v : Value) → is_unset v ≡ 
 word_some w g n Unset e = absurd (cc)
 word_some w g n (Number z) e = (low_in n z, refl)
 word_some w g n Null e = (0, refl)
-word_some w g n (Pointer p) e = (address (classes_in w) (places_in w) g p, refl)
+word_some w g n (Pointer p) e = (address (world_classes w) (places_in w) g p, refl)
 
 pub word_none : (w : World) (g : Heap) (n : ℕ) (v : Value) → is_unset v ≡ true → word_modulo w g n v ≡ None
 word_none w g n Unset e = refl

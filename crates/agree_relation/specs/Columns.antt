@@ -15,7 +15,7 @@ use Rattle.path_model.specs.Runs.{heap_total}
 use Rattle.abi_primary.specs.Kinds.{IsDynamic}
 use Rattle.abi_slots.specs.declared.words.Group.{Group}
 use Rattle.abi_slots.specs.Seen.{PlacedTables, IsPointOf}
-use Rattle.abi_vtt.specs.Vtts.{has_virtual}
+use Rattle.abi_vtt.specs.Vtts.{has_vtt}
 use Rattle.byte_memory.specs.Store.{Store}
 use Rattle.byte_memory.specs.Regions.{IsAscending, total_of}
 use Rattle.byte_memory.specs.declared.memory.Region.{Region}
@@ -27,14 +27,14 @@ use Rattle.byte_machine.specs.declared.heap.Opened.{Opened}
 use Rattle.byte_machine.specs.Running.{table_of}
 use Rattle.agree_parts.specs.Heaps.{Heap}
 use Rattle.agree_parts.specs.Addresses.{address, leaf_bits}
-use Rattle.agree_relation.specs.Worlds.{World, classes_in, places_in}
+use Rattle.agree_relation.specs.Worlds.{World, world_classes, places_in}
 use Rattle.agree_relation.specs.Words.{heap_of, AreBitsOf}
 
 -- objects
 
 -- the region of an object of class c
 pub record IsRegionOf (w : World) (c : ClassId) (is_closed : Bool) (region : Region) : Type 0 where
-  pub known : c.0 < length (classes_in w)
+  pub known : c.0 < length (world_classes w)
   pub size : region.size ≡ (places_in w).size c
   pub is_open : region.is_open ≡ not is_closed
   pub positive : 0 < region.start
@@ -58,8 +58,8 @@ pub record ObjectsStand (w : World) (s : Objects) (regions : List Region) (opene
 
 -- the bits of each leaf of an open object are its value
 pub record LeavesStand (w : World) (s : Objects) (memory : Store) : Type 0 where
-  pub leaf : (a : Leaf) (t : ValueType ClassId) → IsLeafMade (classes_in w) s.classes a t → s.is_closed a.part.object ≡ false →
-      AreBitsOf w (heap_of s.classes memory.regions) (s.leaf a) memory.bit (leaf_bits (classes_in w) (places_in w) (heap_of s.classes memory.regions) a)
+  pub leaf : (a : Leaf) (t : ValueType ClassId) → IsLeafMade (world_classes w) s.classes a t → s.is_closed a.part.object ≡ false →
+      AreBitsOf w (heap_of s.classes memory.regions) (s.leaf a) memory.bit (leaf_bits (world_classes w) (places_in w) (heap_of s.classes memory.regions) a)
 
 -- phases and views
 
@@ -74,32 +74,32 @@ noted_phase EndingBases = Some ByteEndingBases
 noted_phase Ended = Some ByteEnded
 
 -- an address and a class number are those of a part
-pub record IsNamed (w : World) (g : Heap) (q : ObjectPart) (c : ClassId) (at class : ℕ) : Type 0 where
-  pub made : IsPartMade (classes_in w) g.classes q c
-  pub at_is : at ≡ address (classes_in w) (places_in w) g q
+pub record AddressesPart (w : World) (g : Heap) (q : ObjectPart) (c : ClassId) (at class : ℕ) : Type 0 where
+  pub made : IsPartMade (world_classes w) g.classes q c
+  pub at_is : at ≡ address (world_classes w) (places_in w) g q
   pub class_is : class ≡ c.0
 
 -- the pair of a part, as the shadow keeps it
-abbrev pub pair_of : World → Heap → ObjectPart → ClassId → ℕ × ℕ
-pair_of w g q c = (address (classes_in w) (places_in w) g q, c.0)
+abbrev pub shadow_pair : World → Heap → ObjectPart → ClassId → ℕ × ℕ
+shadow_pair w g q c = (address (world_classes w) (places_in w) g q, c.0)
 
 -- each part of an object that was made has its phase noted, and its complete object where it was begun; and nothing else is noted
 pub record PhasesStand (w : World) (g : Heap) (s : Phases) (notes : Notes) : Type 0 where
-  pub phase : (q : ObjectPart) (c : ClassId) → IsPartMade (classes_in w) g.classes q c → notes.phase (address (classes_in w) (places_in w) g q) c.0 ≡ noted_phase (s.phase q)
-  pub owner : (q : ObjectPart) (c d : ClassId) → IsPartMade (classes_in w) g.classes q c → IsPartMade (classes_in w) g.classes (part q.object q.owner (whole_of d)) d → (s.phase q ≡ Raw → ⊥) →
-      notes.owner (address (classes_in w) (places_in w) g q) c.0 ≡ Some (pair_of w g (part q.object q.owner (whole_of d)) d)
-  pub only : (at class : ℕ) (x : BytePhase) → notes.phase at class ≡ Some x → (q : ObjectPart) × (c : ClassId) × IsNamed w g q c at class
+  pub phase : (q : ObjectPart) (c : ClassId) → IsPartMade (world_classes w) g.classes q c → notes.phase (address (world_classes w) (places_in w) g q) c.0 ≡ noted_phase (s.phase q)
+  pub owner : (q : ObjectPart) (c d : ClassId) → IsPartMade (world_classes w) g.classes q c → IsPartMade (world_classes w) g.classes (part q.object q.owner (whole_of d)) d → (s.phase q ≡ Raw → ⊥) →
+      notes.owner (address (world_classes w) (places_in w) g q) c.0 ≡ Some (shadow_pair w g (part q.object q.owner (whole_of d)) d)
+  pub only : (at class : ℕ) (x : BytePhase) → notes.phase at class ≡ Some x → (q : ObjectPart) × (c : ClassId) × AddressesPart w g q c at class
 
 -- each complete object that has a view has it noted
-pub record ViewsStand (w : World) (g : Heap) (s : Phases) (notes : Notes) : Type 0 where
-  pub view : (k : ℕ) (o : List Step) (d c : ClassId) (x : Subobject) → IsPartMade (classes_in w) g.classes (part k o (whole_of d)) d → view s k o d ≡ Some x → IsPartMade (classes_in w) g.classes (part k o x) c →
-      notes.view (address (classes_in w) (places_in w) g (part k o (whole_of d))) d.0 ≡ Some (pair_of w g (part k o x) c)
+pub record ViewsAreNoted (w : World) (g : Heap) (s : Phases) (notes : Notes) : Type 0 where
+  pub view : (k : ℕ) (o : List Step) (d c : ClassId) (x : Subobject) → IsPartMade (world_classes w) g.classes (part k o (whole_of d)) d → view s k o d ≡ Some x → IsPartMade (world_classes w) g.classes (part k o x) c →
+      notes.view (address (world_classes w) (places_in w) g (part k o (whole_of d))) d.0 ≡ Some (shadow_pair w g (part k o x) c)
 
 -- virtual pointers
 
 -- the view whose group serves x, of class c, in a complete object of class d: that of x there where c has a virtual base, else that of the class alone
 abbrev pub group_view : World → ClassId → Subobject → ClassId → View
-group_view w d x c = if has_virtual (classes_in w) c then record { complete = d; at_sub = x; class = c } else record { complete = c; at_sub = whole_of c; class = c }
+group_view w d x c = if has_vtt (world_classes w) c then record { complete = d; at_sub = x; class = c } else record { complete = c; at_sub = whole_of c; class = c }
 
 -- the tables of the group of a view, where they stand in the image
 pub record ArePlacedFor (w : World) (x : View) (placed : PlacedTables) : Type 0 where
@@ -113,18 +113,18 @@ pub record ArePlacedFor (w : World) (x : View) (placed : PlacedTables) : Type 0 
 pub record HasPointers (w : World) (g : Heap) (memory : Store) (q : ObjectPart) (c d : ClassId) : Type 0 where
   pub placed : PlacedTables
   pub stand : ArePlacedFor w (group_view w d q.at c) placed
-  pub pointer : (i : Subobject) (e : ClassId) → IsSubobject (classes_in w) c i → class_of i ≡ Some e → IsDynamic (classes_in w) e →
-      (point : ℕ) × (table_of memory (address (classes_in w) (places_in w) g (inner_part q i)) ≡ Some point) × IsPointOf (classes_in w) (places_in w) (group_view w d q.at c) placed i point
+  pub pointer : (i : Subobject) (e : ClassId) → IsSubobject (world_classes w) c i → class_of i ≡ Some e → IsDynamic (world_classes w) e →
+      (point : ℕ) × (table_of memory (address (world_classes w) (places_in w) g (inner_part q i)) ≡ Some point) × IsPointOf (world_classes w) (places_in w) (group_view w d q.at c) placed i point
 
 -- so are those of each view that is ready and dynamic
 pub record PointersStand (w : World) (g : Heap) (s : Objects) (memory : Store) : Type 0 where
-  pub pointers : (k : ℕ) (o : List Step) (d c : ClassId) (x : Subobject) → IsPartMade (classes_in w) g.classes (part k o (whole_of d)) d → IsPartMade (classes_in w) g.classes (part k o x) c →
-      s.is_closed k ≡ false → view s.phases k o d ≡ Some x → is_ready (s.phases.phase (part k o x)) ≡ true → IsDynamic (classes_in w) c → HasPointers w g memory (part k o x) c d
+  pub pointers : (k : ℕ) (o : List Step) (d c : ClassId) (x : Subobject) → IsPartMade (world_classes w) g.classes (part k o (whole_of d)) d → IsPartMade (world_classes w) g.classes (part k o x) c →
+      s.is_closed k ≡ false → view s.phases k o d ≡ Some x → is_ready (s.phases.phase (part k o x)) ≡ true → IsDynamic (world_classes w) c → HasPointers w g memory (part k o x) c d
 
 -- all columns of objects
 pub record ColumnsStand (w : World) (s : Objects) (memory : Store) (opened : List Opened) (heap : ℕ) (notes : Notes) : Type 0 where
   pub objects : ObjectsStand w s memory.regions opened heap
   pub leaves : LeavesStand w s memory
   pub phases : PhasesStand w (heap_of s.classes memory.regions) s.phases notes
-  pub views : ViewsStand w (heap_of s.classes memory.regions) s.phases notes
+  pub views : ViewsAreNoted w (heap_of s.classes memory.regions) s.phases notes
   pub pointers : PointersStand w (heap_of s.classes memory.regions) s memory

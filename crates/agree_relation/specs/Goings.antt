@@ -5,11 +5,11 @@ use Rattle.cxx_hierarchy.specs.declared.records.ClassId.{ClassId}
 use Rattle.cxx_subobject.specs.declared.Subobject.{Subobject}
 use Rattle.cxx_subobject.specs.Subobjects.{whole_of}
 use Rattle.cxx_subobject.specs.Locations.{Step, ObjectPart}
-use Rattle.path_plan.specs.Places.{part, base_part, shared_part, element, same_owner}
-use Rattle.path_plan.specs.Phases.{Phases, Event, is_in_bases, is_running}
+use Rattle.path_plan.specs.Places.{part, base_part, shared_part, element, same_complete_object}
+use Rattle.path_plan.specs.Phases.{Phases, PartEvent, is_in_bases, is_running}
 use Rattle.path_plan.specs.Plans.{Form, InFull, AsBase, Inner, plan, unplan}
 use Rattle.path_plan.specs.Pieces.{expand}
-use Rattle.path_model.specs.States.{bodies_of}
+use Rattle.path_model.specs.States.{plan_bodies}
 use Rattle.path_model.specs.TypedStates.{IsPartMade}
 use Rattle.code_blocks.specs.Blocks.{items, base_course}
 use Rattle.code_blocks.specs.Items.{indices, Item, Does, Shares, Inherits, Holds, pieces_of}
@@ -19,7 +19,7 @@ use Rattle.code_blocks.specs.declared.items.Kind.TheVariants.{AtBegin, AtReady, 
 use Rattle.code_ops.specs.Routines.{IsCourse}
 use Rattle.code_ops.specs.declared.routines.Course.{Course}
 use Rattle.code_ops.specs.declared.routines.Course.TheVariants.{Constructs, Destroys, Deletes}
-use Rattle.agree_relation.specs.Worlds.{World, classes_in}
+use Rattle.agree_relation.specs.Worlds.{World, world_classes}
 
 -- a part of a class whose plan goes on, and what is left of it, its next own event first
 pub record Going : Type 0 where
@@ -41,19 +41,19 @@ abbrev pub element_going : World → Going → ℕ → ClassId → ℕ → Going
 element_going w f m d i = going w (base_course f.course) InFull d (element f.part m i d)
 
 -- the parts up to the next own event are opened, the first of them on top
-abbrev pub opened : World → Going → List Item → List Going → List Going
-opened w f [] below = below
-opened w f (Does k ∷ left) below = at_left f (Does k ∷ left) ∷ below
-opened w f (Shares v ∷ left) below = going w (base_course f.course) AsBase v (shared_part f.part v) ∷ opened w f left below
-opened w f (Inherits b ∷ left) below = going w (base_course f.course) AsBase b.class (base_part f.part b) ∷ opened w f left below
-opened w f (Holds way m d n ∷ left) below = map (element_going w f m d) (indices way n) ++ opened w f left below
+abbrev pub opened_goings : World → Going → List Item → List Going → List Going
+opened_goings w f [] below = below
+opened_goings w f (Does k ∷ left) below = at_left f (Does k ∷ left) ∷ below
+opened_goings w f (Shares v ∷ left) below = going w (base_course f.course) AsBase v (shared_part f.part v) ∷ opened_goings w f left below
+opened_goings w f (Inherits b ∷ left) below = going w (base_course f.course) AsBase b.class (base_part f.part b) ∷ opened_goings w f left below
+opened_goings w f (Holds way m d n ∷ left) below = map (element_going w f m d) (indices way n) ++ opened_goings w f left below
 
 -- the events of a plan
 
-abbrev pub inner_of : World → Course → Inner
-inner_of w Constructs = plan (classes_in w) (bodies_of w.setup.program)
-inner_of w Destroys = unplan (classes_in w) (bodies_of w.setup.program)
-inner_of w Deletes = unplan (classes_in w) (bodies_of w.setup.program)
+abbrev pub course_events : World → Course → Inner
+course_events w Constructs = plan (world_classes w) (plan_bodies w.setup.program)
+course_events w Destroys = unplan (world_classes w) (plan_bodies w.setup.program)
+course_events w Deletes = unplan (world_classes w) (plan_bodies w.setup.program)
 
 -- a course is one of a construction, or of a destruction
 abbrev pub builds : Course → Bool
@@ -66,25 +66,25 @@ AreOf is_building [] = Unit {0}
 AreOf is_building (f ∷ fs) = (builds f.course ≡ is_building) × AreOf is_building fs
 
 -- the events that are left of a part's plan
-abbrev pub events_of : World → Going → List Event
-events_of w f = flat_map (expand (inner_of w f.course)) (flat_map (pieces_of f.part) f.left)
+abbrev pub events_of : World → Going → List PartEvent
+events_of w f = flat_map (expand (course_events w f.course)) (flat_map (pieces_of f.part) f.left)
 
 -- and of a stack of them
-abbrev pub events_left : World → List Going → List Event
+abbrev pub events_left : World → List Going → List PartEvent
 events_left w fs = flat_map (events_of w) fs
 
 -- stacks
 
 -- the first event of a plan
-abbrev pub starts : Kind → Bool
-starts AtBegin = true
-starts AtReady = false
-starts (AtInit m) = false
-starts AtBody = false
-starts AtDone = false
-starts AtEnding = true
-starts AtBases = false
-starts AtEnd = false
+abbrev pub is_first_event : Kind → Bool
+is_first_event AtBegin = true
+is_first_event AtReady = false
+is_first_event (AtInit m) = false
+is_first_event AtBody = false
+is_first_event AtDone = false
+is_first_event AtEnding = true
+is_first_event AtBases = false
+is_first_event AtEnd = false
 
 -- the last one
 abbrev pub stops : Kind → Bool
@@ -100,7 +100,7 @@ stops AtEnd = true
 -- a part that waits at its first event has not begun
 abbrev pub has_begun : List Item → Bool
 has_begun [] = true
-has_begun (Does k ∷ left) = not (starts k)
+has_begun (Does k ∷ left) = not (is_first_event k)
 has_begun (Shares v ∷ left) = true
 has_begun (Inherits b ∷ left) = true
 has_begun (Holds way m d n ∷ left) = true
@@ -108,7 +108,7 @@ has_begun (Holds way m d n ∷ left) = true
 -- the stack of a complete object: its parts that have begun
 abbrev pub stack_in : List Going → ℕ → List Step → List Subobject
 stack_in [] k o = []
-stack_in (f ∷ fs) k o = if has_begun f.left && same_owner f.part.object f.part.owner k o then f.part.at ∷ stack_in fs k o else stack_in fs k o
+stack_in (f ∷ fs) k o = if has_begun f.left && same_complete_object f.part.object f.part.owner k o then f.part.at ∷ stack_in fs k o else stack_in fs k o
 
 -- a complete object inside a member of a part of another
 abbrev pub IsDeeper : List Step → List Step → Type 0
@@ -116,22 +116,22 @@ IsDeeper [] o = ⊥
 IsDeeper (step ∷ rest) o = (rest ≡ o) ⊎ IsDeeper rest o
 
 -- a complete object has nothing on its stack below, and is a whole; a base has the whole of its complete object there
-abbrev pub StandsIn : Form → ClassId → ClassId → ObjectPart → List Subobject → Type 0
-StandsIn InFull c d p stack = (stack ≡ []) × (p.at ≡ whole_of c) × (d ≡ c)
-StandsIn AsBase c d p stack = Contains stack (whole_of d)
+abbrev pub StandsOnStack : Form → ClassId → ClassId → ObjectPart → List Subobject → Type 0
+StandsOnStack InFull c d p stack = (stack ≡ []) × (p.at ≡ whole_of c) × (d ≡ c)
+StandsOnStack AsBase c d p stack = Contains stack (whole_of d)
 
 -- a frame of a plan, over those below: nothing of it depends on phases. It waits at an own event, which is one of its class's; d is the class of its complete object
 pub record IsGoing (w : World) (classes : List ClassId) (f : Going) (below : List Going) : Type 0 where
-  pub made : IsPartMade (classes_in w) classes f.part f.class
+  pub made : IsPartMade (world_classes w) classes f.part f.class
   pub complete : ClassId
-  pub whole : IsPartMade (classes_in w) classes (part f.part.object f.part.owner (whole_of complete)) complete
+  pub whole : IsPartMade (world_classes w) classes (part f.part.object f.part.owner (whole_of complete)) complete
   pub course : IsCourse f.course f.form
   pub kind : Kind
   pub rest : List Item
   pub is : f.left ≡ Does kind ∷ rest
   pub ends : IsEnd w.setup f.course f.form f.class f.left
   pub deep : (o : List Step) → IsDeeper o f.part.owner → stack_in below f.part.object o ≡ []
-  pub stands : StandsIn f.form f.class complete f.part (stack_in below f.part.object f.part.owner)
+  pub stands : StandsOnStack f.form f.class complete f.part (stack_in below f.part.object f.part.owner)
 
 abbrev pub AreGoing : World → List ClassId → List Going → Type 0
 AreGoing w classes [] = Unit {0}
@@ -143,9 +143,9 @@ WaitsIn s InFull p stack = Unit {0}
 WaitsIn s AsBase p [] = ⊥
 WaitsIn s AsBase p (y ∷ rest) = is_in_bases (s.phase (part p.object p.owner y)) ≡ true
 
-abbrev pub AreWaiting : Phases → List Going → Type 0
-AreWaiting s [] = Unit {0}
-AreWaiting s (f ∷ fs) = WaitsIn s f.form f.part (stack_in fs f.part.object f.part.owner) × AreWaiting s fs
+abbrev pub AllWaitIn : Phases → List Going → Type 0
+AllWaitIn s [] = Unit {0}
+AllWaitIn s (f ∷ fs) = WaitsIn s f.form f.part (stack_in fs f.part.object f.part.owner) × AllWaitIn s fs
 
 -- what stands on a stack runs, and stands there once
 pub record IsInStep (s : Phases) : Type 0 where
@@ -155,6 +155,6 @@ pub record IsInStep (s : Phases) : Type 0 where
 -- all frames of plans stand for the phases and the stacks of a state
 pub record ArePlanned (w : World) (classes : List ClassId) (s : Phases) (fs : List Going) : Type 0 where
   pub going : AreGoing w classes fs
-  pub waits : AreWaiting s fs
+  pub waits : AllWaitIn s fs
   pub stack : (k : ℕ) (o : List Step) → s.running k o ≡ stack_in fs k o
   pub in_step : IsInStep s

@@ -8,7 +8,7 @@ use Rattle.byte_code.specs.Numbers.{low_in}
 use Rattle.abi_sound.specs.Locations.{Span}
 use Rattle.agree_parts.specs.Heaps.{Heap}
 use Rattle.agree_parts.specs.Addresses.{address}
-use Rattle.agree_relation.specs.Worlds.{World, classes_in, places_in}
+use Rattle.agree_relation.specs.Worlds.{World, world_classes, places_in}
 
 -- the heap objects of a state, each where its region starts
 abbrev pub start_in : Region → ℕ
@@ -22,7 +22,7 @@ abbrev pub word_modulo : World → Heap → ℕ → Value → Option ℕ
 word_modulo w g count Unset = None
 word_modulo w g count (Number z) = Some (low_in count z)
 word_modulo w g count Null = Some 0
-word_modulo w g count (Pointer p) = Some (address (classes_in w) (places_in w) g p)
+word_modulo w g count (Pointer p) = Some (address (world_classes w) (places_in w) g p)
 
 -- in so many bits
 abbrev pub word_of_value : World → Heap → ℕ → Value → Option ℕ

@@ -37,8 +37,8 @@ pub record World : Type 0 where
   pub image : ImageBytes
   pub parts : ℕ
 
-abbrev pub classes_in : World → Classes
-classes_in w = w.setup.h
+abbrev pub world_classes : World → Classes
+world_classes w = w.setup.h
 
 abbrev pub places_in : World → Places
 places_in w = places w.setup
@@ -48,7 +48,7 @@ abbrev pub fixed : World → Fixed
 fixed w = record { image = w.image; size = w.code.registers; parts = w.parts }
 
 -- the tables of all classes
-pub record AreTables (w : World) : Type 0 where
+pub record HasAllTables (w : World) : Type 0 where
   pub groups : AreGroups w.setup.h (places w.setup) w.groups
   pub one_vtt_each : length w.vtts ≡ length w.setup.h
   pub vtts : (c : ClassId) (words : List VttWord) → slice_get w.vtts c.0 ≡ Some words → GoAlong (IsVttWord w.setup.h (places w.setup) c) (class_items w.setup.h (places w.setup) c) words
@@ -57,13 +57,13 @@ pub record AreTables (w : World) : Type 0 where
   pub stand : HasTables w.numbers w.groups w.vtts w.infos w.addresses w.image.base (word_at w.image)
 
 -- all is made for one program, which is typed and has a `main`
-pub record IsWorld (w : World) : Type 0 where
+pub record IsProgramWorld (w : World) : Type 0 where
   pub hierarchy : IsHierarchy w.setup.h
   pub faultless : HasNoFault w.setup.h
   pub sound : IsSoundLayout w.setup.h w.setup.rows
   pub typed : IsTypedProgram w.setup.h w.setup.program
   pub main : is_body w.setup.program.main ≡ true
-  pub tables : AreTables w
+  pub tables : HasAllTables w
   pub lowered : IsLowered w.setup w.code w.numbers
   pub small : w.image.base + length w.image.bytes < 2 ^ 63
   pub room : (c : ClassId) → c.0 < length w.setup.h → length (preorder w.setup.h c) ≤ w.parts

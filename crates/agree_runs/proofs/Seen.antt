@@ -16,7 +16,7 @@ use Rattle.path_plan.specs.Places.{part}
 use Rattle.path_plan.specs.Phases.{Raw}
 use Rattle.path_plan.specs.Runs.{Reached}
 use Rattle.path_model.specs.Values.{Objects, inner_part}
-use Rattle.path_model.specs.States.{Running, Frame, InBody, bodies_of}
+use Rattle.path_model.specs.States.{RunningBody, Frame, InBody, plan_bodies}
 use Rattle.path_model.specs.Uses.{class_of_owner, view_in, view_of, derived_of}
 use Rattle.path_model.specs.Rules.{is_unready}
 use Rattle.path_model.specs.Typed.{AllSettled}
@@ -34,7 +34,7 @@ use Rattle.agree_relation.proofs.Begun.{ready_seen, inner_begun}
 use Rattle.agree_relation.proofs.Phases.{ready_begun}
 use Rattle.agree_statements.specs.Statements.{AreSeen}
 
-module _ (h : Classes) (keeps : IsHierarchy h) (program : TypedProgram) (x : Objects) (frames : List Frame) (reached : Reached h (bodies_of program) (run_at x frames)) (settled : AllSettled h x) where
+module _ (h : Classes) (keeps : IsHierarchy h) (program : TypedProgram) (x : Objects) (frames : List Frame) (reached : Reached h (plan_bodies program) (run_at x frames)) (settled : AllSettled h x) where
   -- where the objects lie is of no account
   abbrev somewhere : Heap
   somewhere = heap_of x.classes []
@@ -42,7 +42,7 @@ module _ (h : Classes) (keeps : IsHierarchy h) (program : TypedProgram) (x : Obj
   view_there : (p : ObjectPart) (c : ClassId) → IsPartMade h x.classes p c → is_unready x p ≡ false → (y : Subobject) × (view_of h x p ≡ Some y)
   view_there p c made fine =
       let owner = owner_there h somewhere p c made in
-      let seen = ready_seen h keeps (bodies_of program) (run_at x frames) reached p c owner.0 made owner.1 (complete_made h somewhere p c owner.0 made owner.1) owner.2 (settled p.object made.class made.made) (ready_of x p fine) in
+      let seen = ready_seen h keeps (plan_bodies program) (run_at x frames) reached p c owner.0 made owner.1 (complete_made h somewhere p c owner.0 made owner.1) owner.2 (settled p.object made.class made.made) (ready_of x p fine) in
       (seen.0, ap (view_in x.phases p.object p.owner) owner.1 ∙ seen.1)
 
   joined : (p : ObjectPart) (target : ClassId) (i t : Subobject) → derived_of h x target i p ≡ Some t → join t i ≡ p.at
@@ -53,14 +53,14 @@ module _ (h : Classes) (keeps : IsHierarchy h) (program : TypedProgram) (x : Obj
   around_there : (p : ObjectPart) (c target : ClassId) (i t : Subobject) → IsPartMade h x.classes p c → is_unready x p ≡ false → IsSubobject h target i → i.root ≡ Whole → derived_of h x target i p ≡ Some t → x.phases.phase (part p.object p.owner t) ≡ Raw → ⊥
   around_there p c target i t made fine valid root found raw =
       let same : inner_part (part p.object p.owner t) i ≡ p = ap (λ (y : Subobject). part p.object p.owner y) (joined p target i t found) in
-      inner_begun h keeps (bodies_of program) (run_at x frames) reached (part p.object p.owner t) target i (derived_made h x p c target i t made found) valid root
+      inner_begun h keeps (plan_bodies program) (run_at x frames) reached (part p.object p.owner t) target i (derived_made h x p c target i t made found) valid root
       (λ e. ready_begun (x.phases.phase p) (ready_of x p fine) (ap x.phases.phase (sym same) ∙ e)) raw
 
   pub parts_seen : AreSeen h x
   parts_seen = record { view = view_there; around = around_there }
 
 -- what is ready in a state with a body on top is seen
-pub are_seen : (h : Classes) → IsHierarchy h → (sizes : ClassId → ℕ) (program : TypedProgram) (n : ℕ) (f : Running) (below : List Frame) → (state_at h sizes program n).frames ≡ InBody f ∷ below → AreSeen h (state_at h sizes program n).objects
+pub are_seen : (h : Classes) → IsHierarchy h → (sizes : ClassId → ℕ) (program : TypedProgram) (n : ℕ) (f : RunningBody) (below : List Frame) → (state_at h sizes program n).frames ≡ InBody f ∷ below → AreSeen h (state_at h sizes program n).objects
 are_seen h keeps sizes program n f below top =
     let s = state_at h sizes program n in
     let kept = state_kept h sizes program n in

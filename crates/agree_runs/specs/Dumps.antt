@@ -12,7 +12,7 @@ use Rattle.path_model.specs.Places.{leaves_of}
 use Rattle.path_model.specs.Outs.{dump_leaf}
 
 -- a dump of an open and complete object, with its leaves as they are in the state; nothing else is told in its step
-pub record IsDumped (h : Classes) (s : Objects) (outs : List Out) (number : ℕ) (c : ClassId) (leaves : List DumpLeaf) : Type 0 where
+pub record TellsDump (h : Classes) (s : Objects) (outs : List Out) (number : ℕ) (c : ClassId) (leaves : List DumpLeaf) : Type 0 where
   pub object : ℕ
   pub number_is : number ≡ object + 1
   pub class : slice_get s.classes object ≡ Some c

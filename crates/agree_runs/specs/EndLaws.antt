@@ -6,18 +6,18 @@ use Rattle.cxx_program.specs.declared.program.Owner.TheVariants.{Constructor, De
 use Rattle.cxx_program.specs.declared.program.TypedBody.{TypedBody}
 use Rattle.cxx_program.specs.declared.program.TypedProgram.{TypedProgram}
 use Rattle.path_model.specs.Runs.{state_at}
-use Rattle.path_model.specs.States.{Running, Frame, InBody, body_of}
+use Rattle.path_model.specs.States.{RunningBody, Frame, InBody, owned_body}
 use Rattle.agree_runs.specs.Accepted.{IsAccepted}
 use Rattle.agree_runs.specs.NextSteps.{EndsConstructor, EndsDestructor}
 
 -- at the end of a constructor's body, the next event of the plan below is the step of the run
 abbrev pub ConstructorEndsHappen : Classes → (ClassId → ℕ) → TypedProgram → Type 0
-ConstructorEndsHappen h sizes program = (n : ℕ) (f : Running) (below : List Frame) (body : TypedBody) (c : ClassId) → IsAccepted h program →
-    (state_at h sizes program n).frames ≡ InBody f ∷ below → body_of program f.owner ≡ Some body → slice_get body.statements f.next ≡ None →
+ConstructorEndsHappen h sizes program = (n : ℕ) (f : RunningBody) (below : List Frame) (body : TypedBody) (c : ClassId) → IsAccepted h program →
+    (state_at h sizes program n).frames ≡ InBody f ∷ below → owned_body program f.owner ≡ Some body → slice_get body.statements f.next ≡ None →
     f.owner ≡ Constructor c → EndsConstructor h sizes program (state_at h sizes program n) c below
 
 -- at the end of a destructor's body, the plan below goes on
 abbrev pub DestructorEndsHappen : Classes → (ClassId → ℕ) → TypedProgram → Type 0
-DestructorEndsHappen h sizes program = (n : ℕ) (f : Running) (below : List Frame) (body : TypedBody) (c : ClassId) → IsAccepted h program →
-    (state_at h sizes program n).frames ≡ InBody f ∷ below → body_of program f.owner ≡ Some body → slice_get body.statements f.next ≡ None →
+DestructorEndsHappen h sizes program = (n : ℕ) (f : RunningBody) (below : List Frame) (body : TypedBody) (c : ClassId) → IsAccepted h program →
+    (state_at h sizes program n).frames ≡ InBody f ∷ below → owned_body program f.owner ≡ Some body → slice_get body.statements f.next ≡ None →
     f.owner ≡ Destructor c → EndsDestructor h sizes program (state_at h sizes program n) below

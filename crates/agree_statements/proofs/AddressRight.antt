@@ -15,7 +15,7 @@ use Rattle.cxx_program.specs.declared.statement.TypedRight.TheVariants.{Address}
 use Rattle.cxx_program.specs.declared.statement.TypedStatement.{TypedStatement}
 use Rattle.cxx_program.specs.Typed.{Scope, Converts, IsPlace, an_address, IsConverted, a_right}
 use Rattle.path_rules.specs.declared.Undefined.{Undefined}
-use Rattle.path_model.specs.Values.{Value, Pointer, value, converted, inner_part}
+use Rattle.path_model.specs.Values.{Value, Pointer, value_of_operand, converted_to, inner_part}
 use Rattle.path_model.specs.Places.{end_part, last_passed, address_value}
 use Rattle.path_model.specs.Uses.{convert}
 use Rattle.path_model.specs.Order.{first_broken, sorted, asked_place}
@@ -32,7 +32,7 @@ use Rattle.code_ops.specs.PlaceOps.{place_ops}
 use Rattle.agree_parts.specs.Addresses.{address}
 use Rattle.agree_parts.proofs.Inside.{part_limit}
 use Rattle.agree_parts.proofs.Sums.{to_element}
-use Rattle.agree_relation.specs.Worlds.{classes_in, places_in, fixed}
+use Rattle.agree_relation.specs.Worlds.{world_classes, places_in, fixed}
 use Rattle.agree_relation.proofs.Objects.{objects_laid}
 use Rattle.agree_statements.specs.Registers.{body_on}
 use Rattle.agree_statements.proofs.Registers.{leads_grouped, variables_kept}
@@ -55,20 +55,20 @@ module _ {statement : TypedStatement} (scene : Scene statement) (locals : List V
   open scene use {w, at, s, f, below, body, b}
 
   abbrev v : Value
-  v = value (sight_with scene locals) place.pointer
+  v = value_of_operand (sight_with scene locals) place.pointer
 
   -- the member, as a part
   record IsMember (a : IsAimed scene v place) : Type 0 where
     part : ObjectPart
     value_is : address_value place d v ≡ Pointer part
-    made : IsPartMade (classes_in w) s.objects.classes part d
+    made : IsPartMade (world_classes w) s.objects.classes part d
     is_open : s.objects.is_closed part.object ≡ false
-    sum : address (classes_in w) (places_in w) (here scene) part ≡ address (classes_in w) (places_in w) (here scene) (inner_part (end_part a.part place.passed) place.base) + element_place (classes_in w) (places_in w) (class_of place.base) place.member place.index
-    low : address (classes_in w) (places_in w) (here scene) part < 2 ^ 41
+    sum : address (world_classes w) (places_in w) (here scene) part ≡ address (world_classes w) (places_in w) (here scene) (inner_part (end_part a.part place.passed) place.base) + element_place (world_classes w) (places_in w) (class_of place.base) place.member place.index
+    low : address (world_classes w) (places_in w) (here scene) part < 2 ^ 41
 
-  member_of : (a : IsAimed scene v place) → IsPlace (classes_in w) (scope scene) place (Object d) → IsMember a
+  member_of : (a : IsAimed scene v place) → IsPlace (world_classes w) (scope scene) place (Object d) → IsMember a
   member_of a is =
-      let h = classes_in w in
+      let h = world_classes w in
       let l = places_in w in
       let g = here scene in
       let p = end_part a.part (place.passed ++ last_passed place d ∷ []) in
@@ -89,7 +89,7 @@ module _ {statement : TypedStatement} (scene : Scene statement) (locals : List V
 
   pub address_does : DoesRight scene locals variable (record { right = Address place d; conversion = c })
   address_does old variables =
-      let h = classes_in w in
+      let h = world_classes w in
       let e = scope scene in
       let k = taken_typed h e place d c take.target take.typed in
       let to = free (block scene) 1 in
@@ -107,4 +107,4 @@ module _ {statement : TypedStatement} (scene : Scene statement) (locals : List V
       (λ last wrote is. leads_checked scene locals variable (record { right = Address place d; conversion = c }) take (Pointer m.part) d c 2 to last (omega arith) k.converts m.made m.is_open is
       (variables_kept w (here scene) (body_on f locals f.next) to new last (free_of scene locals 1 take.count) kept wrote)
       (λ rule broken. take.refused rule (behind (Some rule) broken))
-      (λ clear. take.fine (behind None clear) ∙ ap (λ (u : Value). Moves (took scene locals variable (converted u c)) []) m.value_is))))
+      (λ clear. take.fine (behind None clear) ∙ ap (λ (u : Value). Moves (took scene locals variable (converted_to u c)) []) m.value_is))))

@@ -22,11 +22,11 @@ use Rattle.byte_code.specs.declared.op.Op.TheVariants.{Does}
 use Rattle.byte_code.specs.declared.op.Finish.TheVariants.{Move}
 use Rattle.code_blocks.specs.Blocks.{statement_ops}
 use Rattle.code_ops.specs.Setups.{local_register, spare_register}
-use Rattle.byte_machine.specs.Leads.{Leads, LeadsBlock}
+use Rattle.byte_machine.specs.Leads.{OpsLead, LeadsBlock}
 use Rattle.byte_machine.proofs.Leads.{leads_end}
 use Rattle.byte_machine.proofs.ValueLeads.{leads_move}
 use Rattle.byte_machine.proofs.ControlLeads.{leads_jump}
-use Rattle.agree_relation.specs.Worlds.{classes_in, fixed}
+use Rattle.agree_relation.specs.Worlds.{world_classes, fixed}
 use Rattle.agree_relation.specs.Frames.{HasVariables}
 use Rattle.agree_relation.specs.Agrees.{Agrees}
 use Rattle.agree_statements.specs.Registers.{at_registers, body_on}
@@ -62,8 +62,8 @@ module _ (variable : Variable) (x : Converted) (line next : ℕ) (scene : Scene 
 
   pub assign_takes : right_demand x.right ≡ asks_nothing → Taking scene f.locals variable x
   assign_takes asks =
-      let k = assigned_typed (classes_in w) (scope scene) variable x (kind_typed scene) in
-      let given = converted_given (classes_in w) (scope scene) (sight s f) x k.type (sees scene) k.typed in
+      let k = assigned_typed (world_classes w) (scope scene) variable x (kind_typed scene) in
+      let given = converted_given (world_classes w) (scope scene) (sight s f) x k.type (sees scene) k.typed in
       record {
         count = locals_count scene;
         sees = sees scene;
@@ -85,16 +85,16 @@ module _ {statement : TypedStatement} (scene : Scene statement) (n : ℕ) (t : V
   abbrev pub unset : List Value
   unset = set f.locals n Unset
 
-  pub sees_unset : IsTypedSight (classes_in w) (scope scene) (sight s (body_on f unset f.next))
+  pub sees_unset : IsTypedSight (world_classes w) (scope scene) (sight s (body_on f unset f.next))
   sees_unset =
       let a = sees scene in
-      record { globals = a.globals; locals = values_set (classes_in w) s.objects.classes f.locals body.locals n t Unset a.locals there tt; this = a.this; leaves = a.leaves }
+      record { globals = a.globals; locals = values_set (world_classes w) s.objects.classes f.locals body.locals n t Unset a.locals there tt; this = a.this; leaves = a.leaves }
 
   pub count_unset : length unset ≡ length body.locals
   count_unset = length-set f.locals n Unset ∙ locals_count scene
 
   -- the first op of a declaration
-  leads_unset_local : {ops : List Op} (next : ℕ) → ((new : List (Option ℕ)) → HasVariables w (here scene) (body_on f unset next) new → Leads (fixed w) ops (at_registers b new) (Reaches scene)) → Leads (fixed w) (Does (Move (local_register n) (spare_register (Some body))) ∷ ops) b (Reaches scene)
+  leads_unset_local : {ops : List Op} (next : ℕ) → ((new : List (Option ℕ)) → HasVariables w (here scene) (body_on f unset next) new → OpsLead (fixed w) ops (at_registers b new) (Reaches scene)) → OpsLead (fixed w) (Does (Move (local_register n) (spare_register (Some body))) ∷ ops) b (Reaches scene)
   leads_unset_local next rest =
       let a = variables scene in
       let count = locals_count scene in
@@ -119,9 +119,9 @@ module _ (n : ℕ) (x : Converted) (line next : ℕ) (scene : Scene (record { ki
 
   pub declare_takes : right_demand x.right ≡ asks_nothing → Taking scene (set f.locals n Unset) (Local n) x
   declare_takes asks =
-      let k = declared_typed (classes_in w) (scope scene) n x (kind_typed scene) in
+      let k = declared_typed (world_classes w) (scope scene) n x (kind_typed scene) in
       let seen = sees_unset scene n k.type k.there in
-      let given = converted_given (classes_in w) (scope scene) (sight s (body_on f (set f.locals n Unset) f.next)) x k.type seen k.typed in
+      let given = converted_given (world_classes w) (scope scene) (sight s (body_on f (set f.locals n Unset) f.next)) x k.type seen k.typed in
       record {
         count = count_unset scene n k.type k.there;
         sees = seen;
@@ -134,7 +134,7 @@ module _ (n : ℕ) (x : Converted) (line next : ℕ) (scene : Scene (record { ki
 
   pub declare_does : DoesRight scene (set f.locals n Unset) (Local n) x → LeadsBlock (fixed w) (statement_ops w.setup at (top scene).on.routine body f.next (record { kind = Declare n (Some x); line = line; next = next })) b (Agrees w at (move_in w s))
   declare_does does =
-      let k = declared_typed (classes_in w) (scope scene) n x (kind_typed scene) in
+      let k = declared_typed (world_classes w) (scope scene) n x (kind_typed scene) in
       leads_unset_local scene n k.type k.there f.next (λ new variables. does new variables)
 
 module _ (n line next : ℕ) (scene : Scene (record { kind = Declare n None; line = line; next = next })) where
@@ -145,10 +145,10 @@ module _ (n line next : ℕ) (scene : Scene (record { kind = Declare n None; lin
 
   pub plain_declare_does : LeadsBlock (fixed w) (statement_ops w.setup at (top scene).on.routine body f.next (record { kind = Declare n None; line = line; next = next })) b (Agrees w at (move_in w s))
   plain_declare_does =
-      let k = local_typed (classes_in w) (scope scene) n (kind_typed scene) in
+      let k = local_typed (world_classes w) (scope scene) n (kind_typed scene) in
       leads_unset_local scene n k.0 k.1 next
-      (λ new variables. leads_checks (fixed w) (at_registers b new) (Reaches scene) (classes_in w) s.objects [] [] nothing
+      (λ new variables. leads_checks (fixed w) (at_registers b new) (Reaches scene) (world_classes w) s.objects [] [] nothing
       (λ fine none. leads_jump (fixed w) (to_next scene next) (leads_end (fixed w)
       (finished scene s.objects b.memory s.globals b.globals (set f.locals n Unset) next new b.outs [] (record { classes = refl; phases = refl }) refl scene.begins.stands.columns scene.begins.stands.globals variables (silent scene f.locals)
       (move_fine w s f below body plain scene.world scene.next tt refl refl))))
-      (λ rule broken. absurd (let no_rule : None ≡ Some rule = sym (none_asked (classes_in w) s.objects) ∙ broken in cc)))
+      (λ rule broken. absurd (let no_rule : None ≡ Some rule = sym (none_asked (world_classes w) s.objects) ∙ broken in cc)))

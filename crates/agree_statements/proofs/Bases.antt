@@ -23,10 +23,10 @@ use Rattle.byte_memory.specs.Store.{Store}
 use Rattle.byte_code.specs.declared.op.Op.{Op}
 use Rattle.byte_code.specs.declared.op.Op.TheVariants.{Does}
 use Rattle.byte_code.specs.declared.op.Finish.TheVariants.{Add}
-use Rattle.byte_machine.specs.Plans.{word_bytes}
+use Rattle.byte_machine.specs.Plans.{word_offset}
 use Rattle.cxx_hierarchy.specs.VirtualBases.{HasVirtualBase}
 use Rattle.byte_machine.specs.Running.{Running, Stop, moved}
-use Rattle.byte_machine.specs.Leads.{Leads}
+use Rattle.byte_machine.specs.Leads.{OpsLead}
 use Rattle.byte_machine.proofs.ValueLeads.{leads_add, leads_add_vbase}
 use Rattle.code_ops.specs.Operands.{base_ops, ops_of}
 use Rattle.agree_parts.specs.Heaps.{Heap}
@@ -37,7 +37,7 @@ use Rattle.agree_parts.proofs.Sums.{to_inner}
 use Rattle.agree_dispatch.specs.Words.{MovesTo}
 use Rattle.agree_views.specs.Views.{IsStandingView}
 use Rattle.agree_views.proofs.Telling.{told_vbase}
-use Rattle.agree_relation.specs.Worlds.{World, IsWorld, classes_in, places_in, fixed}
+use Rattle.agree_relation.specs.Worlds.{World, IsProgramWorld, world_classes, places_in, fixed}
 use Rattle.agree_relation.specs.Words.{heap_of}
 use Rattle.agree_relation.specs.Columns.{ColumnsStand}
 use Rattle.agree_relation.proofs.Objects.{objects_laid}
@@ -53,7 +53,7 @@ pub record IsUnder (w : World) (s : Objects) (b : Running) (p : ObjectPart) (c :
   pub sight : IsInSight w s p c
   pub standing : IsStandingView w (heap_of s.classes b.memory.regions) b.memory (part p.object p.owner sight.at) sight.class sight.complete
   pub inner : Subobject
-  pub valid : IsSubobject (classes_in w) sight.class inner
+  pub valid : IsSubobject (world_classes w) sight.class inner
   pub of_class : class_of inner ≡ Some c
   pub is : inner_part (part p.object p.owner sight.at) inner ≡ p
 
@@ -61,19 +61,19 @@ abbrev pub seen_from : (w : World) (s : Objects) (b : Running) (p : ObjectPart) 
 seen_from w s b p c u = record { view = part p.object p.owner u.sight.at; view_class = u.sight.class; complete = u.sight.complete; stands = u.standing; inner = u.inner; valid = u.valid; of_class = u.of_class; is = u.is }
 
 -- from where a part stands in a view, a word of its table leads to a virtual base
-pub seen_base : (w : World) (g : Heap) (memory : Store) (p : ObjectPart) (c v : ClassId) → IsSeenFrom w g memory p c → HasVirtualBase (classes_in w) c v →
-    MovesTo w.image memory (address (classes_in w) (places_in w) g p) (word_bytes (word_number (vbase_number (classes_in w) (places_in w) c v))) (address (classes_in w) (places_in w) g (shared_part p v))
+pub seen_base : (w : World) (g : Heap) (memory : Store) (p : ObjectPart) (c v : ClassId) → IsSeenFrom w g memory p c → HasVirtualBase (world_classes w) c v →
+    MovesTo w.image memory (address (world_classes w) (places_in w) g p) (word_offset (word_number (vbase_number (world_classes w) (places_in w) c v))) (address (world_classes w) (places_in w) g (shared_part p v))
 seen_base w g memory p c v seen has =
-    subst (λ q. MovesTo w.image memory (address (classes_in w) (places_in w) g q) (word_bytes (word_number (vbase_number (classes_in w) (places_in w) c v))) (address (classes_in w) (places_in w) g (shared_part q v))) seen.is
+    subst (λ q. MovesTo w.image memory (address (world_classes w) (places_in w) g q) (word_offset (word_number (vbase_number (world_classes w) (places_in w) c v))) (address (world_classes w) (places_in w) g (shared_part q v))) seen.is
     (told_vbase w g memory seen.view seen.view_class seen.complete seen.stands seen.inner c v seen.valid seen.of_class has)
 
-module _ (w : World) (s : Objects) (b : Running) (world : IsWorld w) (columns : ColumnsStand w s b.memory b.objects b.heap b.notes) where
+module _ (w : World) (s : Objects) (b : Running) (world : IsProgramWorld w) (columns : ColumnsStand w s b.memory b.objects b.heap b.notes) where
   abbrev g : Heap
   g = heap_of s.classes b.memory.regions
 
-  pub under : (p : ObjectPart) (c : ClassId) → IsInSight w s p c → IsPartMade (classes_in w) s.classes p c → s.is_closed p.object ≡ false → is_outside (classes_in w) s p ≡ false → IsDynamic (classes_in w) c → IsUnder w s b p c
+  pub under : (p : ObjectPart) (c : ClassId) → IsInSight w s p c → IsPartMade (world_classes w) s.classes p c → s.is_closed p.object ≡ false → is_outside (world_classes w) s p ≡ false → IsDynamic (world_classes w) c → IsUnder w s b p c
   under p c k made open_there within dynamic =
-      let h = classes_in w in
+      let h = world_classes w in
       let seen = has_view h s p within in
       let one : Some seen.view ≡ Some k.at = sym seen.is ∙ k.is_view in
       let same : seen.view ≡ k.at = cc in
@@ -102,27 +102,27 @@ module _ (w : World) (s : Objects) (b : Running) (world : IsWorld w) (columns : 
 
   -- the ops lead from the address of a part to that of a base; where the way goes through a virtual base, the part is seen
   module _ (P : Running → Stop → Type 0) where
-    pub leads_plain : {ops : List Op} (p q : ObjectPart) (c d : ClassId) (by to from : ℕ) (old : List (Option ℕ)) → IsPartMade (classes_in w) s.classes p c → IsPartMade (classes_in w) s.classes q d → register_of old from ≡ Some (address (classes_in w) (places_in w) g p) → to < length old
-        → address (classes_in w) (places_in w) g q ≡ address (classes_in w) (places_in w) g p + by
-        → ((new : List (Option ℕ)) → Wrote to old new → register_of new to ≡ Some (address (classes_in w) (places_in w) g q) → Leads (fixed w) ops (at_registers b new) P)
-        → Leads (fixed w) (Does (Add to from by) ∷ ops) (at_registers b old) P
+    pub leads_plain : {ops : List Op} (p q : ObjectPart) (c d : ClassId) (by to from : ℕ) (old : List (Option ℕ)) → IsPartMade (world_classes w) s.classes p c → IsPartMade (world_classes w) s.classes q d → register_of old from ≡ Some (address (world_classes w) (places_in w) g p) → to < length old
+        → address (world_classes w) (places_in w) g q ≡ address (world_classes w) (places_in w) g p + by
+        → ((new : List (Option ℕ)) → Wrote to old new → register_of new to ≡ Some (address (world_classes w) (places_in w) g q) → OpsLead (fixed w) ops (at_registers b new) P)
+        → OpsLead (fixed w) (Does (Add to from by) ∷ ops) (at_registers b old) P
     leads_plain p q c d by to from old made there has inside sum rest =
         let laid = objects_laid w s b.memory.regions b.objects b.heap world columns.objects in
-        let some = part_positive (classes_in w) w.setup.rows g p c laid made in
-        let to_part = moved_to_part (classes_in w) w.setup.rows g (address (classes_in w) (places_in w) g p) by q d laid there sum in
-        leads_add (fixed w) to from by (address (classes_in w) (places_in w) g p) has (λ e. omega arith) inside
-        (rest _ (wrote_set b old to (Some (moved (address (classes_in w) (places_in w) g p) by))) (set_here b old to (Some (moved (address (classes_in w) (places_in w) g p) by)) inside ∙ ap (λ (n : ℕ). Some n) to_part))
+        let some = part_positive (world_classes w) w.setup.rows g p c laid made in
+        let to_part = moved_to_part (world_classes w) w.setup.rows g (address (world_classes w) (places_in w) g p) by q d laid there sum in
+        leads_add (fixed w) to from by (address (world_classes w) (places_in w) g p) has (λ e. omega arith) inside
+        (rest _ (wrote_set b old to (Some (moved (address (world_classes w) (places_in w) g p) by))) (set_here b old to (Some (moved (address (world_classes w) (places_in w) g p) by)) inside ∙ ap (λ (n : ℕ). Some n) to_part))
 
-    pub leads_base : {ops : List Op} (p : ObjectPart) (c d : ClassId) (i : Subobject) (to from : ℕ) (old : List (Option ℕ)) → IsPartMade (classes_in w) s.classes p c → IsSubobject (classes_in w) c i → class_of i ≡ Some d → (is_shared i ≡ true → IsSeenFrom w g b.memory p c) → register_of old from ≡ Some (address (classes_in w) (places_in w) g p) → to < length old
-        → ((new : List (Option ℕ)) → Wrote to old new → register_of new to ≡ Some (address (classes_in w) (places_in w) g (inner_part p i)) → Leads (fixed w) ops (at_registers b new) P)
-        → Leads (fixed w) (ops_of (base_ops w.setup c i to from) ++ ops) (at_registers b old) P
+    pub leads_base : {ops : List Op} (p : ObjectPart) (c d : ClassId) (i : Subobject) (to from : ℕ) (old : List (Option ℕ)) → IsPartMade (world_classes w) s.classes p c → IsSubobject (world_classes w) c i → class_of i ≡ Some d → (is_shared i ≡ true → IsSeenFrom w g b.memory p c) → register_of old from ≡ Some (address (world_classes w) (places_in w) g p) → to < length old
+        → ((new : List (Option ℕ)) → Wrote to old new → register_of new to ≡ Some (address (world_classes w) (places_in w) g (inner_part p i)) → OpsLead (fixed w) ops (at_registers b new) P)
+        → OpsLead (fixed w) (ops_of (base_ops w.setup c i to from) ++ ops) (at_registers b old) P
     leads_base p c d _ to from old made (whole path leads) of_class seen has inside rest =
         let laid = objects_laid w s b.memory.regions b.objects b.heap world columns.objects in
         let valid = whole path leads in
-        leads_plain p (inner_part p (subobject Whole (c ∷ path))) c d ((places_in w).place c (subobject Whole (c ∷ path))) to from old made (inner_is_made (classes_in w) g p c d (subobject Whole (c ∷ path)) made valid of_class) has inside
-        (to_inner (classes_in w) w.setup.rows g p c (subobject Whole (c ∷ path)) made valid refl) rest
+        leads_plain p (inner_part p (subobject Whole (c ∷ path))) c d ((places_in w).place c (subobject Whole (c ∷ path))) to from old made (inner_is_made (world_classes w) g p c d (subobject Whole (c ∷ path)) made valid of_class) has inside
+        (to_inner (world_classes w) w.setup.rows g p c (subobject Whole (c ∷ path)) made valid refl) rest
     leads_base p c d _ to from old made (shared v path at leads) of_class seen has inside rest =
-        let h = classes_in w in
+        let h = world_classes w in
         let laid = objects_laid w s b.memory.regions b.objects b.heap world columns.objects in
         let some = part_positive h w.setup.rows g p c laid made in
         let a = seen_base w g b.memory p c v (seen refl) at in

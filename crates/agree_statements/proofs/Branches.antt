@@ -11,8 +11,8 @@ use Rattle.cxx_program.specs.declared.statement.TypedStatement.{TypedStatement}
 use Rattle.cxx_program.specs.Typed.{Scope, HasType, IsTyped, branches, repeats}
 use Rattle.path_rules.specs.declared.Undefined.{Undefined}
 use Rattle.path_rules.specs.declared.Undefined.TheVariants.{Unset as UnsetUse}
-use Rattle.path_model.specs.Values.{Value, value}
-use Rattle.path_model.specs.Uses.{Use, Reads}
+use Rattle.path_model.specs.Values.{Value, value_of_operand}
+use Rattle.path_model.specs.Uses.{StatementUse, Reads}
 use Rattle.path_model.specs.Order.{first_broken, sorted}
 use Rattle.path_model.specs.States.{sight}
 use Rattle.path_model.specs.Effects.{branched, block_at, is_number_zero}
@@ -22,14 +22,14 @@ use Rattle.byte_machine.specs.Frames.{register_of}
 use Rattle.byte_code.specs.declared.op.Op.TheVariants.{Jump, JumpIf}
 use Rattle.byte_code.specs.Numbers.{word_of}
 use Rattle.byte_machine.specs.Effects.{jumping}
-use Rattle.byte_machine.specs.Leads.{Leads, LeadsBlock}
+use Rattle.byte_machine.specs.Leads.{OpsLead, LeadsBlock}
 use Rattle.byte_machine.proofs.Leads.{leads_end}
 use Rattle.byte_machine.proofs.ControlLeads.{leads_jump, leads_jump_if, leads_jump_if_not}
 use Rattle.code_blocks.specs.Blocks.{statement_ops}
 use Rattle.code_ops.specs.Arguments.{free}
 use Rattle.code_ops.specs.Operands.{operand_ops, operand_register}
 use Rattle.code_ops.specs.Uses.{check_ops, reads}
-use Rattle.agree_relation.specs.Worlds.{classes_in, fixed}
+use Rattle.agree_relation.specs.Worlds.{world_classes, fixed}
 use Rattle.agree_relation.specs.Words.{register_word}
 use Rattle.agree_relation.specs.Frames.{HasVariables}
 use Rattle.agree_relation.specs.Agrees.{Agrees}
@@ -58,21 +58,21 @@ module _ {statement : TypedStatement} (scene : Scene statement) (x : TypedOperan
   open scene use {w, at, s, f, below, body, b}
 
   abbrev v : Value
-  v = value (sight s f) x
+  v = value_of_operand (sight s f) x
 
-  abbrev uses : List Use
+  abbrev uses : List StatementUse
   uses = Reads v ∷ []
 
   abbrev r : ℕ
   r = operand_register (free (block scene) 0) x
 
-  on_at : (n : ℕ) (new : List (Option ℕ)) → HasVariables w (here scene) f new → move_in w s ≡ Moves (state_on s s.objects s.globals (body_on f f.locals n) below) [] → Leads (fixed w) [] (jumping (to_next scene n) (at_registers b new)) (Reaches scene)
+  on_at : (n : ℕ) (new : List (Option ℕ)) → HasVariables w (here scene) f new → move_in w s ≡ Moves (state_on s s.objects s.globals (body_on f f.locals n) below) [] → OpsLead (fixed w) [] (jumping (to_next scene n) (at_registers b new)) (Reaches scene)
   on_at n new variables moves = leads_end (fixed w)
       (finished scene s.objects b.memory s.globals b.globals f.locals n new b.outs [] (record { classes = refl; phases = refl }) refl scene.begins.stands.columns scene.begins.stands.globals (variables_on w (here scene) f n new variables) (silent scene f.locals) moves)
 
   jumps : (new : List (Option ℕ)) (t : Scalar) → IsNumber v t → register_of new r ≡ register_word w (here scene) v → HasVariables w (here scene) f new
       → move_in w s ≡ move_by (branched (state_on s s.objects s.globals f below) v yes_at no_at) None
-      → Leads (fixed w) (Jump (to_next scene no_at) ∷ JumpIf r (to_next scene yes_at) ∷ []) (at_registers b new) (Reaches scene)
+      → OpsLead (fixed w) (Jump (to_next scene no_at) ∷ JumpIf r (to_next scene yes_at) ∷ []) (at_registers b new) (Reaches scene)
   jumps new t m has variables moves = leads_jump (fixed w) (to_next scene no_at) (by_zero (is_number_zero m.number) refl)
     where
       word : register_of new r ≡ Some (word_of m.number)
@@ -84,17 +84,17 @@ module _ {statement : TypedStatement} (scene : Scene statement) (x : TypedOperan
       test : (zero_number : Bool) → is_number_zero m.number ≡ zero_number → nat_eq (word_of m.number) 0 ≡ zero_number
       test zero_number e = zero_test t m.number m.range ∙ e
 
-      by_zero : (zero_number : Bool) → is_number_zero m.number ≡ zero_number → Leads (fixed w) (JumpIf r (to_next scene yes_at) ∷ []) (jumping (to_next scene no_at) (at_registers b new)) (Reaches scene)
+      by_zero : (zero_number : Bool) → is_number_zero m.number ≡ zero_number → OpsLead (fixed w) (JumpIf r (to_next scene yes_at) ∷ []) (jumping (to_next scene no_at) (at_registers b new)) (Reaches scene)
       by_zero true e =
           let none : word_of m.number ≡ 0 = is_zero (word_of m.number) (test true e) in
           leads_jump_if_not (fixed w) r (to_next scene yes_at) (word ∙ ap (λ (k : ℕ). Some k) none) (on_at no_at new variables (goes true e))
       by_zero false e = leads_jump_if (fixed w) r (to_next scene yes_at) (word_of m.number) word (no_zero (word_of m.number) (test false e)) (on_at yes_at new variables (goes false e))
 
-  pub branch_does : (t : Scalar) → HasType (scope scene) x (NumberType t) → ((rule : Undefined) → first_broken (classes_in w) s.objects (sorted uses) ≡ Some rule → move_in w s ≡ IsRefused rule statement.line)
-      → (first_broken (classes_in w) s.objects (sorted uses) ≡ None → move_in w s ≡ move_by (branched (state_on s s.objects s.globals f below) v yes_at no_at) None)
-      → Leads (fixed w) (operand_ops (free (block scene) 0) x ++ (check_ops (reads (scope scene) (free (block scene) 0) x) ++ (Jump (to_next scene no_at) ∷ JumpIf r (to_next scene yes_at) ∷ []))) b (Reaches scene)
+  pub branch_does : (t : Scalar) → HasType (scope scene) x (NumberType t) → ((rule : Undefined) → first_broken (world_classes w) s.objects (sorted uses) ≡ Some rule → move_in w s ≡ IsRefused rule statement.line)
+      → (first_broken (world_classes w) s.objects (sorted uses) ≡ None → move_in w s ≡ move_by (branched (state_on s s.objects s.globals f below) v yes_at no_at) None)
+      → OpsLead (fixed w) (operand_ops (free (block scene) 0) x ++ (check_ops (reads (scope scene) (free (block scene) 0) x) ++ (Jump (to_next scene no_at) ∷ JumpIf r (to_next scene yes_at) ∷ []))) b (Reaches scene)
   branch_does t has refuses goes =
-      let h = classes_in w in
+      let h = world_classes w in
       let e = scope scene in
       let first = free (block scene) 0 in
       let stands = variables scene in
@@ -115,7 +115,7 @@ loop_typed h e x behind (repeats _ t _ has) = (t, has)
 pub if_does : (x : TypedOperand) (other behind line next : ℕ) (scene : Scene (record { kind = If x other behind; line = line; next = next })) →
     LeadsBlock (fixed scene.w) (statement_ops scene.w.setup scene.at (top scene).on.routine scene.body scene.f.next (record { kind = If x other behind; line = line; next = next })) scene.b (Agrees scene.w scene.at (move_in scene.w scene.s))
 if_does x other behind line next scene =
-    let typed = condition_typed (classes_in scene.w) (scope scene) x other behind (kind_typed scene) in
+    let typed = condition_typed (world_classes scene.w) (scope scene) x other behind (kind_typed scene) in
     branch_does scene x (block_at (scene.f.next + 1) other next) (block_at other behind next) typed.0 typed.1
     (λ rule broken. move_refused scene.w scene.s scene.f scene.below scene.body _ scene.world scene.next rule tt broken)
     (λ fine. move_fine scene.w scene.s scene.f scene.below scene.body _ scene.world scene.next tt fine refl)
@@ -123,7 +123,7 @@ if_does x other behind line next scene =
 pub while_does : (x : TypedOperand) (behind line next : ℕ) (scene : Scene (record { kind = While x behind; line = line; next = next })) →
     LeadsBlock (fixed scene.w) (statement_ops scene.w.setup scene.at (top scene).on.routine scene.body scene.f.next (record { kind = While x behind; line = line; next = next })) scene.b (Agrees scene.w scene.at (move_in scene.w scene.s))
 while_does x behind line next scene =
-    let typed = loop_typed (classes_in scene.w) (scope scene) x behind (kind_typed scene) in
+    let typed = loop_typed (world_classes scene.w) (scope scene) x behind (kind_typed scene) in
     branch_does scene x (block_at (scene.f.next + 1) behind scene.f.next) next typed.0 typed.1
     (λ rule broken. move_refused scene.w scene.s scene.f scene.below scene.body _ scene.world scene.next rule tt broken)
     (λ fine. move_fine scene.w scene.s scene.f scene.below scene.body _ scene.world scene.next tt fine refl)

@@ -21,7 +21,7 @@ use Rattle.cxx_program.specs.declared.statement.TypedStatement.{TypedStatement}
 use Rattle.cxx_program.specs.Typed.{Scope, Converts, HasType, Casts, cast_same, cast_up, cast_down, cast_dynamic, a_cast, IsConverted, a_right}
 use Rattle.path_rules.specs.declared.Undefined.{Undefined}
 use Rattle.path_rules.specs.declared.Undefined.TheVariants.{Dangling}
-use Rattle.path_model.specs.Values.{Value, Unset, Number, Null, Pointer, Objects, value}
+use Rattle.path_model.specs.Values.{Value, Unset, Number, Null, Pointer, Objects, value_of_operand}
 use Rattle.path_model.specs.Uses.{Reads, convert, cast_uses, cast_value, value_or, view_cast, derived_of, view_of}
 use Rattle.path_model.specs.Rules.{is_broken, names}
 use Rattle.path_model.specs.Order.{first_broken, sorted}
@@ -33,12 +33,12 @@ use Rattle.path_model.proofs.TypedValues.{operand_typed}
 use Rattle.byte_machine.specs.Frames.{register_of}
 use Rattle.byte_code.specs.declared.op.Op.{Op}
 use Rattle.byte_code.specs.declared.op.Op.TheVariants.{Jump}
-use Rattle.byte_machine.specs.Leads.{Leads}
-use Rattle.code_ops.specs.Arguments.{free, class_at, checked_taken}
+use Rattle.byte_machine.specs.Leads.{OpsLead}
+use Rattle.code_ops.specs.Arguments.{free, pointed_class, checked_taken}
 use Rattle.code_ops.specs.Operands.{operand_ops, operand_register, ops_of}
 use Rattle.code_ops.specs.Uses.{check_ops}
 use Rattle.code_statements.specs.Rights.{cast_used, cast_class}
-use Rattle.agree_relation.specs.Worlds.{classes_in, fixed}
+use Rattle.agree_relation.specs.Worlds.{world_classes, fixed}
 use Rattle.agree_relation.specs.Words.{register_word}
 use Rattle.agree_relation.specs.Frames.{HasVariables}
 use Rattle.agree_statements.specs.Registers.{at_registers, body_on}
@@ -98,44 +98,44 @@ module _ {statement : TypedStatement} (scene : Scene statement) (locals : List V
   open scene use {w, at, s, f, below, body, b}
 
   abbrev v : Value
-  v = value (sight_with scene locals) x
+  v = value_of_operand (sight_with scene locals) x
 
   abbrev from : ℕ
   from = operand_register (free (block scene) 0) x
 
   abbrev given : Value
-  given = cast_value (classes_in w) s.objects cast v
+  given = cast_value (world_classes w) s.objects cast v
 
-  pub the_cast : IsCasted (classes_in w) (scope scene) cast x c take.target
-  the_cast = casted_typed (classes_in w) (scope scene) cast x c take.target take.typed
+  pub the_cast : IsCasted (world_classes w) (scope scene) cast x c take.target
+  the_cast = casted_typed (world_classes w) (scope scene) cast x c take.target take.typed
 
-  pub cast_reads : IsValue (classes_in w) s.objects.classes v (PointerType (the_cast).from)
-  cast_reads = operand_typed (classes_in w) (scope scene) (sight_with scene locals) take.sees x (PointerType (the_cast).from) (the_cast).has
+  pub cast_reads : IsValue (world_classes w) s.objects.classes v (PointerType (the_cast).from)
+  cast_reads = operand_typed (world_classes w) (scope scene) (sight_with scene locals) take.sees x (PointerType (the_cast).from) (the_cast).has
 
   -- what was cast is tested for its conversion, converted and taken
-  pub cast_taken : (last : List (Option ℕ)) → ((r : Undefined) → is_broken (classes_in w) s.objects (cast_uses cast v) r ≡ false) → Has (cast_uses cast v) (Reads v) → first_broken (classes_in w) s.objects (sorted (cast_uses cast v)) ≡ None → HasVariables w (here scene) (body_on f locals f.next) last → register_of last (free (block scene) 1) ≡ register_word w (here scene) given
-      → Leads (fixed w) (ops_of (checked_taken (block scene) variable (Some (cast_class cast (class_at (block scene) x))) c (free (block scene) 2) (free (block scene) 1)) ++ (Jump (to_next scene statement.next) ∷ [])) (at_registers b last) (Reaches scene)
+  pub cast_taken : (last : List (Option ℕ)) → ((r : Undefined) → is_broken (world_classes w) s.objects (cast_uses cast v) r ≡ false) → Has (cast_uses cast v) (Reads v) → first_broken (world_classes w) s.objects (sorted (cast_uses cast v)) ≡ None → HasVariables w (here scene) (body_on f locals f.next) last → register_of last (free (block scene) 1) ≡ register_word w (here scene) given
+      → OpsLead (fixed w) (ops_of (checked_taken (block scene) variable (Some (cast_class cast (pointed_class (block scene) x))) c (free (block scene) 2) (free (block scene) 1)) ++ (Jump (to_next scene statement.next) ∷ [])) (at_registers b last) (Reaches scene)
   cast_taken last none reads_it fine variables has =
-      let h = classes_in w in
+      let h = world_classes w in
       let k = the_cast in
       let first = sorted (cast_uses cast v) in
       let second = sorted (convert given c) in
-      let class : class_at (block scene) x ≡ k.from = ap class_or_first (operand_class_is (scope scene) x k.from k.has) in
-      let leads_to : cast_class cast (class_at (block scene) x) ≡ k.to = ap (cast_class cast) class ∙ cast_class_is h k.from k.to cast k.casts in
+      let class : pointed_class (block scene) x ≡ k.from = ap class_or_first (operand_class_is (scope scene) x k.from k.has) in
+      let leads_to : cast_class cast (pointed_class (block scene) x) ≡ k.to = ap (cast_class cast) class ∙ cast_class_is h k.from k.to cast k.casts in
       let open_there = unbroken (fixed w) b (Reaches scene) h s.objects (cast_uses cast v) (Reads v) Dangling (none Dangling) reads_it in
       let behind : (o : Option Undefined) → first_broken h s.objects second ≡ o → first_broken h s.objects (first ++ second) ≡ o = λ o q. broken_append h s.objects first second ∙ ap (λ (z : Option Undefined). option_or z (first_broken h s.objects second)) fine ∙ q in
-      subst (λ (d : ClassId). Leads (fixed w) (ops_of (checked_taken (block scene) variable (Some d) c (free (block scene) 2) (free (block scene) 1)) ++ (Jump (to_next scene statement.next) ∷ [])) (at_registers b last) (Reaches scene)) (sym leads_to)
+      subst (λ (d : ClassId). OpsLead (fixed w) (ops_of (checked_taken (block scene) variable (Some d) c (free (block scene) 2) (free (block scene) 1)) ++ (Jump (to_next scene statement.next) ∷ [])) (at_registers b last) (Reaches scene)) (sym leads_to)
       (leads_checked scene locals variable (record { right = Cast cast x; conversion = c }) take given k.to c 2 (free (block scene) 1) last (omega arith) k.converts
       (cast_typed h scene.world.hierarchy s.objects (running_parts w s.objects (top scene).goings (top scene).planned) cast k.from k.to k.casts v cast_reads) (cast_open h s.objects cast v open_there) has variables
       (λ rule broken. take.refused rule (behind (Some rule) broken)) (λ clear. take.fine (behind None clear)))
 
   -- the front of a cast, with its tests
   pub leads_cast_front : {ops : List Op} (old : List (Option ℕ)) → HasVariables w (here scene) (body_on f locals f.next) old
-      → ((new : List (Option ℕ)) → register_of new from ≡ register_word w (here scene) v → Along (fixed w) (at_registers b new) (Reaches scene) (classes_in w) s.objects (cast_uses cast v) (cast_uses cast v) (cast_used (block scene) cast (free (block scene) 0) x))
-      → ((new : List (Option ℕ)) → ((r : Undefined) → is_broken (classes_in w) s.objects (cast_uses cast v) r ≡ false) → first_broken (classes_in w) s.objects (sorted (cast_uses cast v)) ≡ None → HasVariables w (here scene) (body_on f locals f.next) new → register_of new from ≡ register_word w (here scene) v → Leads (fixed w) ops (at_registers b new) (Reaches scene))
-      → Leads (fixed w) (operand_ops (free (block scene) 0) x ++ (check_ops (cast_used (block scene) cast (free (block scene) 0) x) ++ ops)) (at_registers b old) (Reaches scene)
+      → ((new : List (Option ℕ)) → register_of new from ≡ register_word w (here scene) v → Along (fixed w) (at_registers b new) (Reaches scene) (world_classes w) s.objects (cast_uses cast v) (cast_uses cast v) (cast_used (block scene) cast (free (block scene) 0) x))
+      → ((new : List (Option ℕ)) → ((r : Undefined) → is_broken (world_classes w) s.objects (cast_uses cast v) r ≡ false) → first_broken (world_classes w) s.objects (sorted (cast_uses cast v)) ≡ None → HasVariables w (here scene) (body_on f locals f.next) new → register_of new from ≡ register_word w (here scene) v → OpsLead (fixed w) ops (at_registers b new) (Reaches scene))
+      → OpsLead (fixed w) (operand_ops (free (block scene) 0) x ++ (check_ops (cast_used (block scene) cast (free (block scene) 0) x) ++ ops)) (at_registers b old) (Reaches scene)
   leads_cast_front old variables along goes =
-      let h = classes_in w in
+      let h = world_classes w in
       let r = free (block scene) 0 in
       let k = the_cast in
       leads_operand (fixed w) w (here scene) s (body_on f locals f.next) (scope scene) b x (PointerType k.from) r old take.sees scene.begins.stands.globals variables k.has (free_in scene locals old 0 (omega arith) variables)

@@ -15,8 +15,8 @@ use Rattle.cxx_program.specs.declared.statement.TypedRight.TheVariants.{Cast}
 use Rattle.cxx_program.specs.declared.statement.TypedStatement.{TypedStatement}
 use Rattle.cxx_program.specs.Typed.{IsProperBase, Casts, cast_down}
 use Rattle.path_rules.specs.declared.Undefined.TheVariants.{Unset as UnsetUse, BadDowncast}
-use Rattle.path_model.specs.Values.{Value, Unset, Number, Null, Pointer, value}
-use Rattle.path_model.specs.Uses.{Use, Reads, Guards, Downs, cast_uses, derived_of, down_value, value_or}
+use Rattle.path_model.specs.Values.{Value, Unset, Number, Null, Pointer, value_of_operand}
+use Rattle.path_model.specs.Uses.{StatementUse, Reads, Guards, Downs, cast_uses, derived_of, down_value, value_or}
 use Rattle.path_model.specs.Rules.{is_broken, is_unset, is_nowhere, names}
 use Rattle.path_model.specs.Outs.{class_or_first}
 use Rattle.path_model.specs.TypedStates.{IsValue}
@@ -24,17 +24,17 @@ use Rattle.byte_machine.specs.Frames.{register_of}
 use Rattle.byte_code.specs.declared.op.Op.{Op}
 use Rattle.byte_code.specs.declared.op.Op.TheVariants.{Does}
 use Rattle.byte_code.specs.declared.op.Finish.TheVariants.{Add}
-use Rattle.byte_machine.specs.Leads.{Leads}
+use Rattle.byte_machine.specs.Leads.{OpsLead}
 use Rattle.byte_machine.specs.Running.{moved}
 use Rattle.byte_machine.proofs.ValueLeads.{leads_add, leads_add_null}
-use Rattle.code_ops.specs.Arguments.{free, class_at}
+use Rattle.code_ops.specs.Arguments.{free, pointed_class}
 use Rattle.code_ops.specs.Operands.{operand_register}
 use Rattle.code_ops.specs.Uses.{reads}
 use Rattle.code_ops.specs.declared.uses.Used.TheVariants.{Guards as GuardsWord, Downs as DownsWord}
 use Rattle.code_statements.specs.Rights.{back_by, cast_used}
 use Rattle.agree_parts.specs.Addresses.{address}
 use Rattle.agree_parts.proofs.Inside.{part_positive}
-use Rattle.agree_relation.specs.Worlds.{classes_in, places_in, fixed}
+use Rattle.agree_relation.specs.Worlds.{world_classes, places_in, fixed}
 use Rattle.agree_relation.specs.Words.{register_word}
 use Rattle.agree_relation.specs.Frames.{HasVariables}
 use Rattle.agree_relation.proofs.Objects.{objects_laid}
@@ -61,12 +61,12 @@ module _ {statement : TypedStatement} (scene : Scene statement) (locals : List V
   open scene use {w, at, s, f, below, body, b}
 
   abbrev v : Value
-  v = value (sight_with scene locals) x
+  v = value_of_operand (sight_with scene locals) x
 
   abbrev from : ℕ
   from = operand_register (free (block scene) 0) x
 
-  abbrev uses : List Use
+  abbrev uses : List StatementUse
   uses = cast_uses (Down target i) v
 
   abbrev back : ℕ
@@ -75,15 +75,15 @@ module _ {statement : TypedStatement} (scene : Scene statement) (locals : List V
   abbrev class : ClassId
   class = (the_cast scene locals variable (Down target i) x c take).from
 
-  down : IsDown (classes_in w) class target i
-  down = let k = the_cast scene locals variable (Down target i) x c take in down_typed (classes_in w) k.from k.to target i k.casts
+  down : IsDown (world_classes w) class target i
+  down = let k = the_cast scene locals variable (Down target i) x c take in down_typed (world_classes w) k.from k.to target i k.casts
 
-  class_at_is : class_at (block scene) x ≡ class
+  class_at_is : pointed_class (block scene) x ≡ class
   class_at_is = ap class_or_first (operand_class_is (scope scene) x class (the_cast scene locals variable (Down target i) x c take).has)
 
-  down_tests : (new : List (Option ℕ)) → register_of new from ≡ register_word w (here scene) v → Along (fixed w) (at_registers b new) (Reaches scene) (classes_in w) s.objects uses uses (cast_used (block scene) (Down target i) (free (block scene) 0) x)
+  down_tests : (new : List (Option ℕ)) → register_of new from ≡ register_word w (here scene) v → Along (fixed w) (at_registers b new) (Reaches scene) (world_classes w) s.objects uses uses (cast_used (block scene) (Down target i) (free (block scene) 0) x)
   down_tests new has =
-      let h = classes_in w in
+      let h = world_classes w in
       let r = free (block scene) 0 in
       let typed = cast_reads scene locals variable (Down target i) x c take in
       subst (λ (q : ClassId). Along (fixed w) (at_registers b new) (Reaches scene) h s.objects uses uses (reads (scope scene) r x ++ (GuardsWord from 0 q.0 ∷ DownsWord from back target.0 ∷ []))) (sym class_at_is)
@@ -93,19 +93,19 @@ module _ {statement : TypedStatement} (scene : Scene statement) (locals : List V
       (tested (Downs v target i) (DownsWord from back target.0) (downed w s.objects (at_registers b new) (Reaches scene) scene.world scene.begins.stands.columns target class i (down).proper.valid (down).root (down).proper.class uses from v scene.next.seen (inr (inl refl)) typed has) nothing)))
 
   -- the subobject that the rule finds
-  found : (p : ObjectPart) → v ≡ Pointer p → is_broken (classes_in w) s.objects uses BadDowncast ≡ false → (t : Subobject) × (derived_of (classes_in w) s.objects target i p ≡ Some t)
+  found : (p : ObjectPart) → v ≡ Pointer p → is_broken (world_classes w) s.objects uses BadDowncast ≡ false → (t : Subobject) × (derived_of (world_classes w) s.objects target i p ≡ Some t)
   found p is none =
-      let fine = unbroken (fixed w) b (Reaches scene) (classes_in w) s.objects uses (Downs v target i) BadDowncast none (inr (inr (inl refl))) in
-      by_found (derived_of (classes_in w) s.objects target i p) (subst (λ (y : Value). names (λ q. is_nowhere (derived_of (classes_in w) s.objects target i q)) y ≡ false) is fine)
+      let fine = unbroken (fixed w) b (Reaches scene) (world_classes w) s.objects uses (Downs v target i) BadDowncast none (inr (inr (inl refl))) in
+      by_found (derived_of (world_classes w) s.objects target i p) (subst (λ (y : Value). names (λ q. is_nowhere (derived_of (world_classes w) s.objects target i q)) y ≡ false) is fine)
     where
       by_found : (o : Option Subobject) → is_nowhere o ≡ false → (t : Subobject) × (o ≡ Some t)
       by_found None somewhere = absurd (let f : true ≡ false = somewhere in cc)
       by_found (Some t) somewhere = (t, refl)
 
   -- a pointer goes back to it, and null stays null
-  casts_down : {ops : List Op} (y : Value) (new : List (Option ℕ)) → v ≡ y → IsValue (classes_in w) s.objects.classes y (PointerType class) → is_unset y ≡ false → is_broken (classes_in w) s.objects uses BadDowncast ≡ false → HasVariables w (here scene) (body_on f locals f.next) new → register_of new from ≡ register_word w (here scene) y
-      → ((last : List (Option ℕ)) → Wrote (free (block scene) 1) new last → register_of last (free (block scene) 1) ≡ register_word w (here scene) (down_value (classes_in w) s.objects target i y) → Leads (fixed w) ops (at_registers b last) (Reaches scene))
-      → Leads (fixed w) (Does (Add (free (block scene) 1) from back) ∷ ops) (at_registers b new) (Reaches scene)
+  casts_down : {ops : List Op} (y : Value) (new : List (Option ℕ)) → v ≡ y → IsValue (world_classes w) s.objects.classes y (PointerType class) → is_unset y ≡ false → is_broken (world_classes w) s.objects uses BadDowncast ≡ false → HasVariables w (here scene) (body_on f locals f.next) new → register_of new from ≡ register_word w (here scene) y
+      → ((last : List (Option ℕ)) → Wrote (free (block scene) 1) new last → register_of last (free (block scene) 1) ≡ register_word w (here scene) (down_value (world_classes w) s.objects target i y) → OpsLead (fixed w) ops (at_registers b last) (Reaches scene))
+      → OpsLead (fixed w) (Does (Add (free (block scene) 1) from back) ∷ ops) (at_registers b new) (Reaches scene)
   casts_down Unset new is typed set none kept has rest = absurd (let e : true ≡ false = set in cc)
   casts_down (Number z) new is typed set none kept has rest = absurd typed
   casts_down Null new is typed set none kept has rest =
@@ -113,7 +113,7 @@ module _ {statement : TypedStatement} (scene : Scene statement) (locals : List V
       let inside = free_in scene locals new 1 (omega arith) kept in
       leads_add_null (fixed w) to from back has inside (rest (slice_set new to (Some 0)) (wrote_set b new to (Some 0)) (set_here b new to (Some 0) inside))
   casts_down (Pointer p) new is made set none kept has rest =
-      let h = classes_in w in
+      let h = world_classes w in
       let g = here scene in
       let to = free (block scene) 1 in
       let inside = free_in scene locals new 1 (omega arith) kept in
@@ -130,5 +130,5 @@ module _ {statement : TypedStatement} (scene : Scene statement) (locals : List V
       let to = free (block scene) 1 in
       leads_cast_front scene locals variable (Down target i) x c take old variables down_tests
       (λ new none fine kept has.
-      casts_down v new refl (cast_reads scene locals variable (Down target i) x c take) (unbroken (fixed w) b (Reaches scene) (classes_in w) s.objects uses (Reads v) UnsetUse (none UnsetUse) (inl refl)) (none BadDowncast) kept has
+      casts_down v new refl (cast_reads scene locals variable (Down target i) x c take) (unbroken (fixed w) b (Reaches scene) (world_classes w) s.objects uses (Reads v) UnsetUse (none UnsetUse) (inl refl)) (none BadDowncast) kept has
       (λ last wrote is. cast_taken scene locals variable (Down target i) x c take last none (inl refl) fine (variables_kept w (here scene) (body_on f locals f.next) to new last (free_of scene locals 1 take.count) kept wrote) is))

@@ -13,9 +13,9 @@ use Rattle.path_rules.specs.declared.Undefined.{Undefined}
 use Rattle.path_rules.specs.declared.Undefined.TheVariants.{NullUse, Unset as UnsetUse, NotComplete}
 use Rattle.path_rules.specs.Rules.{undefined_no}
 use Rattle.path_model.specs.declared.outs.Out.TheVariants.{Dump as DumpOut}
-use Rattle.path_model.specs.Values.{Value, Unset, Number, Null, Pointer, value}
+use Rattle.path_model.specs.Values.{Value, Unset, Number, Null, Pointer, value_of_operand}
 use Rattle.path_model.specs.Places.{leaves_of}
-use Rattle.path_model.specs.Uses.{Use, Reads, Follows, Dumps}
+use Rattle.path_model.specs.Uses.{StatementUse, Reads, Follows, Dumps}
 use Rattle.path_model.specs.Rules.{breaks, is_null, is_unset}
 use Rattle.path_model.specs.Outs.{dump_leaf}
 use Rattle.path_model.specs.States.{sight}
@@ -26,7 +26,7 @@ use Rattle.path_model.proofs.TypedValues.{operand_typed}
 use Rattle.byte_machine.specs.Frames.{register_of}
 use Rattle.byte_code.specs.declared.op.Op.TheVariants.{Dump as DumpOp, Jump}
 use Rattle.byte_machine.specs.declared.turn.RawOut.TheVariants.{Dump as RawDump}
-use Rattle.byte_machine.specs.Leads.{Leads, LeadsBlock}
+use Rattle.byte_machine.specs.Leads.{OpsLead, LeadsBlock}
 use Rattle.byte_machine.proofs.ValueLeads.{leads_dump}
 use Rattle.code_blocks.specs.Blocks.{statement_ops}
 use Rattle.code_ops.specs.Arguments.{free}
@@ -35,7 +35,7 @@ use Rattle.code_ops.specs.Uses.{checks_of, reads}
 use Rattle.code_ops.specs.declared.uses.Used.TheVariants.{Follows as FollowsWord, Dumps as DumpsWord}
 use Rattle.agree_parts.specs.Addresses.{address}
 use Rattle.agree_parts.proofs.Inside.{part_inside}
-use Rattle.agree_relation.specs.Worlds.{classes_in, places_in, fixed}
+use Rattle.agree_relation.specs.Worlds.{world_classes, places_in, fixed}
 use Rattle.agree_relation.specs.Words.{register_word}
 use Rattle.agree_relation.specs.Frames.{HasVariables}
 use Rattle.agree_relation.specs.Agrees.{Agrees, IsDumpedAt}
@@ -64,30 +64,30 @@ module _ (x : TypedOperand) (c : ClassId) (line next : ℕ) (scene : Scene (reco
   dump = record { kind = Dump x c; line = line; next = next }
 
   abbrev v : Value
-  v = value (sight s f) x
+  v = value_of_operand (sight s f) x
 
   abbrev from : ℕ
   from = operand_register (free (block scene) 0) x
 
-  abbrev uses : List Use
+  abbrev uses : List StatementUse
   uses = Reads v ∷ Follows v ∷ Dumps v ∷ []
 
-  dumped : (new : List (Option ℕ)) → IsValue (classes_in w) s.objects.classes v (PointerType c) → register_of new from ≡ register_word w (here scene) v → IsTested (fixed w) (at_registers b new) (Reaches scene) (classes_in w) s.objects uses (Dumps v) (DumpsWord from)
+  dumped : (new : List (Option ℕ)) → IsValue (world_classes w) s.objects.classes v (PointerType c) → register_of new from ≡ register_word w (here scene) v → IsTested (fixed w) (at_registers b new) (Reaches scene) (world_classes w) s.objects uses (Dumps v) (DumpsWord from)
   dumped new typed has = record { each = by_rule }
     where
-      by_rule : (rule : Undefined) → NoneBefore (classes_in w) s.objects uses rule → Decide (fixed w) (at_registers b new) (Reaches scene) (undefined_no rule) (checks_of rule (DumpsWord from)) (breaks (classes_in w) s.objects rule (Dumps v))
+      by_rule : (rule : Undefined) → NoneBefore (world_classes w) s.objects uses rule → Decide (fixed w) (at_registers b new) (Reaches scene) (undefined_no rule) (checks_of rule (DumpsWord from)) (breaks (world_classes w) s.objects rule (Dumps v))
       by_rule NotComplete before = decides_complete w s.objects (at_registers b new) (Reaches scene) scene.world scene.begins.stands.columns from v c typed has
       by_rule rule before = refl
 
   -- the heap object of the part is told
-  tells_dump : (y : Value) (new : List (Option ℕ)) → IsValue (classes_in w) s.objects.classes y (PointerType c) → is_unset y ≡ false → is_null y ≡ false → HasVariables w (here scene) f new → register_of new from ≡ register_word w (here scene) y
-      → move_in w s ≡ move_by (telling (state_on s s.objects s.globals (body_on f f.locals next) below) (dump_out (classes_in w) s.objects y)) None
-      → Leads (fixed w) (DumpOp from ∷ Jump (to_next scene next) ∷ []) (at_registers b new) (Reaches scene)
+  tells_dump : (y : Value) (new : List (Option ℕ)) → IsValue (world_classes w) s.objects.classes y (PointerType c) → is_unset y ≡ false → is_null y ≡ false → HasVariables w (here scene) f new → register_of new from ≡ register_word w (here scene) y
+      → move_in w s ≡ move_by (telling (state_on s s.objects s.globals (body_on f f.locals next) below) (dump_out (world_classes w) s.objects y)) None
+      → OpsLead (fixed w) (DumpOp from ∷ Jump (to_next scene next) ∷ []) (at_registers b new) (Reaches scene)
   tells_dump Unset new typed set some kept has moves = absurd (cc)
   tells_dump (Number z) new typed set some kept has moves = absurd typed
   tells_dump Null new typed set some kept has moves = absurd (cc)
   tells_dump (Pointer p) new made set some kept has moves =
-      let h = classes_in w in
+      let h = world_classes w in
       let g = here scene in
       let d = made.class in
       let there = address h (places_in w) g p in
@@ -99,7 +99,7 @@ module _ (x : TypedOperand) (c : ClassId) (line next : ℕ) (scene : Scene (reco
 
   pub dump_does : LeadsBlock (fixed w) (statement_ops w.setup at (top scene).on.routine body f.next (record { kind = Dump x c; line = line; next = next })) b (Agrees w at (move_in w s))
   dump_does =
-      let h = classes_in w in
+      let h = world_classes w in
       let e = scope scene in
       let r = free (block scene) 0 in
       let has = dump_typed h e x c (kind_typed scene) in

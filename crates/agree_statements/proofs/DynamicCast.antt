@@ -18,8 +18,8 @@ use Rattle.cxx_program.specs.Typed.{HasType, Casts, cast_dynamic}
 use Rattle.path_plan.specs.Places.{part}
 use Rattle.path_rules.specs.declared.Undefined.{Undefined}
 use Rattle.path_rules.specs.declared.Undefined.TheVariants.{Unset as UnsetUse}
-use Rattle.path_model.specs.Values.{Value, Unset, Number, Null, Pointer, Objects, value}
-use Rattle.path_model.specs.Uses.{Use, Reads, Guards, Views, cast_uses, cast_value, value_or, view_cast, view_of}
+use Rattle.path_model.specs.Values.{Value, Unset, Number, Null, Pointer, Objects, value_of_operand}
+use Rattle.path_model.specs.Uses.{StatementUse, Reads, Guards, Views, cast_uses, cast_value, value_or, view_cast, view_of}
 use Rattle.path_model.specs.Rules.{is_broken, is_unset}
 use Rattle.path_model.specs.Outs.{class_or_first}
 use Rattle.path_model.specs.TypedStates.{IsValue}
@@ -28,9 +28,9 @@ use Rattle.byte_machine.specs.Frames.{register_of}
 use Rattle.byte_code.specs.declared.op.Op.{Op}
 use Rattle.byte_code.specs.declared.op.Op.TheVariants.{Cast as CastOp, Jump}
 use Rattle.byte_machine.specs.Effects.{or_null}
-use Rattle.byte_machine.specs.Leads.{Leads}
+use Rattle.byte_machine.specs.Leads.{OpsLead}
 use Rattle.byte_machine.proofs.ValueLeads.{leads_cast, leads_cast_null}
-use Rattle.code_ops.specs.Arguments.{free, class_at, checked_taken}
+use Rattle.code_ops.specs.Arguments.{free, pointed_class, checked_taken}
 use Rattle.code_ops.specs.Operands.{operand_register, ops_of}
 use Rattle.code_ops.specs.Uses.{reads}
 use Rattle.code_ops.specs.declared.uses.Used.TheVariants.{Guards as GuardsWord, Views as ViewsWord}
@@ -38,7 +38,7 @@ use Rattle.code_statements.specs.Rights.{cast_used, cast_class}
 use Rattle.code_statements.specs.Hints.{hint_of}
 use Rattle.agree_parts.specs.Addresses.{address}
 use Rattle.agree_parts.proofs.Inside.{part_positive}
-use Rattle.agree_relation.specs.Worlds.{classes_in, places_in, fixed}
+use Rattle.agree_relation.specs.Worlds.{world_classes, places_in, fixed}
 use Rattle.agree_relation.specs.Words.{register_word}
 use Rattle.agree_relation.specs.Frames.{HasVariables}
 use Rattle.agree_relation.proofs.Objects.{objects_laid}
@@ -64,7 +64,7 @@ module _ {statement : TypedStatement} (scene : Scene statement) (locals : List V
   open scene use {w, at, s, f, below, body, b}
 
   abbrev v : Value
-  v = value (sight_with scene locals) x
+  v = value_of_operand (sight_with scene locals) x
 
   abbrev from : ℕ
   from = operand_register (free (block scene) 0) x
@@ -74,23 +74,23 @@ module _ {statement : TypedStatement} (scene : Scene statement) (locals : List V
 
   -- the hint of the cast from a class
   abbrev hint : ClassId → ℤ
-  hint k = hint_of (classes_in w) (places_in w) k target
+  hint k = hint_of (world_classes w) (places_in w) k target
 
-  abbrev uses : List Use
+  abbrev uses : List StatementUse
   uses = cast_uses (Dynamic target) v
 
-  cast_dynamic_class : IsDynamic (classes_in w) (the_cast scene locals variable (Dynamic target) x c take).from
+  cast_dynamic_class : IsDynamic (world_classes w) (the_cast scene locals variable (Dynamic target) x c take).from
   cast_dynamic_class = of_casts (the_cast scene locals variable (Dynamic target) x c take).from (the_cast scene locals variable (Dynamic target) x c take).to (the_cast scene locals variable (Dynamic target) x c take).casts
     where
-      of_casts : (k d : ClassId) → Casts (classes_in w) k (Dynamic target) d → IsDynamic (classes_in w) k
-      of_casts k d (cast_dynamic _ _ polymorphic known) = polymorphic_dynamic (classes_in w) k polymorphic
+      of_casts : (k d : ClassId) → Casts (world_classes w) k (Dynamic target) d → IsDynamic (world_classes w) k
+      of_casts k d (cast_dynamic _ _ polymorphic known) = polymorphic_dynamic (world_classes w) k polymorphic
 
-  class_at_is : (k : ClassId) → HasType (scope scene) x (PointerType k) → class_at (block scene) x ≡ k
+  class_at_is : (k : ClassId) → HasType (scope scene) x (PointerType k) → pointed_class (block scene) x ≡ k
   class_at_is k has = ap class_or_first (operand_class_is (scope scene) x k has)
 
-  dynamic_tests : (new : List (Option ℕ)) → register_of new from ≡ register_word w (here scene) v → Along (fixed w) (at_registers b new) (Reaches scene) (classes_in w) s.objects uses uses (cast_used (block scene) (Dynamic target) (free (block scene) 0) x)
+  dynamic_tests : (new : List (Option ℕ)) → register_of new from ≡ register_word w (here scene) v → Along (fixed w) (at_registers b new) (Reaches scene) (world_classes w) s.objects uses uses (cast_used (block scene) (Dynamic target) (free (block scene) 0) x)
   dynamic_tests new has =
-      let h = classes_in w in
+      let h = world_classes w in
       let k = the_cast scene locals variable (Dynamic target) x c take in
       let r = free (block scene) 0 in
       let typed = cast_reads scene locals variable (Dynamic target) x c take in
@@ -102,13 +102,13 @@ module _ {statement : TypedStatement} (scene : Scene statement) (locals : List V
       (open_read w (sight_with scene locals) (at_registers b new) (Reaches scene) scene.world scene.begins.stands.columns uses v (inl refl)) (inr (inl refl)) cast_dynamic_class typed has) nothing)))
 
   -- the answer as a word
-  answer_word : (g : Heap) (p : ObjectPart) (place : Option Subobject → Option ℕ) (o : Option Subobject) (answer : Option ℕ) → place None ≡ None → ((t : Subobject) → place (Some t) ≡ Some (address (classes_in w) (places_in w) g (part p.object p.owner t))) → answer ≡ place o → Some (or_null answer) ≡ register_word w g (value_or p Null o)
+  answer_word : (g : Heap) (p : ObjectPart) (place : Option Subobject → Option ℕ) (o : Option Subobject) (answer : Option ℕ) → place None ≡ None → ((t : Subobject) → place (Some t) ≡ Some (address (world_classes w) (places_in w) g (part p.object p.owner t))) → answer ≡ place o → Some (or_null answer) ≡ register_word w g (value_or p Null o)
   answer_word g p place None answer none some is = ap (λ (a : Option ℕ). Some (or_null a)) (is ∙ none)
   answer_word g p place (Some t) answer none some is = ap (λ (a : Option ℕ). Some (or_null a)) (is ∙ some t)
 
-  casts_value : (y : Value) (k : ClassId) (new : List (Option ℕ)) → v ≡ y → IsDynamic (classes_in w) k → IsValue (classes_in w) s.objects.classes y (PointerType k) → is_unset y ≡ false → ((r : Undefined) → is_broken (classes_in w) s.objects uses r ≡ false) → HasVariables w (here scene) (body_on f locals f.next) new → register_of new from ≡ register_word w (here scene) y
-      → {ops : List Op} → ((last : List (Option ℕ)) → Wrote (free (block scene) 1) new last → register_of last (free (block scene) 1) ≡ register_word w (here scene) (cast_value (classes_in w) s.objects (Dynamic target) y) → Leads (fixed w) ops (at_registers b last) (Reaches scene))
-      → Leads (fixed w) (CastOp (free (block scene) 1) from k.0 target.0 (hint k) ∷ ops) (at_registers b new) (Reaches scene)
+  casts_value : (y : Value) (k : ClassId) (new : List (Option ℕ)) → v ≡ y → IsDynamic (world_classes w) k → IsValue (world_classes w) s.objects.classes y (PointerType k) → is_unset y ≡ false → ((r : Undefined) → is_broken (world_classes w) s.objects uses r ≡ false) → HasVariables w (here scene) (body_on f locals f.next) new → register_of new from ≡ register_word w (here scene) y
+      → {ops : List Op} → ((last : List (Option ℕ)) → Wrote (free (block scene) 1) new last → register_of last (free (block scene) 1) ≡ register_word w (here scene) (cast_value (world_classes w) s.objects (Dynamic target) y) → OpsLead (fixed w) ops (at_registers b last) (Reaches scene))
+      → OpsLead (fixed w) (CastOp (free (block scene) 1) from k.0 target.0 (hint k) ∷ ops) (at_registers b new) (Reaches scene)
   casts_value Unset k new is dynamic typed set none kept has rest = absurd (let e : true ≡ false = set in cc)
   casts_value (Number z) k new is dynamic typed set none kept has rest = absurd typed
   casts_value Null k new is dynamic typed set none kept has rest =
@@ -116,7 +116,7 @@ module _ {statement : TypedStatement} (scene : Scene statement) (locals : List V
       let inside = free_in scene locals new 1 (omega arith) kept in
       leads_cast_null (fixed w) to from k.0 target.0 (hint k) has inside (rest (slice_set new to (Some 0)) (wrote_set b new to (Some 0)) (set_here b new to (Some 0) inside))
   casts_value (Pointer p) k new is dynamic made set none kept has rest =
-      let h = classes_in w in
+      let h = world_classes w in
       let g = here scene in
       let to = free (block scene) 1 in
       let inside = free_in scene locals new 1 (omega arith) kept in
@@ -139,10 +139,10 @@ module _ {statement : TypedStatement} (scene : Scene statement) (locals : List V
   dynamic_cast_does old variables =
       let k = the_cast scene locals variable (Dynamic target) x c take in
       let to = free (block scene) 1 in
-      let wanted = Some (cast_class (Dynamic target) (class_at (block scene) x)) in
+      let wanted = Some (cast_class (Dynamic target) (pointed_class (block scene) x)) in
       leads_cast_front scene locals variable (Dynamic target) x c take old variables dynamic_tests
       (λ new none fine kept has.
-      subst (λ (q : ClassId). Leads (fixed w) (((CastOp to from q.0 target.0 (hint q) ∷ []) ++ ops_of (checked_taken (block scene) variable wanted c (free (block scene) 2) to)) ++ jump) (at_registers b new) (Reaches scene)) (sym (class_at_is k.from k.has))
+      subst (λ (q : ClassId). OpsLead (fixed w) (((CastOp to from q.0 target.0 (hint q) ∷ []) ++ ops_of (checked_taken (block scene) variable wanted c (free (block scene) 2) to)) ++ jump) (at_registers b new) (Reaches scene)) (sym (class_at_is k.from k.has))
       (leads_grouped (fixed w) (CastOp to from k.from.0 target.0 (hint k.from) ∷ []) (ops_of (checked_taken (block scene) variable wanted c (free (block scene) 2) to)) jump
-      (casts_value v k.from new refl cast_dynamic_class (cast_reads scene locals variable (Dynamic target) x c take) (unbroken (fixed w) b (Reaches scene) (classes_in w) s.objects uses (Reads v) UnsetUse (none UnsetUse) (inl refl)) none kept has
+      (casts_value v k.from new refl cast_dynamic_class (cast_reads scene locals variable (Dynamic target) x c take) (unbroken (fixed w) b (Reaches scene) (world_classes w) s.objects uses (Reads v) UnsetUse (none UnsetUse) (inl refl)) none kept has
       (λ last wrote is. cast_taken scene locals variable (Dynamic target) x c take last none (inl refl) fine (variables_kept w (here scene) (body_on f locals f.next) to new last (free_of scene locals 1 take.count) kept wrote) is))))

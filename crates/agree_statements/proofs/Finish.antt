@@ -9,17 +9,17 @@ use Rattle.path_model.specs.Runs.{Move, Moves, IsRefused}
 use Rattle.byte_memory.specs.Store.{Store}
 use Rattle.byte_machine.specs.declared.turn.RawOut.{RawOut}
 use Rattle.byte_machine.specs.declared.turn.MachineTurn.TheVariants.{Went, Refused}
-use Rattle.byte_machine.specs.Frames.{Frame}
+use Rattle.byte_machine.specs.Frames.{MachineFrame}
 use Rattle.byte_machine.specs.Running.{Running, Stop, Answers}
 use Rattle.byte_machine.specs.Effects.{jumping}
-use Rattle.byte_machine.specs.Leads.{Ends}
+use Rattle.byte_machine.specs.Leads.{HoldsOfAnswer}
 use Rattle.code_blocks.specs.Blocks.{AtStatement}
 use Rattle.agree_parts.specs.Heaps.{Heap}
 use Rattle.agree_relation.specs.Worlds.{fixed}
 use Rattle.agree_relation.specs.Words.{heap_of, register_word}
 use Rattle.agree_relation.specs.Columns.{ColumnsStand}
 use Rattle.agree_relation.specs.Frames.{HasVariables}
-use Rattle.agree_relation.specs.Stands.{Stands}
+use Rattle.agree_relation.specs.Stands.{StateStands}
 use Rattle.agree_relation.specs.Agrees.{ReadAs, Agrees, StandsNow}
 use Rattle.agree_statements.specs.Registers.{body_on, frame_on}
 use Rattle.agree_statements.proofs.After.{AreSame, state_on, stands_after}
@@ -34,7 +34,7 @@ module _ {statement : TypedStatement} (scene : Scene statement) where
   open scene use {w, at, s, f, below, body, b}
 
   abbrev pub Reaches : Running → Stop → Type 0
-  Reaches = Ends (fixed w) (Agrees w at (move_in w s))
+  Reaches = HoldsOfAnswer (fixed w) (Agrees w at (move_in w s))
 
   abbrev pub to_next : ℕ → ℕ
   to_next n = at (AtStatement (top scene).on.routine n)
@@ -51,6 +51,6 @@ module _ {statement : TypedStatement} (scene : Scene statement) where
       let a = top scene in
       let after = stands_after w at s f below b a objects memory globals words locals next registers same regions columns has variables in
       let heap : heap_of s.objects.classes b.memory.regions ≡ heap_of objects.classes memory.regions = ap (λ c. heap_of c b.memory.regions) (sym same.classes) ∙ ap (λ r. heap_of objects.classes r) (sym regions) in
-      let stack : frame_on b.top registers (to_next next) ∷ b.below ≡ b.opened ++ frame_on b.top registers (to_next next) ∷ b.below = ap (λ (o : List Frame). o ++ frame_on b.top registers (to_next next) ∷ b.below) (sym a.begins.opened) in
-      let now : StandsNow w at (state_on s objects globals (body_on f locals next) below) (jumping (to_next next) (ended b memory words registers raws)) = subst (λ (bs : List Frame). Stands w at (state_on s objects globals (body_on f locals next) below) memory b.objects b.heap b.notes words bs b.calls) stack after in
+      let stack : frame_on b.top registers (to_next next) ∷ b.below ≡ b.opened ++ frame_on b.top registers (to_next next) ∷ b.below = ap (λ (o : List MachineFrame). o ++ frame_on b.top registers (to_next next) ∷ b.below) (sym a.begins.opened) in
+      let now : StandsNow w at (state_on s objects globals (body_on f locals next) below) (jumping (to_next next) (ended b memory words registers raws)) = subst (λ (bs : List MachineFrame). StateStands w at (state_on s objects globals (body_on f locals next) below) memory b.objects b.heap b.notes words bs b.calls) stack after in
       subst (λ (m : Move). Agrees w at m (jumping (to_next next) (ended b memory words registers raws)) Went) (sym e) (now, subst (λ (g : Heap). ReadAs w at g raws outs) heap told, refl)

@@ -18,8 +18,8 @@ use Rattle.cxx_program.specs.declared.statement.TypedRight.TheVariants.{Arithmet
 use Rattle.cxx_program.specs.declared.statement.TypedStatement.{TypedStatement}
 use Rattle.cxx_program.specs.Typed.{Scope, Converts, HasType, a_calculation, a_negation, IsConverted, a_right, calculated_type}
 use Rattle.path_rules.specs.declared.Undefined.TheVariants.{Unset as UnsetUse}
-use Rattle.path_model.specs.Values.{Value, Unset, Number, Null, Pointer, value, converted}
-use Rattle.path_model.specs.Uses.{Use, Reads, Overflows}
+use Rattle.path_model.specs.Values.{Value, Unset, Number, Null, Pointer, value_of_operand, converted_to}
+use Rattle.path_model.specs.Uses.{StatementUse, Reads, Overflows}
 use Rattle.path_model.specs.Rules.{is_unset}
 use Rattle.path_model.specs.Effects.{arithmetic_value}
 use Rattle.path_model.specs.Runs.{Moves}
@@ -28,9 +28,9 @@ use Rattle.path_model.proofs.TypedRanges.{wrapped_in_range, bit_in_range}
 use Rattle.path_model.proofs.TypedValues.{operand_typed}
 use Rattle.byte_machine.specs.Frames.{register_of}
 use Rattle.byte_code.specs.declared.op.Op.TheVariants.{Arith, Jump}
-use Rattle.byte_code.specs.Numbers.{word_of, number_of}
-use Rattle.byte_machine.specs.Values.{calculated}
-use Rattle.byte_machine.specs.Leads.{Leads}
+use Rattle.byte_code.specs.Numbers.{word_of, number_of_word}
+use Rattle.byte_machine.specs.Values.{calculated_word}
+use Rattle.byte_machine.specs.Leads.{OpsLead}
 use Rattle.byte_machine.proofs.ValueLeads.{leads_arith}
 use Rattle.code_ops.specs.Arguments.{free, taken_ops}
 use Rattle.code_ops.specs.Operands.{operand_ops, operand_register, ops_of}
@@ -38,7 +38,7 @@ use Rattle.code_ops.specs.Setups.{width_of, word_width}
 use Rattle.code_ops.specs.Uses.{reads}
 use Rattle.code_ops.specs.declared.uses.Used.TheVariants.{Overflows as OverflowsWords}
 use Rattle.code_statements.specs.Rights.{arith_kind, right_used}
-use Rattle.agree_relation.specs.Worlds.{classes_in, fixed}
+use Rattle.agree_relation.specs.Worlds.{world_classes, fixed}
 use Rattle.agree_relation.specs.Words.{register_word}
 use Rattle.agree_relation.specs.Frames.{HasVariables}
 use Rattle.agree_statements.specs.Registers.{at_registers, body_on}
@@ -117,12 +117,12 @@ module _ {statement : TypedStatement} (scene : Scene statement) (locals : List V
     sum = record { right = Arithmetic op t p q; conversion = c }
 
     abbrev x : Value
-    x = value (sight_with scene locals) p
+    x = value_of_operand (sight_with scene locals) p
 
     abbrev y : Value
-    y = value (sight_with scene locals) q
+    y = value_of_operand (sight_with scene locals) q
 
-    abbrev uses : List Use
+    abbrev uses : List StatementUse
     uses = Reads x ∷ Reads y ∷ Overflows op t x y ∷ []
 
     abbrev left : ℕ
@@ -131,25 +131,25 @@ module _ {statement : TypedStatement} (scene : Scene statement) (locals : List V
     abbrev right : ℕ
     right = operand_register (free (block scene) 1) q
 
-    calculates : (new : List (Option ℕ)) (a b' : Scalar) → IsWide t → Converts (classes_in w) (NumberType (calculated_type op t)) c take.target → IsNumber x a → IsNumber y b' → register_of new left ≡ register_word w (here scene) x → register_of new right ≡ register_word w (here scene) y → HasVariables w (here scene) (body_on f locals f.next) new
-        → move_in w s ≡ Moves (took scene locals variable (converted (arithmetic_value op t x y) c)) []
-        → Leads (fixed w) (Arith (arith_kind op) (width_of t) (free (block scene) 2) left right ∷ (ops_of (taken_ops (block scene) variable None c (free (block scene) 3) (free (block scene) 2)) ++ (Jump (to_next scene statement.next) ∷ []))) (at_registers b new) (Reaches scene)
+    calculates : (new : List (Option ℕ)) (a b' : Scalar) → IsWide t → Converts (world_classes w) (NumberType (calculated_type op t)) c take.target → IsNumber x a → IsNumber y b' → register_of new left ≡ register_word w (here scene) x → register_of new right ≡ register_word w (here scene) y → HasVariables w (here scene) (body_on f locals f.next) new
+        → move_in w s ≡ Moves (took scene locals variable (converted_to (arithmetic_value op t x y) c)) []
+        → OpsLead (fixed w) (Arith (arith_kind op) (width_of t) (free (block scene) 2) left right ∷ (ops_of (taken_ops (block scene) variable None c (free (block scene) 3) (free (block scene) 2)) ++ (Jump (to_next scene statement.next) ∷ []))) (at_registers b new) (Reaches scene)
     calculates new a b' wide converts m n l r variables moves =
         let to = free (block scene) 2 in
         let narrow = width_narrow t in
         let z = result op t (wrapped t m.number) (wrapped t n.number) in
-        let word = calculated (arith_kind op) (width_of t) (number_of (width_of t) (word_of m.number)) (number_of (width_of t) (word_of n.number)) in
+        let word = calculated_word (arith_kind op) (width_of t) (number_of_word (width_of t) (word_of m.number)) (number_of_word (width_of t) (word_of n.number)) in
         let inside = free_in scene locals new 2 (omega arith) variables in
         let last = slice_set new to (Some word) in
         let there : register_of last to ≡ Some (word_of z) = set_here b new to (Some word) inside ∙ ap (λ (k : ℕ). Some k) (word_calculated op t m.number n.number wide) in
         let value_is : arithmetic_value op t x y ≡ Number z = ap (λ (v : Value). arithmetic_value op t v y) m.is ∙ ap (λ (v : Value). arithmetic_value op t (Number m.number) v) n.is ∙ result_is op t (wrapped t m.number) (wrapped t n.number) in
         leads_arith (fixed w) (arith_kind op) (width_of t) to left right (word_of m.number) (word_of n.number) (width_some t) (omega arith) (l ∙ ap (register_word w (here scene)) m.is) (r ∙ ap (register_word w (here scene)) n.is) inside
-        (leads_taken scene locals variable sum take (Number z) (NumberType (calculated_type op t)) c 3 to last (omega arith) converts (number_sure z c) (result_typed (classes_in w) s.objects.classes op t (wrapped t m.number) (wrapped t n.number)) there
-        (variables_kept w (here scene) (body_on f locals f.next) to new last (free_of scene locals 2 take.count) variables (wrote_set b new to (Some word))) (moves ∙ ap (λ (v : Value). Moves (took scene locals variable (converted v c)) []) value_is))
+        (leads_taken scene locals variable sum take (Number z) (NumberType (calculated_type op t)) c 3 to last (omega arith) converts (number_sure z c) (result_typed (world_classes w) s.objects.classes op t (wrapped t m.number) (wrapped t n.number)) there
+        (variables_kept w (here scene) (body_on f locals f.next) to new last (free_of scene locals 2 take.count) variables (wrote_set b new to (Some word))) (moves ∙ ap (λ (v : Value). Moves (took scene locals variable (converted_to v c)) []) value_is))
 
     pub calculation_does : DoesRight scene locals variable (record { right = Arithmetic op t p q; conversion = c })
     calculation_does old variables =
-        let h = classes_in w in
+        let h = world_classes w in
         let e = scope scene in
         let k = calculation_typed h e op t p q c take.target take.typed in
         let first = free (block scene) 0 in
@@ -176,24 +176,24 @@ module _ {statement : TypedStatement} (scene : Scene statement) (locals : List V
 
   module _ (p : TypedOperand) (c : Conversion) (take : Taking scene locals variable (record { right = Not p; conversion = c })) where
     abbrev turned : Value
-    turned = value (sight_with scene locals) p
+    turned = value_of_operand (sight_with scene locals) p
 
-    abbrev reading : List Use
+    abbrev reading : List StatementUse
     reading = Reads turned ∷ []
 
     abbrev source : ℕ
     source = operand_register (free (block scene) 0) p
 
-    negates : (new : List (Option ℕ)) (a : Scalar) → Converts (classes_in w) (NumberType TheBool) c take.target → IsNumber turned a → register_of new source ≡ register_word w (here scene) turned → (free (block scene) 1 ≡ source → ⊥) → HasVariables w (here scene) (body_on f locals f.next) new
-        → move_in w s ≡ Moves (took scene locals variable (converted (negated turned) c)) []
-        → Leads (fixed w) (Const (free (block scene) 1) 0 ∷ Arith EqualKind word_width (free (block scene) 2) source (free (block scene) 1) ∷ (ops_of (taken_ops (block scene) variable None c (free (block scene) 3) (free (block scene) 2)) ++ (Jump (to_next scene statement.next) ∷ []))) (at_registers b new) (Reaches scene)
+    negates : (new : List (Option ℕ)) (a : Scalar) → Converts (world_classes w) (NumberType TheBool) c take.target → IsNumber turned a → register_of new source ≡ register_word w (here scene) turned → (free (block scene) 1 ≡ source → ⊥) → HasVariables w (here scene) (body_on f locals f.next) new
+        → move_in w s ≡ Moves (took scene locals variable (converted_to (negated turned) c)) []
+        → OpsLead (fixed w) (Const (free (block scene) 1) 0 ∷ Arith EqualKind word_width (free (block scene) 2) source (free (block scene) 1) ∷ (ops_of (taken_ops (block scene) variable None c (free (block scene) 3) (free (block scene) 2)) ++ (Jump (to_next scene statement.next) ∷ []))) (at_registers b new) (Reaches scene)
     negates new a converts m has apart variables moves =
         let zero_at = free (block scene) 1 in
         let to = free (block scene) 2 in
         let mid = slice_set new zero_at (Some 0) in
         let kept = variables_kept w (here scene) (body_on f locals f.next) zero_at new mid (free_of scene locals 1 take.count) variables (wrote_set b new zero_at (Some 0)) in
         let inside = free_in scene locals mid 2 (omega arith) kept in
-        let word = calculated EqualKind word_width (number_of word_width (word_of m.number)) (number_of word_width 0) in
+        let word = calculated_word EqualKind word_width (number_of_word word_width (word_of m.number)) (number_of_word word_width 0) in
         let last = slice_set mid to (Some word) in
         let result_word : word ≡ word_of (if is_number_zero m.number then pos 1 else pos 0) = equal_words (word_of m.number) 0 (word_of-fits m.number) (omega arith) ∙ ap truth_word (zero_test a m.number m.range) ∙ truth_result (is_number_zero m.number) in
         let value_is : negated turned ≡ Number (if is_number_zero m.number then pos 1 else pos 0) = ap negated m.is in
@@ -201,11 +201,11 @@ module _ {statement : TypedStatement} (scene : Scene statement) (locals : List V
         (leads_arith (fixed w) EqualKind word_width to source zero_at (word_of m.number) 0 (omega arith) (omega arith) (set_there b new zero_at source (Some 0) (λ e. apart (sym e)) ∙ has ∙ ap (register_word w (here scene)) m.is) (set_here b new zero_at (Some 0) (free_in scene locals new 1 (omega arith) variables)) inside
         (leads_taken scene locals variable (record { right = Not p; conversion = c }) take (Number (if is_number_zero m.number then pos 1 else pos 0)) (NumberType TheBool) c 3 to last (omega arith) converts (number_sure (if is_number_zero m.number then pos 1 else pos 0) c) (bit_in_range (is_number_zero m.number))
         (set_here b mid to (Some word) inside ∙ ap (λ (k : ℕ). Some k) result_word)
-        (variables_kept w (here scene) (body_on f locals f.next) to mid last (free_of scene locals 2 take.count) kept (wrote_set b mid to (Some word))) (moves ∙ ap (λ (v : Value). Moves (took scene locals variable (converted v c)) []) value_is)))
+        (variables_kept w (here scene) (body_on f locals f.next) to mid last (free_of scene locals 2 take.count) kept (wrote_set b mid to (Some word))) (moves ∙ ap (λ (v : Value). Moves (took scene locals variable (converted_to v c)) []) value_is)))
 
     pub negation_does : DoesRight scene locals variable (record { right = Not p; conversion = c })
     negation_does old variables =
-        let h = classes_in w in
+        let h = world_classes w in
         let e = scope scene in
         let k = negation_typed h e p c take.target take.typed in
         let first = free (block scene) 0 in

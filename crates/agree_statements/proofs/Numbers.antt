@@ -13,13 +13,13 @@ use Rattle.cxx_program.specs.declared.statement.Arithmetic.{Arithmetic as Operat
 use Rattle.cxx_program.specs.declared.statement.Arithmetic.TheVariants.{Add, Subtract, Multiply, Less, LessEqual, Equal, NotEqual}
 use Rattle.path_model.specs.Values.{Number}
 use Rattle.path_model.specs.Rules.{is_over, is_result_over, overflows}
-use Rattle.path_model.specs.Effects.{is_number_zero, calculated as path_calculated}
+use Rattle.path_model.specs.Effects.{is_number_zero, calculated_value as path_calculated}
 use Rattle.byte_code.specs.declared.op.NumberKind.TheVariants.{Bits}
 use Rattle.byte_code.specs.declared.op.ArithKind.TheVariants.{Equal as EqualKind}
-use Rattle.byte_code.specs.Numbers.{signed_in, signed_of, low_of, low_bits, word_of, number_of, extended, extended_bits, IsInBytes}
+use Rattle.byte_code.specs.Numbers.{signed_in, signed_of, low_of, low_bits, word_of, number_of_word, extended, extended_bits, IsInBytes}
 use Rattle.byte_code.proofs.Words.{word_of-low, word_of-low_bits, number_of-word_of}
 use Rattle.byte_machine.specs.Checks.{exact, is_number_of, is_same_number}
-use Rattle.byte_machine.specs.Values.{calculated, converted_word, truth_word, in_bytes}
+use Rattle.byte_machine.specs.Values.{calculated_word, converted_word, truth_word, in_bytes}
 use Rattle.byte_machine.proofs.Ranges.{number_of-low_of}
 use Rattle.code_ops.specs.Setups.{width_of, bit_width, register_width, number_kind, word_width}
 use Rattle.code_statements.specs.Rights.{arith_kind}
@@ -64,15 +64,15 @@ width_narrow ULongLong = omega arith
 -- numbers of a type in registers
 
 -- read back from its word, by its own bytes and whole
-pub width_read : (t : Scalar) (z : ℤ) → IsInRange t z → number_of (width_of t) (word_of z) ≡ z
+pub width_read : (t : Scalar) (z : ℤ) → IsInRange t z → number_of_word (width_of t) (word_of z) ≡ z
 width_read t z r = number_of-word_of (width_of t) z (width_narrow t) (fits_width t z r)
 
-pub register_read : (t : Scalar) (z : ℤ) → IsInRange t z → number_of (register_width t) (word_of z) ≡ z
+pub register_read : (t : Scalar) (z : ℤ) → IsInRange t z → number_of_word (register_width t) (word_of z) ≡ z
 register_read t z r = number_of-word_of (register_width t) z (omega arith) (fits_register t z r)
 
 -- the word of a number of a type is 0 where the number is
 pub zero_word : (t : Scalar) (z : ℤ) → IsInRange t z → word_of z ≡ 0 → z ≡ pos 0
-zero_word t z r e = sym (register_read t z r) ∙ ap (number_of (register_width t)) e ∙ zero_read (register_width t).signed
+zero_word t z r e = sym (register_read t z r) ∙ ap (number_of_word (register_width t)) e ∙ zero_read (register_width t).signed
   where
     zero_read : (signed : Bool) → signed_of 8 signed (0 % 256 ^ 8) ≡ pos 0
     zero_read true = refl
@@ -102,7 +102,7 @@ wrapped_read LongLong z wide = signed_read 8 9223372036854775808 z refl
 wrapped_read ULongLong z wide = unsigned_read 8 z
 
 -- a word read in a type is the number, wrapped
-pub word_read : (t : Scalar) (z : ℤ) → IsWide t → number_of (width_of t) (word_of z) ≡ wrapped t z
+pub word_read : (t : Scalar) (z : ℤ) → IsWide t → number_of_word (width_of t) (word_of z) ≡ wrapped t z
 word_read t z wide = ap (λ low. signed_of (width_of t).bytes (width_of t).signed low) (word_of-low (width_of t).bytes z (width_narrow t)) ∙ sym (wrapped_read t z wide)
 
 -- the low bytes of a number, extended
@@ -177,7 +177,7 @@ result_is LessEqual t a b = refl
 result_is Equal t a b = refl
 result_is NotEqual t a b = refl
 
-calculated_as : (op : Operator) (t : Scalar) (a b : ℤ) → IsWide t → calculated (arith_kind op) (width_of t) a b ≡ word_of (result op t a b)
+calculated_as : (op : Operator) (t : Scalar) (a b : ℤ) → IsWide t → calculated_word (arith_kind op) (width_of t) a b ≡ word_of (result op t a b)
 calculated_as Add t a b wide = bytes_word t (a +ℤ b) wide
 calculated_as Subtract t a b wide = bytes_word t (a -ℤ b) wide
 calculated_as Multiply t a b wide = bytes_word t (a *ℤ b) wide
@@ -187,20 +187,20 @@ calculated_as Equal t a b wide = truth_result (not (int_lt a b) && not (int_lt b
 calculated_as NotEqual t a b wide = truth_result (not (not (int_lt a b) && not (int_lt b a)))
 
 -- Arith of the words of two numbers, read in a type
-pub word_calculated : (op : Operator) (t : Scalar) (y z : ℤ) → IsWide t → calculated (arith_kind op) (width_of t) (number_of (width_of t) (word_of y)) (number_of (width_of t) (word_of z)) ≡ word_of (result op t (wrapped t y) (wrapped t z))
-word_calculated op t y z wide = ap (λ a. calculated (arith_kind op) (width_of t) a (number_of (width_of t) (word_of z))) (word_read t y wide) ∙ ap (λ b. calculated (arith_kind op) (width_of t) (wrapped t y) b) (word_read t z wide) ∙ calculated_as op t (wrapped t y) (wrapped t z) wide
+pub word_calculated : (op : Operator) (t : Scalar) (y z : ℤ) → IsWide t → calculated_word (arith_kind op) (width_of t) (number_of_word (width_of t) (word_of y)) (number_of_word (width_of t) (word_of z)) ≡ word_of (result op t (wrapped t y) (wrapped t z))
+word_calculated op t y z wide = ap (λ a. calculated_word (arith_kind op) (width_of t) a (number_of_word (width_of t) (word_of z))) (word_read t y wide) ∙ ap (λ b. calculated_word (arith_kind op) (width_of t) (wrapped t y) b) (word_read t z wide) ∙ calculated_as op t (wrapped t y) (wrapped t z) wide
 
 not_or : (a b : Bool) → (not a && not b) ≡ not (a || b)
 not_or true b = refl
 not_or false b = refl
 
 fits_as : (t : Scalar) (z : ℤ) → IsWide t → is_number_of (width_of t) (Some z) ≡ not (is_signed t && is_over t z)
-fits_as t z wide = ap (λ s. if s then is_same_number (number_of (width_of t) (low_of (width_of t).bytes z)) z else true) (sign_is t) ∙ by_sign (is_signed t)
+fits_as t z wide = ap (λ s. if s then is_same_number (number_of_word (width_of t) (low_of (width_of t).bytes z)) z else true) (sign_is t) ∙ by_sign (is_signed t)
   where
-    back : number_of (width_of t) (low_of (width_of t).bytes z) ≡ wrapped t z
+    back : number_of_word (width_of t) (low_of (width_of t).bytes z) ≡ wrapped t z
     back = number_of-low_of (width_of t) z ∙ sym (wrapped_read t z wide)
 
-    by_sign : (s : Bool) → (if s then is_same_number (number_of (width_of t) (low_of (width_of t).bytes z)) z else true) ≡ not (s && is_over t z)
+    by_sign : (s : Bool) → (if s then is_same_number (number_of_word (width_of t) (low_of (width_of t).bytes z)) z else true) ≡ not (s && is_over t z)
     by_sign true = ap (λ y. is_same_number y z) back ∙ not_or (int_lt (wrapped t z) z) (int_lt z (wrapped t z))
     by_sign false = refl
 
@@ -218,8 +218,8 @@ result_fits Equal t a b wide = and_false (is_signed t)
 result_fits NotEqual t a b wide = and_false (is_signed t)
 
 -- the test that the exact result is one of the type
-pub word_fits : (op : Operator) (t : Scalar) (y z : ℤ) → IsWide t → is_number_of (width_of t) (exact (arith_kind op) (number_of (width_of t) (word_of y)) (number_of (width_of t) (word_of z))) ≡ not (overflows op t (Number y) (Number z))
-word_fits op t y z wide = ap (λ a. is_number_of (width_of t) (exact (arith_kind op) a (number_of (width_of t) (word_of z)))) (word_read t y wide) ∙ ap (λ b. is_number_of (width_of t) (exact (arith_kind op) (wrapped t y) b)) (word_read t z wide) ∙ result_fits op t (wrapped t y) (wrapped t z) wide
+pub word_fits : (op : Operator) (t : Scalar) (y z : ℤ) → IsWide t → is_number_of (width_of t) (exact (arith_kind op) (number_of_word (width_of t) (word_of y)) (number_of_word (width_of t) (word_of z))) ≡ not (overflows op t (Number y) (Number z))
+word_fits op t y z wide = ap (λ a. is_number_of (width_of t) (exact (arith_kind op) a (number_of_word (width_of t) (word_of z)))) (word_read t y wide) ∙ ap (λ b. is_number_of (width_of t) (exact (arith_kind op) (wrapped t y) b)) (word_read t z wide) ∙ result_fits op t (wrapped t y) (wrapped t z) wide
 
 -- the type of a calculation is not `bool`
 
@@ -269,7 +269,7 @@ common_wide s t = by_sign_wide (is_signed (promoted s)) (is_signed (promoted t))
 
 -- comparisons of words
 
-pub equal_words : (a b : ℕ) → a < 2 ^ 64 → b < 2 ^ 64 → calculated EqualKind word_width (number_of word_width a) (number_of word_width b) ≡ truth_word (nat_eq a b)
+pub equal_words : (a b : ℕ) → a < 2 ^ 64 → b < 2 ^ 64 → calculated_word EqualKind word_width (number_of_word word_width a) (number_of_word word_width b) ≡ truth_word (nat_eq a b)
 equal_words a b fits fits' =
     let first : a % 256 ^ 8 ≡ a = mod-eq_of_lt fits in
     let second : b % 256 ^ 8 ≡ b = mod-eq_of_lt fits' in
@@ -279,7 +279,7 @@ equal_words a b fits fits' =
     by_words e is = grind (arith, ints, nat_tests)
 
 -- a number that is written, printed whole
-pub written_read : (t : Scalar) (z : ℤ) → IsInRange t z → number_of (written_width z) (word_of z) ≡ z
+pub written_read : (t : Scalar) (z : ℤ) → IsInRange t z → number_of_word (written_width z) (word_of z) ≡ z
 written_read t (pos a) r = number_of-word_of (written_width (pos a)) (pos a) (omega arith) (in_word (width_of t).signed a (fits_register t (pos a) r))
   where
     in_word : (signed : Bool) (n : ℕ) → IsInBytes 8 signed (pos n) → IsInBytes 8 false (pos n)

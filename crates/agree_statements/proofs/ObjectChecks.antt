@@ -12,7 +12,7 @@ use Rattle.byte_machine.specs.Checks.{is_complete_phase}
 use Rattle.byte_machine.specs.Running.{Running, Stop, register}
 use Rattle.byte_machine.proofs.CheckLeads.{leads_idle, leads_complete, leads_not_complete, leads_not_begun}
 use Rattle.agree_parts.specs.Addresses.{address}
-use Rattle.agree_relation.specs.Worlds.{World, IsWorld, classes_in, places_in, fixed}
+use Rattle.agree_relation.specs.Worlds.{World, IsProgramWorld, world_classes, places_in, fixed}
 use Rattle.agree_relation.specs.Words.{register_word}
 use Rattle.agree_relation.specs.Columns.{ColumnsStand}
 use Rattle.agree_relation.proofs.Listed.{listed_in, part_listed}
@@ -20,15 +20,15 @@ use Rattle.agree_relation.proofs.Phases.{object_complete, object_incomplete}
 use Rattle.agree_statements.specs.Tests.{Decides}
 use Rattle.agree_statements.proofs.Checks.{heap, idle_unset, idle_null, decides_by, part_some}
 
-module _ (w : World) (s : Objects) (b : Running) (P : Running → Stop → Type 0) (world : IsWorld w) (columns : ColumnsStand w s b.memory b.objects b.heap b.notes) where
+module _ (w : World) (s : Objects) (b : Running) (P : Running → Stop → Type 0) (world : IsProgramWorld w) (columns : ColumnsStand w s b.memory b.objects b.heap b.notes) where
   -- 10
-  pub decides_complete : (r : ℕ) (v : Value) (c : ClassId) → IsValue (classes_in w) s.classes v (PointerType c) → register b r ≡ register_word w (heap w s b P world columns) v → Decides (fixed w) b P 10 (Complete r) (names (is_incomplete s) v)
+  pub decides_complete : (r : ℕ) (v : Value) (c : ClassId) → IsValue (world_classes w) s.classes v (PointerType c) → register b r ≡ register_word w (heap w s b P world columns) v → Decides (fixed w) b P 10 (Complete r) (names (is_incomplete s) v)
   decides_complete r Unset c typed e = record { leads = λ ops goes refuses. leads_idle (fixed w) (Complete r) r refl (idle_unset (register b r) e) (goes refl) }
   decides_complete r (Number z) c typed e = absurd typed
   decides_complete r Null c typed e = record { leads = λ ops goes refuses. leads_idle (fixed w) (Complete r) r refl (idle_null (register b r) e) (goes refl) }
   decides_complete r (Pointer p) c made e =
       let g = heap w s b P world columns in
-      let at = address (classes_in w) (places_in w) g p in
+      let at = address (world_classes w) (places_in w) g p in
       let object = listed_in w g p.object made.class in
       let some = part_some w s b P world columns p c made in
       let there = part_listed w s b.memory.regions b.objects b.heap p c made.class world columns.objects made made.made in

@@ -20,15 +20,15 @@ use Rattle.byte_machine.specs.Frames.{register_of}
 use Rattle.agree_relation.specs.Words.{register_word}
 use Rattle.agree_relation.specs.Frames.{HasVariables}
 use Rattle.agree_statements.proofs.Moves.{move_in}
-use Rattle.path_model.specs.Values.{Value, Null, value, converted}
-use Rattle.path_model.specs.Uses.{Use, Reads, argument_uses}
+use Rattle.path_model.specs.Values.{Value, Null, value_of_operand, converted_to}
+use Rattle.path_model.specs.Uses.{StatementUse, Reads, argument_uses}
 use Rattle.path_model.proofs.TypedRanges.{zero_in_range}
 use Rattle.path_model.proofs.TypedValues.{operand_typed}
 use Rattle.byte_code.specs.declared.op.Op.TheVariants.{Jump}
-use Rattle.byte_machine.specs.Leads.{Leads}
+use Rattle.byte_machine.specs.Leads.{OpsLead}
 use Rattle.code_ops.specs.Arguments.{free, taken_ops, argument_used}
 use Rattle.code_ops.specs.Operands.{operand_class, operand_register, ops_of}
-use Rattle.agree_relation.specs.Worlds.{classes_in, fixed}
+use Rattle.agree_relation.specs.Worlds.{world_classes, fixed}
 use Rattle.agree_statements.specs.Registers.{at_registers, body_on}
 use Rattle.agree_statements.proofs.Registers.{variables_kept}
 use Rattle.agree_statements.proofs.Operands.{leads_operand}
@@ -56,19 +56,19 @@ argument_type h e _ _ (a_null d) = (NumberType Int, of_number (pos 0) Int (zero_
 module _ {statement : TypedStatement} (scene : Scene statement) (locals : List Value) (variable : Variable) (p : TypedOperand) (c : Conversion) (take : Taking scene locals variable (record { right = Operand p; conversion = c })) where
   open scene use {w, at, s, f, below, body, b}
 
-  abbrev uses : List Use
+  abbrev uses : List StatementUse
   uses = argument_uses (sight_with scene locals) (argument p c)
 
   -- behind the tests
-  ends : (a : Argument) (target : ValueType ClassId) → target ≡ take.target → IsArgument (classes_in w) (scope scene) a target → (new : List (Option ℕ)) → register_of new (operand_register (free (block scene) 0) a.operand) ≡ register_word w (here scene) (value (sight_with scene locals) a.operand)
-      → HasVariables w (here scene) (body_on f locals f.next) new → ((r : Undefined) → is_broken (classes_in w) s.objects (argument_uses (sight_with scene locals) a) r ≡ false) → move_in w s ≡ Moves (took scene locals variable (converted (value (sight_with scene locals) a.operand) a.conversion)) []
-      → Leads (fixed w) (ops_of (taken_ops (block scene) variable (operand_class (scope scene) a.operand) a.conversion (free (block scene) 2) (operand_register (free (block scene) 0) a.operand)) ++ (Jump (to_next scene statement.next) ∷ [])) (at_registers b new) (Reaches scene)
+  ends : (a : Argument) (target : ValueType ClassId) → target ≡ take.target → IsArgument (world_classes w) (scope scene) a target → (new : List (Option ℕ)) → register_of new (operand_register (free (block scene) 0) a.operand) ≡ register_word w (here scene) (value_of_operand (sight_with scene locals) a.operand)
+      → HasVariables w (here scene) (body_on f locals f.next) new → ((r : Undefined) → is_broken (world_classes w) s.objects (argument_uses (sight_with scene locals) a) r ≡ false) → move_in w s ≡ Moves (took scene locals variable (converted_to (value_of_operand (sight_with scene locals) a.operand) a.conversion)) []
+      → OpsLead (fixed w) (ops_of (taken_ops (block scene) variable (operand_class (scope scene) a.operand) a.conversion (free (block scene) 2) (operand_register (free (block scene) 0) a.operand)) ++ (Jump (to_next scene statement.next) ∷ [])) (at_registers b new) (Reaches scene)
   ends _ _ same (a_value a t u has to) new word variables none moves =
-      let v = value (sight_with scene locals) a.operand in
-      let open_there = unbroken (fixed w) b (Reaches scene) (classes_in w) s.objects (argument_uses (sight_with scene locals) a) (Reads v) Dangling (none Dangling) (inl refl) in
-      subst (λ (k : Option ClassId). Leads (fixed w) (ops_of (taken_ops (block scene) variable k a.conversion (free (block scene) 2) (operand_register (free (block scene) 0) a.operand)) ++ (Jump (to_next scene statement.next) ∷ [])) (at_registers b new) (Reaches scene)) (sym (class_of_type (scope scene) a.operand t has))
-      (leads_taken scene locals variable (record { right = Operand p; conversion = c }) take v t a.conversion 2 (operand_register (free (block scene) 0) a.operand) new (omega arith) (subst (λ (y : ValueType ClassId). Converts (classes_in w) t a.conversion y) same to)
-      (sure scene v a.conversion (argument_uses (sight_with scene locals) a) none (λ u there. inr there) open_there) (operand_typed (classes_in w) (scope scene) (sight_with scene locals) take.sees a.operand t has) word variables moves)
+      let v = value_of_operand (sight_with scene locals) a.operand in
+      let open_there = unbroken (fixed w) b (Reaches scene) (world_classes w) s.objects (argument_uses (sight_with scene locals) a) (Reads v) Dangling (none Dangling) (inl refl) in
+      subst (λ (k : Option ClassId). OpsLead (fixed w) (ops_of (taken_ops (block scene) variable k a.conversion (free (block scene) 2) (operand_register (free (block scene) 0) a.operand)) ++ (Jump (to_next scene statement.next) ∷ [])) (at_registers b new) (Reaches scene)) (sym (class_of_type (scope scene) a.operand t has))
+      (leads_taken scene locals variable (record { right = Operand p; conversion = c }) take v t a.conversion 2 (operand_register (free (block scene) 0) a.operand) new (omega arith) (subst (λ (y : ValueType ClassId). Converts (world_classes w) t a.conversion y) same to)
+      (sure scene v a.conversion (argument_uses (sight_with scene locals) a) none (λ u there. inr there) open_there) (operand_typed (world_classes w) (scope scene) (sight_with scene locals) take.sees a.operand t has) word variables moves)
   ends _ _ same (a_null d) new word variables none moves =
       let to = free (block scene) 2 in
       leads_null w s.objects b scene.world scene.begins.stands.columns (Reaches scene) to (free (block scene) 0) new word (free_in scene locals new 2 (omega arith) variables)
@@ -76,7 +76,7 @@ module _ {statement : TypedStatement} (scene : Scene statement) (locals : List V
 
   pub operand_does : DoesRight scene locals variable (record { right = Operand p; conversion = c })
   operand_does old variables =
-      let h = classes_in w in
+      let h = world_classes w in
       let e = scope scene in
       let a = operand_argument h e p c take.target take.typed in
       let t = argument_type h e (argument p c) take.target a in

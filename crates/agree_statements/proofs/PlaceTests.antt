@@ -16,10 +16,10 @@ use Rattle.cxx_program.specs.declared.statement.TypedPlace.{TypedPlace}
 use Rattle.cxx_program.specs.Typed.{Scope, HasType, IsPassed, IsPath}
 use Rattle.path_rules.specs.declared.Undefined.{Undefined}
 use Rattle.path_rules.specs.declared.Undefined.TheVariants.{NotReady}
-use Rattle.path_model.specs.Values.{Value, Unset, Number, Null, Pointer, Sight, value, inner_part}
+use Rattle.path_model.specs.Values.{Value, Unset, Number, Null, Pointer, Sight, value_of_operand, inner_part}
 use Rattle.path_model.specs.Places.{passed_part}
-use Rattle.path_model.specs.Uses.{Use, Reads, Guards, Passes, views, arrow, of_part, is_shared}
-use Rattle.path_model.specs.Order.{asked_members, asked_place, first_base}
+use Rattle.path_model.specs.Uses.{StatementUse, Reads, Guards, Passes, uses_of_view, arrow, of_part, is_shared}
+use Rattle.path_model.specs.Order.{asked_members, asked_place, first_name_base}
 use Rattle.path_model.specs.TypedStates.{IsPartMade, IsValue}
 use Rattle.path_model.proofs.TypedPlaces.{passed_made}
 use Rattle.path_model.proofs.TypedValues.{IsTypedSight, operand_typed}
@@ -36,7 +36,7 @@ use Rattle.code_ops.specs.declared.uses.Used.TheVariants.{Guards as GuardsWord}
 use Rattle.agree_parts.specs.Addresses.{address}
 use Rattle.agree_parts.proofs.Made.{inner_is_made}
 use Rattle.agree_parts.proofs.Sums.{to_inner, to_element}
-use Rattle.agree_relation.specs.Worlds.{World, IsWorld, classes_in, places_in, fixed}
+use Rattle.agree_relation.specs.Worlds.{World, IsProgramWorld, world_classes, places_in, fixed}
 use Rattle.agree_relation.specs.Columns.{ColumnsStand}
 use Rattle.agree_relation.specs.Words.{register_word}
 use Rattle.std.proofs.Math.Nat.{add-zero}
@@ -52,13 +52,13 @@ plain_root h c _ (whole path leads) e = refl
 plain_root h c _ (shared v path has leads) e = absurd (let f : true ≡ false = e in cc)
 
 -- the first base of a path is one of its class
-first_valid : (h : Classes) (c : ClassId) (xs : List PassedMember) (last : Subobject) → IsPath h c xs last → IsSubobject h c (first_base xs last)
+first_valid : (h : Classes) (c : ClassId) (xs : List PassedMember) (last : Subobject) → IsPath h c xs last → IsSubobject h c (first_name_base xs last)
 first_valid h c [] last path = path
 first_valid h c (x ∷ xs) last path = path.0.valid
 
-module _ (w : World) (see : Sight) (b : Running) (P : Running → Stop → Type 0) (world : IsWorld w) (columns : ColumnsStand w see.objects b.memory b.objects b.heap b.notes) (all : List Use) where
-  abbrev Tests : List Use → List Used → Type 0
-  Tests us ds = Along (fixed w) b P (classes_in w) see.objects all us ds
+module _ (w : World) (see : Sight) (b : Running) (P : Running → Stop → Type 0) (world : IsProgramWorld w) (columns : ColumnsStand w see.objects b.memory b.objects b.heap b.notes) (all : List StatementUse) where
+  abbrev Tests : List StatementUse → List Used → Type 0
+  Tests us ds = Along (fixed w) b P (world_classes w) see.objects all us ds
 
   -- no member is tested behind null or an unset pointer
   idle_members : (r : ℕ) (c : ClassId) (offset : ℕ) (xs : List PassedMember) → IsIdle (register b r) → Tests [] (passed_used w.setup c offset xs r)
@@ -75,10 +75,10 @@ module _ (w : World) (see : Sight) (b : Running) (P : Running → Stop → Type 
           passes_all rule = tt
 
   -- a member that a path passes by no virtual base lies so far behind the part
-  member_behind : (p : ObjectPart) (c : ClassId) (x : PassedMember) (at offset : ℕ) → IsPartMade (classes_in w) see.objects.classes p c → IsPassed (classes_in w) c x → x.base.root ≡ Whole → address (classes_in w) (places_in w) (heap w see.objects b P world columns) p ≡ at + offset →
-      address (classes_in w) (places_in w) (heap w see.objects b P world columns) (passed_part p x) ≡ at + (offset + ((places_in w).place c x.base + element_distance w.setup x.base x.member x.index))
+  member_behind : (p : ObjectPart) (c : ClassId) (x : PassedMember) (at offset : ℕ) → IsPartMade (world_classes w) see.objects.classes p c → IsPassed (world_classes w) c x → x.base.root ≡ Whole → address (world_classes w) (places_in w) (heap w see.objects b P world columns) p ≡ at + offset →
+      address (world_classes w) (places_in w) (heap w see.objects b P world columns) (passed_part p x) ≡ at + (offset + ((places_in w).place c x.base + element_distance w.setup x.base x.member x.index))
   member_behind p c x at offset made step root there =
-      let h = classes_in w in
+      let h = world_classes w in
       let g = heap w see.objects b P world columns in
       let first = to_inner h w.setup.rows g p c x.base made step.valid root in
       let second = to_element h w.setup.rows g (inner_part p x.base) step.class x.class x.member x.index (inner_is_made h g p c step.class x.base made step.valid step.of_class) step.element in
@@ -86,11 +86,11 @@ module _ (w : World) (see : Sight) (b : Running) (P : Running → Stop → Type 
       omega arith
 
   -- the members before the first step behind a virtual base
-  along_members : (r at : ℕ) (p : ObjectPart) (c : ClassId) (offset : ℕ) (xs : List PassedMember) (last : Subobject) → register b r ≡ Some at → (at ≡ 0 → ⊥) → IsPartMade (classes_in w) see.objects.classes p c → address (classes_in w) (places_in w) (heap w see.objects b P world columns) p ≡ at + offset → IsPath (classes_in w) c xs last
+  along_members : (r at : ℕ) (p : ObjectPart) (c : ClassId) (offset : ℕ) (xs : List PassedMember) (last : Subobject) → register b r ≡ Some at → (at ≡ 0 → ⊥) → IsPartMade (world_classes w) see.objects.classes p c → address (world_classes w) (places_in w) (heap w see.objects b P world columns) p ≡ at + offset → IsPath (world_classes w) c xs last
       → Tests (asked_members p xs) (passed_used w.setup c offset xs r)
   along_members r at p c offset [] last has some made there path = nothing
   along_members r at p c offset (x ∷ xs) last has some made there path =
-      let h = classes_in w in
+      let h = world_classes w in
       let farther = offset + ((places_in w).place c x.base + element_distance w.setup x.base x.member x.index) in
       let there_made = passed_made h see.objects.classes p c x made path.0 in
       split (is_shared x.base)
@@ -101,25 +101,25 @@ module _ (w : World) (see : Sight) (b : Running) (P : Running → Stop → Type 
       (passed w see b P world columns all r farther at (passed_part p x) x.class there_made has some (moved_to_part h w.setup.rows (heap w see.objects b P world columns) at farther (passed_part p x) x.class (laid w see.objects b P world columns) there_made sum))
       (along_members r at (passed_part p x) x.class farther xs last has some there_made sum path.1))
 
-  members_of_value : (v : Value) (r : ℕ) (c : ClassId) (xs : List PassedMember) (last : Subobject) → IsValue (classes_in w) see.objects.classes v (PointerType c) → register b r ≡ register_word w (heap w see.objects b P world columns) v → IsPath (classes_in w) c xs last → Tests (of_part (λ p. asked_members p xs) v) (passed_used w.setup c 0 xs r)
+  members_of_value : (v : Value) (r : ℕ) (c : ClassId) (xs : List PassedMember) (last : Subobject) → IsValue (world_classes w) see.objects.classes v (PointerType c) → register b r ≡ register_word w (heap w see.objects b P world columns) v → IsPath (world_classes w) c xs last → Tests (of_part (λ p. asked_members p xs) v) (passed_used w.setup c 0 xs r)
   members_of_value Unset r c xs last typed has path = idle_members r c 0 xs (idle_unset (register b r) has)
   members_of_value (Number z) r c xs last typed has path = absurd typed
   members_of_value Null r c xs last typed has path = idle_members r c 0 xs (idle_null (register b r) has)
   members_of_value (Pointer p) r c xs last typed has path =
-      along_members r (address (classes_in w) (places_in w) (heap w see.objects b P world columns) p) p c 0 xs last has (part_some w see.objects b P world columns p c typed) typed (sym (add-zero (address (classes_in w) (places_in w) (heap w see.objects b P world columns) p))) path
+      along_members r (address (world_classes w) (places_in w) (heap w see.objects b P world columns) p) p c 0 xs last has (part_some w see.objects b P world columns p c typed) typed (sym (add-zero (address (world_classes w) (places_in w) (heap w see.objects b P world columns) p))) path
 
   -- all tests of a place
-  pub along_place : (e : Scope) (r : ℕ) (place : TypedPlace) → IsTypedSight (classes_in w) e see → TellsViews w see.objects b → ((u : Use) → Has (asked_place (value see place.pointer) place) u → Has all u) → HasType e place.pointer (PointerType place.class) → IsPath (classes_in w) place.class place.passed place.base
-      → register b (operand_register r place.pointer) ≡ register_word w (heap w see.objects b P world columns) (value see place.pointer) → Tests (asked_place (value see place.pointer) place) (place_used w.setup e place r)
+  pub along_place : (e : Scope) (r : ℕ) (place : TypedPlace) → IsTypedSight (world_classes w) e see → TellsViews w see.objects b → ((u : StatementUse) → Has (asked_place (value_of_operand see place.pointer) place) u → Has all u) → HasType e place.pointer (PointerType place.class) → IsPath (world_classes w) place.class place.passed place.base
+      → register b (operand_register r place.pointer) ≡ register_word w (heap w see.objects b P world columns) (value_of_operand see place.pointer) → Tests (asked_place (value_of_operand see place.pointer) place) (place_used w.setup e place r)
   along_place e r place typed tells within has path word =
-      let h = classes_in w in
-      let v = value see place.pointer in
+      let h = world_classes w in
+      let v = value_of_operand see place.pointer in
       let from = operand_register r place.pointer in
       let value_typed = operand_typed h e see typed place.pointer (PointerType place.class) has in
-      let first = first_base place.passed place.base in
+      let first = first_name_base place.passed place.base in
       let members = of_part (λ p. asked_members p place.passed) v in
-      along_append (fixed w) b P h see.objects all (arrow v) (views (is_shared first) v ++ members) (arrow_used e r place.pointer place.class) (views_if (is_shared first) from 0 place.class ++ passed_used w.setup place.class 0 place.passed from)
+      along_append (fixed w) b P h see.objects all (arrow v) (uses_of_view (is_shared first) v ++ members) (arrow_used e r place.pointer place.class) (views_if (is_shared first) from 0 place.class ++ passed_used w.setup place.class 0 place.passed from)
       (along_arrow w see b P world columns all e r place.pointer place.class typed has word)
-      (along_append (fixed w) b P h see.objects all (views (is_shared first) v) members (views_if (is_shared first) from 0 place.class) (passed_used w.setup place.class 0 place.passed from)
+      (along_append (fixed w) b P h see.objects all (uses_of_view (is_shared first) v) members (views_if (is_shared first) from 0 place.class) (passed_used w.setup place.class 0 place.passed from)
       (along_views w see b P world columns all (is_shared first) from v place.class tells (open_read w see b P world columns all v (within (Reads v) (inl refl))) (within (Guards v) (inr (inr (inl refl)))) (shared_dynamic h place.class first (first_valid h place.class place.passed place.base path)) value_typed word)
       (members_of_value v from place.class place.passed place.base value_typed word path))

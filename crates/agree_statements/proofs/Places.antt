@@ -21,9 +21,9 @@ use Rattle.cxx_program.specs.declared.statement.TypedStatement.{TypedStatement}
 use Rattle.cxx_program.specs.Typed.{Scope, IsPlace}
 use Rattle.path_rules.specs.declared.Undefined.{Undefined}
 use Rattle.path_rules.specs.declared.Undefined.TheVariants.{Dangling, NotReady}
-use Rattle.path_model.specs.Values.{Value, Pointer, Sight, value, inner_part}
+use Rattle.path_model.specs.Values.{Value, Pointer, Sight, value_of_operand, inner_part}
 use Rattle.path_model.specs.Places.{end_part, leaf_at, passed_part}
-use Rattle.path_model.specs.Uses.{Use, Reads, Guards, arrow, of_part, passes, place_uses}
+use Rattle.path_model.specs.Uses.{StatementUse, Reads, Guards, arrow, of_part, path_uses, place_uses}
 use Rattle.path_model.specs.Rules.{refused, names, is_unready}
 use Rattle.path_model.specs.TypedStates.{IsPartMade, IsLeafMade, IsValue}
 use Rattle.path_model.proofs.TypedPlaces.{path_made, leaf_made}
@@ -31,15 +31,15 @@ use Rattle.path_model.proofs.TypedUses.{unbroken, followed}
 use Rattle.abi_sound.specs.Locations.{element_place}
 use Rattle.byte_machine.specs.Frames.{register_of}
 use Rattle.byte_code.specs.declared.op.Op.{Op}
-use Rattle.byte_machine.specs.Leads.{Leads}
+use Rattle.byte_machine.specs.Leads.{OpsLead}
 use Rattle.byte_machine.proofs.ValueLeads.{leads_move}
 use Rattle.code_ops.specs.Operands.{ops_of}
 use Rattle.code_ops.specs.Leaves.{leaf_width, place_leaf}
-use Rattle.code_ops.specs.PlaceOps.{place_ops, place_type, type_or_int, element_type, value_in}
+use Rattle.code_ops.specs.PlaceOps.{place_ops, place_type, type_or_int, element_type, element_value_type}
 use Rattle.path_model.specs.Outs.{class_or_first}
 use Rattle.agree_parts.specs.Addresses.{address, leaf_address}
 use Rattle.agree_parts.proofs.Inside.{leaf_bytes}
-use Rattle.agree_relation.specs.Worlds.{classes_in, places_in, fixed}
+use Rattle.agree_relation.specs.Worlds.{world_classes, places_in, fixed}
 use Rattle.agree_relation.proofs.LeafWidths.{LeafStands, leaf_stands}
 use Rattle.agree_relation.proofs.Objects.{objects_laid}
 use Rattle.agree_statements.specs.Registers.{at_registers, Wrote}
@@ -57,42 +57,42 @@ end_object p (x ∷ xs) = end_object (passed_part p x) xs
 pub record IsAimed {statement : TypedStatement} (scene : Scene statement) (v : Value) (place : TypedPlace) : Type 0 where
   pub part : ObjectPart
   pub is : v ≡ Pointer part
-  pub made : IsPartMade (classes_in scene.w) scene.s.objects.classes part place.class
+  pub made : IsPartMade (world_classes scene.w) scene.s.objects.classes part place.class
   pub is_open : scene.s.objects.is_closed part.object ≡ false
   pub ready : is_unready scene.s.objects part ≡ false
-  pub clear : IsClearPath scene.w scene.s.objects (passes part place.passed place.base)
+  pub clear : IsClearPath scene.w scene.s.objects (path_uses part place.passed place.base)
 
 module _ {statement : TypedStatement} (scene : Scene statement) where
   open scene use {w, at, s, f, below, body, b}
 
-  pub aimed_among : (see : Sight) (place : TypedPlace) (more : List Use) → see.objects ≡ s.objects → IsValue (classes_in w) s.objects.classes (value see place.pointer) (PointerType place.class) → refused (classes_in w) s.objects (place_uses see place ++ more) ≡ None → IsAimed scene (value see place.pointer) place
+  pub aimed_among : (see : Sight) (place : TypedPlace) (more : List StatementUse) → see.objects ≡ s.objects → IsValue (world_classes w) s.objects.classes (value_of_operand see place.pointer) (PointerType place.class) → refused (world_classes w) s.objects (place_uses see place ++ more) ≡ None → IsAimed scene (value_of_operand see place.pointer) place
   aimed_among see place more same typed none =
-      let h = classes_in w in
-      let v = value see place.pointer in
+      let h = world_classes w in
+      let v = value_of_operand see place.pointer in
       let us = place_uses see place ++ more in
       let k = followed h s.objects us none v (inl refl) (inr (inl refl)) place.class typed in
-      let tests = λ (u : Use) (has : Has us u) (r : Undefined). unbroken h s.objects us none u has r in
+      let tests = λ (u : StatementUse) (has : Has us u) (r : Undefined). unbroken h s.objects us none u has r in
       record {
         part = k.part;
         is = k.is;
         made = k.made;
         is_open = subst (λ (x : Value). names (λ q. s.objects.is_closed q.object) x ≡ false) k.is (tests (Reads v) (inl refl) Dangling);
         ready = subst (λ (x : Value). names (is_unready s.objects) x ≡ false) k.is (tests (Guards v) (inr (inr (inl refl))) NotReady);
-        clear = λ u has r. tests u (has_left (place_uses see place) more u (has_right (arrow v) (of_part (λ p. passes p place.passed place.base) v) u (subst (λ (x : Value). Has (of_part (λ p. passes p place.passed place.base) x) u) (sym k.is) has))) r;
+        clear = λ u has r. tests u (has_left (place_uses see place) more u (has_right (arrow v) (of_part (λ p. path_uses p place.passed place.base) v) u (subst (λ (x : Value). Has (of_part (λ p. path_uses p place.passed place.base) x) u) (sym k.is) has))) r;
       }
 
-  pub aimed : (see : Sight) (place : TypedPlace) → see.objects ≡ s.objects → IsValue (classes_in w) s.objects.classes (value see place.pointer) (PointerType place.class) → refused (classes_in w) s.objects (place_uses see place) ≡ None → IsAimed scene (value see place.pointer) place
-  aimed see place same typed none = aimed_among see place [] same typed (ap (refused (classes_in w) s.objects) (append-nil (place_uses see place)) ∙ none)
+  pub aimed : (see : Sight) (place : TypedPlace) → see.objects ≡ s.objects → IsValue (world_classes w) s.objects.classes (value_of_operand see place.pointer) (PointerType place.class) → refused (world_classes w) s.objects (place_uses see place) ≡ None → IsAimed scene (value_of_operand see place.pointer) place
+  aimed see place same typed none = aimed_among see place [] same typed (ap (refused (world_classes w) s.objects) (append-nil (place_uses see place)) ∙ none)
 
   -- the ops of a place, to so many bytes behind its last subobject
-  pub leads_place : {ops : List Op} (v : Value) (place : TypedPlace) (e : ClassId) (target to from : ℕ) (old : List (Option ℕ)) → (a : IsAimed scene v place) → IsPath (classes_in w) place.class place.passed place.base → class_of place.base ≡ Some e
-      → target ≡ address (classes_in w) (places_in w) (here scene) (inner_part (end_part a.part place.passed) place.base) + element_place (classes_in w) (places_in w) (class_of place.base) place.member place.index → target < 2 ^ 41
+  pub leads_place : {ops : List Op} (v : Value) (place : TypedPlace) (e : ClassId) (target to from : ℕ) (old : List (Option ℕ)) → (a : IsAimed scene v place) → IsPath (world_classes w) place.class place.passed place.base → class_of place.base ≡ Some e
+      → target ≡ address (world_classes w) (places_in w) (here scene) (inner_part (end_part a.part place.passed) place.base) + element_place (world_classes w) (places_in w) (class_of place.base) place.member place.index → target < 2 ^ 41
       → register_of old from ≡ register_word w (here scene) v → to < length old
-      → ((new : List (Option ℕ)) → Wrote to old new → register_of new to ≡ Some target → Leads (fixed w) ops (at_registers b new) (Reaches scene))
-      → Leads (fixed w) (ops_of (place_ops w.setup place to from) ++ ops) (at_registers b old) (Reaches scene)
+      → ((new : List (Option ℕ)) → Wrote to old new → register_of new to ≡ Some target → OpsLead (fixed w) ops (at_registers b new) (Reaches scene))
+      → OpsLead (fixed w) (ops_of (place_ops w.setup place to from) ++ ops) (at_registers b old) (Reaches scene)
   leads_place v place e target to from old a path of_class sum low has inside rest =
       let word = register_of old from in
-      let there : register_of (slice_set old to word) to ≡ Some (address (classes_in w) (places_in w) (here scene) a.part) = set_here b old to word inside ∙ has ∙ ap (register_word w (here scene)) a.is in
+      let there : register_of (slice_set old to word) to ≡ Some (address (world_classes w) (places_in w) (here scene) a.part) = set_here b old to word inside ∙ has ∙ ap (register_word w (here scene)) a.is in
       leads_move (fixed w) to from inside
       (leads_path w s.objects b (top scene).goings scene.world scene.begins.stands.columns (top scene).planned scene.next.settled scene.next.seen (Reaches scene) place.passed place.base place.member place.index target a.part place.class e to (slice_set old to word)
       a.made a.is_open a.ready path of_class a.clear sum low there (subst (λ (n : ℕ). to < n) (sym (wrote_set b old to word).size) inside)
@@ -100,17 +100,17 @@ module _ {statement : TypedStatement} (scene : Scene statement) where
 
   -- a leaf
   pub record IsLeaf (v : Value) (place : TypedPlace) (t : ValueType ClassId) (a : IsAimed scene v place) : Type 0 where
-    pub made : IsLeafMade (classes_in w) s.objects.classes (leaf_at a.part place) t
-    pub sum : leaf_address (classes_in w) (places_in w) (here scene) (leaf_at a.part place) ≡ address (classes_in w) (places_in w) (here scene) (inner_part (end_part a.part place.passed) place.base) + element_place (classes_in w) (places_in w) (class_of place.base) place.member place.index
-    pub low : leaf_address (classes_in w) (places_in w) (here scene) (leaf_at a.part place) < 2 ^ 41
+    pub made : IsLeafMade (world_classes w) s.objects.classes (leaf_at a.part place) t
+    pub sum : leaf_address (world_classes w) (places_in w) (here scene) (leaf_at a.part place) ≡ address (world_classes w) (places_in w) (here scene) (inner_part (end_part a.part place.passed) place.base) + element_place (world_classes w) (places_in w) (class_of place.base) place.member place.index
+    pub low : leaf_address (world_classes w) (places_in w) (here scene) (leaf_at a.part place) < 2 ^ 41
     pub is_open : s.objects.is_closed (leaf_at a.part place).part.object ≡ false
-    pub some : leaf_address (classes_in w) (places_in w) (here scene) (leaf_at a.part place) ≡ 0 → ⊥
+    pub some : leaf_address (world_classes w) (places_in w) (here scene) (leaf_at a.part place) ≡ 0 → ⊥
     pub type_is : place_type w.setup place ≡ t
     pub stands : LeafStands w s.objects.classes b.memory.regions (leaf_at a.part place) t (place_leaf w.setup place)
 
-  pub leaf_of : (e : Scope) (v : Value) (place : TypedPlace) (t : ValueType ClassId) → (a : IsAimed scene v place) → IsPlace (classes_in w) e place (ValueField t) → IsLeaf v place t a
+  pub leaf_of : (e : Scope) (v : Value) (place : TypedPlace) (t : ValueType ClassId) → (a : IsAimed scene v place) → IsPlace (world_classes w) e place (ValueField t) → IsLeaf v place t a
   leaf_of e v place t a is =
-      let h = classes_in w in
+      let h = world_classes w in
       let l = places_in w in
       let g = here scene in
       let made = leaf_made h s.objects.classes e place t a.part a.made is in
@@ -126,7 +126,7 @@ module _ {statement : TypedStatement} (scene : Scene statement) where
         low = omega arith;
         is_open = is_open;
         some = λ e. let positive = laid.placed.positive (leaf_at a.part place).part.object inside.class inside.start inside.object in let above = inside.low in omega arith;
-        type_is = ap (λ (o : Option ClassId). type_or_int (element_type (slice_get (members_of h (class_or_first o)) place.member))) is.of_class ∙ ap (λ (o : Option (Member ClassId)). type_or_int (element_type o)) is.element.there ∙ ap (λ (ty : FieldType ClassId). type_or_int (value_in ty)) is.element.type_is;
+        type_is = ap (λ (o : Option ClassId). type_or_int (element_type (slice_get (members_of h (class_or_first o)) place.member))) is.of_class ∙ ap (λ (o : Option (Member ClassId)). type_or_int (element_type o)) is.element.there ∙ ap (λ (ty : FieldType ClassId). type_or_int (element_value_type ty)) is.element.type_is;
         stands = subst (λ (d : ClassId). LeafStands w s.objects.classes b.memory.regions (leaf_at a.part place) t (leaf_width w.setup d place.member)) (ap class_or_first (sym made.part.of_class ∙ end_class))
             (leaf_stands w s.objects b.memory.regions b.objects b.heap (leaf_at a.part place) made.class t scene.world scene.begins.stands.columns.objects made.part made.element is_open);
       }

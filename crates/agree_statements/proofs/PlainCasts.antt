@@ -12,20 +12,20 @@ use Rattle.cxx_program.specs.declared.statement.TypedCast.TheVariants.{Same as S
 use Rattle.cxx_program.specs.declared.statement.TypedRight.TheVariants.{Cast}
 use Rattle.cxx_program.specs.declared.statement.TypedStatement.{TypedStatement}
 use Rattle.cxx_program.specs.Typed.{HasType, IsProperBase, Casts, cast_up}
-use Rattle.path_model.specs.Values.{Value, value}
-use Rattle.path_model.specs.Uses.{Reads, Guards, Views, views, is_shared, cast_uses}
+use Rattle.path_model.specs.Values.{Value, value_of_operand}
+use Rattle.path_model.specs.Uses.{Reads, Guards, Views, uses_of_view, is_shared, cast_uses}
 use Rattle.path_model.specs.Outs.{class_or_first}
 use Rattle.byte_machine.specs.Frames.{register_of}
 use Rattle.byte_code.specs.declared.op.Op.{Op}
 use Rattle.byte_code.specs.declared.op.Op.TheVariants.{Jump}
-use Rattle.byte_machine.specs.Leads.{Leads}
+use Rattle.byte_machine.specs.Leads.{OpsLead}
 use Rattle.byte_machine.proofs.ValueLeads.{leads_move}
-use Rattle.code_ops.specs.Arguments.{free, class_at, checked_taken}
+use Rattle.code_ops.specs.Arguments.{free, pointed_class, checked_taken}
 use Rattle.code_ops.specs.Operands.{operand_register, base_ops, ops_of}
 use Rattle.code_ops.specs.Uses.{reads, views_if}
 use Rattle.code_ops.specs.declared.uses.Used.TheVariants.{Guards as GuardsWord}
 use Rattle.code_statements.specs.Rights.{cast_used, cast_class}
-use Rattle.agree_relation.specs.Worlds.{classes_in, fixed}
+use Rattle.agree_relation.specs.Worlds.{world_classes, fixed}
 use Rattle.agree_relation.specs.Words.{register_word}
 use Rattle.agree_statements.specs.Registers.{at_registers, body_on}
 use Rattle.agree_statements.specs.Tests.{Along, nothing, tested}
@@ -44,7 +44,7 @@ module _ {statement : TypedStatement} (scene : Scene statement) (locals : List V
   open scene use {w, at, s, f, below, body, b}
 
   abbrev v : Value
-  v = value (sight_with scene locals) x
+  v = value_of_operand (sight_with scene locals) x
 
   abbrev from : ℕ
   from = operand_register (free (block scene) 0) x
@@ -52,13 +52,13 @@ module _ {statement : TypedStatement} (scene : Scene statement) (locals : List V
   abbrev jump : List Op
   jump = Jump (to_next scene statement.next) ∷ []
 
-  class_at_is : (k : ClassId) → HasType (scope scene) x (PointerType k) → class_at (block scene) x ≡ k
+  class_at_is : (k : ClassId) → HasType (scope scene) x (PointerType k) → pointed_class (block scene) x ≡ k
   class_at_is k has = ap class_or_first (operand_class_is (scope scene) x k has)
 
   module _ (take : Taking scene locals variable (record { right = Cast SameClass x; conversion = c })) where
-    same_tests : (new : List (Option ℕ)) → register_of new from ≡ register_word w (here scene) v → Along (fixed w) (at_registers b new) (Reaches scene) (classes_in w) s.objects (cast_uses SameClass v) (cast_uses SameClass v) (cast_used (block scene) SameClass (free (block scene) 0) x)
+    same_tests : (new : List (Option ℕ)) → register_of new from ≡ register_word w (here scene) v → Along (fixed w) (at_registers b new) (Reaches scene) (world_classes w) s.objects (cast_uses SameClass v) (cast_uses SameClass v) (cast_used (block scene) SameClass (free (block scene) 0) x)
     same_tests new has =
-        let h = classes_in w in
+        let h = world_classes w in
         let k = the_cast scene locals variable SameClass x c take in
         let us = cast_uses SameClass v in
         let r = free (block scene) 0 in
@@ -80,21 +80,21 @@ module _ {statement : TypedStatement} (scene : Scene statement) (locals : List V
         (set_here b new to (register_of new from) inside ∙ has)))
 
   module _ (i : Subobject) (take : Taking scene locals variable (record { right = Cast (Up i) x; conversion = c })) where
-    up_proper : IsProperBase (classes_in w) (the_cast scene locals variable (Up i) x c take).from i (the_cast scene locals variable (Up i) x c take).to
+    up_proper : IsProperBase (world_classes w) (the_cast scene locals variable (Up i) x c take).from i (the_cast scene locals variable (Up i) x c take).to
     up_proper = of_casts (the_cast scene locals variable (Up i) x c take).from (the_cast scene locals variable (Up i) x c take).to (the_cast scene locals variable (Up i) x c take).casts
       where
-        of_casts : (k d : ClassId) → Casts (classes_in w) k (Up i) d → IsProperBase (classes_in w) k i d
+        of_casts : (k d : ClassId) → Casts (world_classes w) k (Up i) d → IsProperBase (world_classes w) k i d
         of_casts k d (cast_up _ _ _ proper) = proper
 
-    up_tests : (new : List (Option ℕ)) → register_of new from ≡ register_word w (here scene) v → Along (fixed w) (at_registers b new) (Reaches scene) (classes_in w) s.objects (cast_uses (Up i) v) (cast_uses (Up i) v) (cast_used (block scene) (Up i) (free (block scene) 0) x)
+    up_tests : (new : List (Option ℕ)) → register_of new from ≡ register_word w (here scene) v → Along (fixed w) (at_registers b new) (Reaches scene) (world_classes w) s.objects (cast_uses (Up i) v) (cast_uses (Up i) v) (cast_used (block scene) (Up i) (free (block scene) 0) x)
     up_tests new has =
-        let h = classes_in w in
+        let h = world_classes w in
         let k = the_cast scene locals variable (Up i) x c take in
         let us = cast_uses (Up i) v in
         let r = free (block scene) 0 in
         let typed = cast_reads scene locals variable (Up i) x c take in
         subst (λ (q : ClassId). Along (fixed w) (at_registers b new) (Reaches scene) h s.objects us us (reads (scope scene) r x ++ (GuardsWord from 0 q.0 ∷ views_if (is_shared i) from 0 q))) (sym (class_at_is k.from k.has))
-        (along_append (fixed w) (at_registers b new) (Reaches scene) h s.objects us (Reads v ∷ []) (Guards v ∷ views (is_shared i) v) (reads (scope scene) r x) (GuardsWord from 0 k.from.0 ∷ views_if (is_shared i) from 0 k.from)
+        (along_append (fixed w) (at_registers b new) (Reaches scene) h s.objects us (Reads v ∷ []) (Guards v ∷ uses_of_view (is_shared i) v) (reads (scope scene) r x) (GuardsWord from 0 k.from.0 ∷ views_if (is_shared i) from 0 k.from)
         (along_reads w (sight_with scene locals) (at_registers b new) (Reaches scene) scene.world scene.begins.stands.columns us (scope scene) r x (PointerType k.from) take.sees k.has has)
         (tested (Guards v) (GuardsWord from 0 k.from.0) (guarded w (sight_with scene locals) (at_registers b new) (Reaches scene) scene.world scene.begins.stands.columns us from v k.from typed has)
         (along_views w (sight_with scene locals) (at_registers b new) (Reaches scene) scene.world scene.begins.stands.columns us (is_shared i) from v k.from (tells scene new)
@@ -102,15 +102,15 @@ module _ {statement : TypedStatement} (scene : Scene statement) (locals : List V
 
     pub up_cast_does : DoesRight scene locals variable (record { right = Cast (Up i) x; conversion = c })
     up_cast_does old variables =
-        let h = classes_in w in
+        let h = world_classes w in
         let k = the_cast scene locals variable (Up i) x c take in
         let us = cast_uses (Up i) v in
         let to = free (block scene) 1 in
         leads_cast_front scene locals variable (Up i) x c take old variables up_tests
         (λ new none fine kept has.
-        subst (λ (q : ClassId). Leads (fixed w) ((ops_of (base_ops w.setup q i to from) ++ ops_of (checked_taken (block scene) variable (Some (cast_class (Up i) (class_at (block scene) x))) c (free (block scene) 2) to)) ++ jump) (at_registers b new) (Reaches scene)) (sym (class_at_is k.from k.has))
-        (leads_grouped (fixed w) (ops_of (base_ops w.setup k.from i to from)) (ops_of (checked_taken (block scene) variable (Some (cast_class (Up i) (class_at (block scene) x))) c (free (block scene) 2) to)) jump
+        subst (λ (q : ClassId). OpsLead (fixed w) ((ops_of (base_ops w.setup q i to from) ++ ops_of (checked_taken (block scene) variable (Some (cast_class (Up i) (pointed_class (block scene) x))) c (free (block scene) 2) to)) ++ jump) (at_registers b new) (Reaches scene)) (sym (class_at_is k.from k.has))
+        (leads_grouped (fixed w) (ops_of (base_ops w.setup k.from i to from)) (ops_of (checked_taken (block scene) variable (Some (cast_class (Up i) (pointed_class (block scene) x))) c (free (block scene) 2) to)) jump
         (leads_pointer w s.objects b scene.world scene.begins.stands.columns (Reaches scene) v k.from k.to i to from new up_proper.valid up_proper.class
-        (λ p is through made. seen_from w s.objects b p k.from (seen_under scene v k.from (seen_part scene locals x k.from us p is made (shared_dynamic h k.from i up_proper.valid through) none (inl refl) (inr (inl refl)) (subst (λ (y : Bool). Has (Reads v ∷ Guards v ∷ views y v) (Views v)) (sym through) (inr (inr (inl refl))))) p is))
+        (λ p is through made. seen_from w s.objects b p k.from (seen_under scene v k.from (seen_part scene locals x k.from us p is made (shared_dynamic h k.from i up_proper.valid through) none (inl refl) (inr (inl refl)) (subst (λ (y : Bool). Has (Reads v ∷ Guards v ∷ uses_of_view y v) (Views v)) (sym through) (inr (inr (inl refl))))) p is))
         (cast_reads scene locals variable (Up i) x c take) has (free_in scene locals new 1 (omega arith) kept)
         (λ last wrote is. cast_taken scene locals variable (Up i) x c take last none (inl refl) fine (variables_kept w (here scene) (body_on f locals f.next) to new last (free_of scene locals 1 take.count) kept wrote) is))))

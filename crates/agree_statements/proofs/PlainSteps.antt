@@ -17,7 +17,7 @@ use Rattle.byte_machine.specs.Leads.{LeadsBlock}
 use Rattle.code_blocks.specs.Blocks.{statement_ops}
 use Rattle.agree_relation.specs.Worlds.{fixed}
 use Rattle.agree_relation.specs.Agrees.{Agrees}
-use Rattle.agree_statements.specs.Statements.{is_plain, is_plain_right}
+use Rattle.agree_statements.specs.Statements.{is_plain_statement, is_plain_right}
 use Rattle.agree_statements.proofs.Moves.{move_in}
 use Rattle.agree_statements.proofs.Scenes.{Scene, top}
 use Rattle.agree_statements.proofs.Rights.{Taking, DoesRight}
@@ -72,7 +72,7 @@ module _ {statement : TypedStatement} (scene : Scene statement) (locals : List V
 abbrev pub BlockDoes : (statement : TypedStatement) → Scene statement → Type 0
 BlockDoes statement scene = LeadsBlock (fixed scene.w) (statement_ops scene.w.setup scene.at (top scene).on.routine scene.body scene.f.next statement) scene.b (Agrees scene.w scene.at (move_in scene.w scene.s))
 
-kind_does : (kind : TypedKind) (line next : ℕ) (scene : Scene (record { kind = kind; line = line; next = next })) → is_plain kind ≡ true → BlockDoes (record { kind = kind; line = line; next = next }) scene
+kind_does : (kind : TypedKind) (line next : ℕ) (scene : Scene (record { kind = kind; line = line; next = next })) → is_plain_statement kind ≡ true → BlockDoes (record { kind = kind; line = line; next = next }) scene
 kind_does (Declare n None) line next scene plain = plain_declare_does n line next scene
 kind_does (Declare n (Some x)) line next scene plain = declare_does n x line next scene (right_does scene (set scene.f.locals n Unset) (Local n) x.right x.conversion plain (declare_takes n x line next scene (plain_asks x.right plain)))
 kind_does (Assign variable x) line next scene plain = assign_does variable x line next scene (right_does scene scene.f.locals variable x.right x.conversion plain (assign_takes variable x line next scene (plain_asks x.right plain)))
@@ -88,5 +88,5 @@ kind_does (PrintType x c) line next scene plain = print_type_does x c line next 
 kind_does (PrintView x c) line next scene plain = print_view_does x c line next scene
 kind_does (Dump x c) line next scene plain = dump_does x c line next scene
 
-pub plain_does : (statement : TypedStatement) (scene : Scene statement) → is_plain statement.kind ≡ true → BlockDoes statement scene
+pub plain_does : (statement : TypedStatement) (scene : Scene statement) → is_plain_statement statement.kind ≡ true → BlockDoes statement scene
 plain_does statement scene plain = kind_does statement.kind statement.line statement.next scene plain

@@ -15,10 +15,10 @@ use Rattle.cxx_program.specs.declared.statement.TypedRight.TheVariants.{SamePoin
 use Rattle.cxx_program.specs.declared.statement.TypedStatement.{TypedStatement}
 use Rattle.cxx_program.specs.Typed.{Scope, Converts, IsArgument, whole, IsConverted, a_comparison, a_right}
 use Rattle.path_rules.specs.declared.Undefined.TheVariants.{Unset as UnsetUse}
-use Rattle.path_model.specs.Values.{Value, Unset, Number, Null, Pointer, value, converted, argument_value}
-use Rattle.path_model.specs.Uses.{Use, Reads, argument_uses}
+use Rattle.path_model.specs.Values.{Value, Unset, Number, Null, Pointer, value_of_operand, converted_to, argument_value}
+use Rattle.path_model.specs.Uses.{StatementUse, Reads, argument_uses}
 use Rattle.path_model.specs.Rules.{is_unset}
-use Rattle.path_model.specs.Effects.{is_same_pointer, truth}
+use Rattle.path_model.specs.Effects.{is_same_pointer, truth_as_number}
 use Rattle.path_model.specs.Runs.{Moves}
 use Rattle.path_model.specs.TypedStates.{IsValue}
 use Rattle.path_model.proofs.TypedRanges.{bit_in_range}
@@ -27,9 +27,9 @@ use Rattle.byte_machine.specs.Frames.{register_of}
 use Rattle.byte_code.specs.declared.op.ArithKind.TheVariants.{Equal as EqualKind, NotEqual as NotEqualKind}
 use Rattle.byte_code.specs.declared.op.Op.{Op}
 use Rattle.byte_code.specs.declared.op.Op.TheVariants.{Arith, Jump}
-use Rattle.byte_code.specs.Numbers.{word_of, number_of}
-use Rattle.byte_machine.specs.Values.{calculated, truth_word}
-use Rattle.byte_machine.specs.Leads.{Leads}
+use Rattle.byte_code.specs.Numbers.{word_of, number_of_word}
+use Rattle.byte_machine.specs.Values.{calculated_word, truth_word}
+use Rattle.byte_machine.specs.Leads.{OpsLead}
 use Rattle.byte_machine.proofs.ValueLeads.{leads_arith}
 use Rattle.code_ops.specs.Arguments.{free, argument_front, argument_used, argument_ops, taken_ops}
 use Rattle.code_ops.specs.Operands.{operand_register, ops_of}
@@ -37,10 +37,10 @@ use Rattle.code_ops.specs.Setups.{word_width}
 use Rattle.code_statements.specs.Rights.{right_used}
 use Rattle.agree_parts.specs.Addresses.{address}
 use Rattle.agree_parts.specs.Heaps.{Heap}
-use Rattle.agree_parts.specs.Placed.{IsLaid}
+use Rattle.agree_parts.specs.Placed.{AreObjectsLaid}
 use Rattle.agree_parts.proofs.Apart.{part_test}
 use Rattle.agree_parts.proofs.Inside.{part_positive, part_limit}
-use Rattle.agree_relation.specs.Worlds.{World, classes_in, places_in, fixed}
+use Rattle.agree_relation.specs.Worlds.{World, world_classes, places_in, fixed}
 use Rattle.agree_relation.specs.Words.{register_word}
 use Rattle.agree_relation.specs.Frames.{HasVariables}
 use Rattle.agree_relation.proofs.Objects.{objects_laid}
@@ -74,35 +74,35 @@ above_null n some = grind (arith, nat_tests)
 not_null : (n : ℕ) → 0 < n → nat_eq n 0 ≡ false
 not_null n some = grind (arith, nat_tests)
 
-pointer_words : (w : World) (g : Heap) (x y : Value) (c : ClassId) → IsLaid (classes_in w) w.setup.rows g → IsValue (classes_in w) g.classes x (PointerType c) → IsValue (classes_in w) g.classes y (PointerType c) → is_unset x ≡ false → is_unset y ≡ false → AreWords w g x y
+pointer_words : (w : World) (g : Heap) (x y : Value) (c : ClassId) → AreObjectsLaid (world_classes w) w.setup.rows g → IsValue (world_classes w) g.classes x (PointerType c) → IsValue (world_classes w) g.classes y (PointerType c) → is_unset x ≡ false → is_unset y ≡ false → AreWords w g x y
 pointer_words w g Unset y c laid typed typed' set set' = absurd (let f : true ≡ false = set in cc)
 pointer_words w g (Number z) y c laid typed typed' set set' = absurd typed
 pointer_words w g Null Unset c laid typed typed' set set' = absurd (let f : true ≡ false = set' in cc)
 pointer_words w g Null (Number z) c laid typed typed' set set' = absurd typed'
 pointer_words w g Null Null c laid typed typed' set set' = record { left = 0; right = 0; left_is = refl; right_is = refl; left_fits = omega arith; right_fits = omega arith; same = refl }
 pointer_words w g Null (Pointer q) c laid typed typed' set set' =
-    let there = address (classes_in w) (places_in w) g q in
-    let some = part_positive (classes_in w) w.setup.rows g q c laid typed' in
-    let low = part_limit (classes_in w) w.setup.rows g q c laid typed' in
+    let there = address (world_classes w) (places_in w) g q in
+    let some = part_positive (world_classes w) w.setup.rows g q c laid typed' in
+    let low = part_limit (world_classes w) w.setup.rows g q c laid typed' in
     record { left = 0; right = there; left_is = refl; right_is = refl; left_fits = omega arith; right_fits = omega arith; same = above_null there some }
 pointer_words w g (Pointer p) Unset c laid typed typed' set set' = absurd (let f : true ≡ false = set' in cc)
 pointer_words w g (Pointer p) (Number z) c laid typed typed' set set' = absurd typed'
 pointer_words w g (Pointer p) Null c laid typed typed' set set' =
-    let there = address (classes_in w) (places_in w) g p in
-    let some = part_positive (classes_in w) w.setup.rows g p c laid typed in
-    let low = part_limit (classes_in w) w.setup.rows g p c laid typed in
+    let there = address (world_classes w) (places_in w) g p in
+    let some = part_positive (world_classes w) w.setup.rows g p c laid typed in
+    let low = part_limit (world_classes w) w.setup.rows g p c laid typed in
     record { left = there; right = 0; left_is = refl; right_is = refl; left_fits = omega arith; right_fits = omega arith; same = not_null there some }
 pointer_words w g (Pointer p) (Pointer q) c laid typed typed' set set' =
-    let low = part_limit (classes_in w) w.setup.rows g p c laid typed in
-    let low' = part_limit (classes_in w) w.setup.rows g q c laid typed' in
+    let low = part_limit (world_classes w) w.setup.rows g p c laid typed in
+    let low' = part_limit (world_classes w) w.setup.rows g q c laid typed' in
     record {
-      left = address (classes_in w) (places_in w) g p;
-      right = address (classes_in w) (places_in w) g q;
+      left = address (world_classes w) (places_in w) g p;
+      right = address (world_classes w) (places_in w) g q;
       left_is = refl;
       right_is = refl;
       left_fits = omega arith;
       right_fits = omega arith;
-      same = part_test (classes_in w) w.setup.rows g p q c laid typed typed';
+      same = part_test (world_classes w) w.setup.rows g p q c laid typed typed';
     }
 
 one_truth : (x y : Bool) → truth_word x ≡ truth_word y → x ≡ y
@@ -112,11 +112,11 @@ one_truth false true e = absurd (omega arith)
 one_truth false false e = refl
 
 -- two words are compared, for `==` or for `!=`
-compared_words : (differ : Bool) (a b : ℕ) → a < 2 ^ 64 → b < 2 ^ 64 → calculated (if differ then NotEqualKind else EqualKind) word_width (number_of word_width a) (number_of word_width b) ≡ word_of (if (if differ then not (nat_eq a b) else nat_eq a b) then pos 1 else pos 0)
+compared_words : (differ : Bool) (a b : ℕ) → a < 2 ^ 64 → b < 2 ^ 64 → calculated_word (if differ then NotEqualKind else EqualKind) word_width (number_of_word word_width a) (number_of_word word_width b) ≡ word_of (if (if differ then not (nat_eq a b) else nat_eq a b) then pos 1 else pos 0)
 compared_words false a b fits fits' = equal_words a b fits fits' ∙ truth_result (nat_eq a b)
 compared_words true a b fits fits' =
-    let x = number_of word_width a in
-    let y = number_of word_width b in
+    let x = number_of_word word_width a in
+    let y = number_of_word word_width b in
     let same = one_truth (not (int_lt x y) && not (int_lt y x)) (nat_eq a b) (equal_words a b fits fits') in
     ap (λ (t : Bool). truth_word (not t)) same ∙ truth_result (not (nat_eq a b))
 
@@ -139,7 +139,7 @@ module _ {statement : TypedStatement} (scene : Scene statement) (locals : List V
   abbrev y : Value
   y = argument_value (sight_with scene locals) q
 
-  abbrev uses : List Use
+  abbrev uses : List StatementUse
   uses = argument_uses (sight_with scene locals) p ++ argument_uses (sight_with scene locals) q
 
   abbrev holds : Bool
@@ -152,24 +152,24 @@ module _ {statement : TypedStatement} (scene : Scene statement) (locals : List V
   compared = Arith (if differ then NotEqualKind else EqualKind) word_width (free (block scene) 4) (free (block scene) 2) (free (block scene) 3) ∷ ops_of (taken_ops (block scene) variable None c (free (block scene) 5) (free (block scene) 4))
 
   -- both words are compared, and the result is taken
-  compares : (new : List (Option ℕ)) → Converts (classes_in w) (NumberType TheBool) c take.target → AreWords w (here scene) x y → register_of new (free (block scene) 2) ≡ register_word w (here scene) x → register_of new (free (block scene) 3) ≡ register_word w (here scene) y
-      → HasVariables w (here scene) (body_on f locals f.next) new → move_in w s ≡ Moves (took scene locals variable (converted (truth holds) c)) [] → Leads (fixed w) (compared ++ jump) (at_registers b new) (Reaches scene)
+  compares : (new : List (Option ℕ)) → Converts (world_classes w) (NumberType TheBool) c take.target → AreWords w (here scene) x y → register_of new (free (block scene) 2) ≡ register_word w (here scene) x → register_of new (free (block scene) 3) ≡ register_word w (here scene) y
+      → HasVariables w (here scene) (body_on f locals f.next) new → move_in w s ≡ Moves (took scene locals variable (converted_to (truth_as_number holds) c)) [] → OpsLead (fixed w) (compared ++ jump) (at_registers b new) (Reaches scene)
   compares new to k has_left_word has_right_word variables moves =
       let g = here scene in
       let fourth = free (block scene) 4 in
       let kind = if differ then NotEqualKind else EqualKind in
-      let word = calculated kind word_width (number_of word_width k.left) (number_of word_width k.right) in
+      let word = calculated_word kind word_width (number_of_word word_width k.left) (number_of_word word_width k.right) in
       let last = slice_set new fourth (Some word) in
       let inside = free_in scene locals new 4 (omega arith) variables in
       let result : word ≡ word_of (if holds then pos 1 else pos 0) = compared_words differ k.left k.right k.left_fits k.right_fits ∙ ap (λ (t : Bool). word_of (if (if differ then not t else t) then pos 1 else pos 0)) k.same in
       leads_arith (fixed w) kind word_width fourth (free (block scene) 2) (free (block scene) 3) k.left k.right (omega arith) (omega arith) (has_left_word ∙ k.left_is) (has_right_word ∙ k.right_is) inside
-      (leads_taken scene locals variable (record { right = SamePointer differ p q; conversion = c }) take (truth holds) (NumberType TheBool) c 5 fourth last (omega arith) to (λ a class i is. absurd (cc)) (bit_in_range holds)
+      (leads_taken scene locals variable (record { right = SamePointer differ p q; conversion = c }) take (truth_as_number holds) (NumberType TheBool) c 5 fourth last (omega arith) to (λ a class i is. absurd (cc)) (bit_in_range holds)
       (set_here b new fourth (Some word) inside ∙ ap (λ (n : ℕ). Some n) result)
       (variables_kept w g (body_on f locals f.next) fourth new last (free_of scene locals 4 take.count) variables (wrote_set b new fourth (Some word))) moves)
 
   pub same_pointer_does : DoesRight scene locals variable (record { right = SamePointer differ p q; conversion = c })
   same_pointer_does old variables =
-      let h = classes_in w in
+      let h = world_classes w in
       let e = scope scene in
       let g = here scene in
       let on = body_on f locals f.next in
@@ -179,8 +179,8 @@ module _ {statement : TypedStatement} (scene : Scene statement) (locals : List V
       let third = free (block scene) 2 in
       let t = argument_type h e p (PointerType k.class) k.left in
       let u = argument_type h e q (PointerType k.class) k.right in
-      let among_left = λ (a : Use) (there : Has (argument_uses (sight_with scene locals) p) a). has_left (argument_uses (sight_with scene locals) p) (argument_uses (sight_with scene locals) q) a there in
-      let among_right = λ (a : Use) (there : Has (argument_uses (sight_with scene locals) q) a). has_right (argument_uses (sight_with scene locals) p) (argument_uses (sight_with scene locals) q) a there in
+      let among_left = λ (a : StatementUse) (there : Has (argument_uses (sight_with scene locals) p) a). has_left (argument_uses (sight_with scene locals) p) (argument_uses (sight_with scene locals) q) a there in
+      let among_right = λ (a : StatementUse) (there : Has (argument_uses (sight_with scene locals) q) a). has_right (argument_uses (sight_with scene locals) p) (argument_uses (sight_with scene locals) q) a there in
       let laid = objects_laid w s.objects b.memory.regions b.objects b.heap scene.world scene.begins.stands.columns.objects in
       leads_grouped (fixed w) (argument_front p first) (argument_front q second) _
       (leads_operand (fixed w) w g s on e b p.operand t.0 first old take.sees scene.begins.stands.globals variables t.1 (free_in scene locals old 0 (omega arith) variables)
@@ -193,8 +193,8 @@ module _ {statement : TypedStatement} (scene : Scene statement) (locals : List V
       (along_argument w (sight_with scene locals) (at_registers b new) (Reaches scene) scene.world scene.begins.stands.columns uses (block scene) first p (PointerType k.class) take.sees (tells scene new) among_left k.left word)
       (along_argument w (sight_with scene locals) (at_registers b new) (Reaches scene) scene.world scene.begins.stands.columns uses (block scene) second q (PointerType k.class) take.sees (tells scene new) among_right k.right read'.word))
       (λ fine none.
-      let set = unbroken (fixed w) b (Reaches scene) h s.objects uses (Reads (value (sight_with scene locals) p.operand)) UnsetUse (none UnsetUse) (among_left (Reads (value (sight_with scene locals) p.operand)) (inl refl)) in
-      let set' = unbroken (fixed w) b (Reaches scene) h s.objects uses (Reads (value (sight_with scene locals) q.operand)) UnsetUse (none UnsetUse) (among_right (Reads (value (sight_with scene locals) q.operand)) (inl refl)) in
+      let set = unbroken (fixed w) b (Reaches scene) h s.objects uses (Reads (value_of_operand (sight_with scene locals) p.operand)) UnsetUse (none UnsetUse) (among_left (Reads (value_of_operand (sight_with scene locals) p.operand)) (inl refl)) in
+      let set' = unbroken (fixed w) b (Reaches scene) h s.objects uses (Reads (value_of_operand (sight_with scene locals) q.operand)) UnsetUse (none UnsetUse) (among_right (Reads (value_of_operand (sight_with scene locals) q.operand)) (inl refl)) in
       let words = pointer_words w g x y k.class laid (argument_typed h e (sight_with scene locals) take.sees p (PointerType k.class) k.left) (argument_typed h e (sight_with scene locals) take.sees q (PointerType k.class) k.right)
       (argument_set (sight_with scene locals) p set) (argument_set (sight_with scene locals) q set') in
       leads_grouped (fixed w) (ops_of (argument_ops (block scene) p third first)) (ops_of (argument_ops (block scene) q (free (block scene) 3) second) ++ compared) jump

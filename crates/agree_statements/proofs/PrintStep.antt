@@ -27,8 +27,8 @@ use Rattle.cxx_program.specs.declared.statement.TypedStatement.{TypedStatement}
 use Rattle.cxx_program.specs.Typed.{Scope, HasType, of_variable, of_number, IsTyped, prints}
 use Rattle.path_rules.specs.declared.Undefined.TheVariants.{Unset as UnsetUse}
 use Rattle.path_model.specs.declared.outs.Out.TheVariants.{Number as NumberOut, Pointer as PointerOut}
-use Rattle.path_model.specs.Values.{Value, Unset, Number, Null, Pointer, Sight, value}
-use Rattle.path_model.specs.Uses.{Use, Reads}
+use Rattle.path_model.specs.Values.{Value, Unset, Number, Null, Pointer, Sight, value_of_operand}
+use Rattle.path_model.specs.Uses.{StatementUse, Reads}
 use Rattle.path_model.specs.Outs.{location_of}
 use Rattle.path_model.specs.States.{sight}
 use Rattle.path_model.specs.Effects.{telling, value_out}
@@ -40,17 +40,17 @@ use Rattle.byte_code.specs.declared.width.Width.{Width}
 use Rattle.byte_code.specs.declared.op.Op.TheVariants.{Print as PrintOp, Jump}
 use Rattle.byte_code.specs.declared.op.PrintAs.{PrintAs}
 use Rattle.byte_code.specs.declared.op.PrintAs.TheVariants.{Number as AsNumber, Address as AsAddress}
-use Rattle.byte_code.specs.Numbers.{word_of, number_of}
+use Rattle.byte_code.specs.Numbers.{word_of, number_of_word}
 use Rattle.byte_machine.specs.declared.turn.RawOut.{RawOut}
 use Rattle.byte_machine.specs.declared.turn.RawOut.TheVariants.{Number as RawNumber, Address as RawAddress}
 use Rattle.byte_machine.specs.Running.{Running, Stop}
-use Rattle.byte_machine.specs.Leads.{Leads}
+use Rattle.byte_machine.specs.Leads.{OpsLead}
 use Rattle.byte_machine.proofs.Leads.{leads_end}
 use Rattle.byte_machine.proofs.ValueLeads.{leads_print_number, leads_print_address}
 use Rattle.byte_machine.proofs.ControlLeads.{leads_jump}
 use Rattle.agree_parts.specs.Heaps.{Heap}
 use Rattle.agree_parts.specs.Addresses.{address}
-use Rattle.agree_relation.specs.Worlds.{classes_in, places_in, fixed}
+use Rattle.agree_relation.specs.Worlds.{world_classes, places_in, fixed}
 use Rattle.agree_relation.specs.Words.{register_word}
 use Rattle.agree_relation.specs.Frames.{HasVariables}
 use Rattle.agree_relation.specs.Agrees.{ReadAs}
@@ -71,15 +71,15 @@ record PrintsNumber (e : Scope) (x : TypedOperand) (z : ℤ) : Type 0 where
   is : operand_print e x ≡ AsNumber width
   some : 0 < width.bytes
   narrow : width.bytes < 9
-  read : number_of width (word_of z) ≡ z
+  read : number_of_word width (word_of z) ≡ z
 
-print_number : (see : Sight) (e : Scope) (x : TypedOperand) (t : Scalar) (z : ℤ) → HasType e x (NumberType t) → value see x ≡ Number z → IsInRange t z → PrintsNumber e x z
+print_number : (see : Sight) (e : Scope) (x : TypedOperand) (t : Scalar) (z : ℤ) → HasType e x (NumberType t) → value_of_operand see x ≡ Number z → IsInRange t z → PrintsNumber e x z
 print_number see e (VariableOperand x) t z (of_variable _ _ there) is range =
     record { width = register_width t; is = ap print_as there; some = omega arith; narrow = omega arith; read = register_read t z range }
 print_number see e This t z has is range = elim has [ ]
 print_number see e (NumberOperand y) t z (of_number _ _ _) is range =
     let same : y ≡ z = cc in
-    record { width = written_width y; is = refl; some = wide y; narrow = small y; read = subst (λ (u : ℤ). number_of (written_width y) (word_of u) ≡ u) same (written_read t y (subst (IsInRange t) (sym same) range)) }
+    record { width = written_width y; is = refl; some = wide y; narrow = small y; read = subst (λ (u : ℤ). number_of_word (written_width y) (word_of u) ≡ u) same (written_read t y (subst (IsInRange t) (sym same) range)) }
   where
     wide : (u : ℤ) → 0 < (written_width u).bytes
     wide (pos a) = omega arith
@@ -107,7 +107,7 @@ module _ (x : TypedOperand) (line next : ℕ) (scene : Scene (record { kind = Pr
   g = here scene
 
   abbrev v : Value
-  v = value (sight s f) x
+  v = value_of_operand (sight s f) x
 
   abbrev P : Running → Stop → Type 0
   P = Reaches scene
@@ -118,51 +118,51 @@ module _ (x : TypedOperand) (line next : ℕ) (scene : Scene (record { kind = Pr
   abbrev to : ℕ
   to = to_next scene next
 
-  abbrev uses : List Use
+  abbrev uses : List StatementUse
   uses = Reads v ∷ []
 
   -- what was told is the value
   ends : (raw : RawOut) (out : Out) (new : List (Option ℕ)) → HasVariables w g f new → move_in w s ≡ move_by (telling (state_on s s.objects s.globals (body_on f f.locals next) below) (Some out)) None → ReadAs w at g (raw ∷ []) (out ∷ []) →
-      Leads (fixed w) (Jump to ∷ []) (ended b b.memory b.globals new (b.outs ++ raw ∷ [])) P
+      OpsLead (fixed w) (Jump to ∷ []) (ended b b.memory b.globals new (b.outs ++ raw ∷ [])) P
   ends raw out new variables_there moves same =
       let told : ReadAs w at g (b.outs ++ raw ∷ []) (out ∷ []) = subst (λ (o : List RawOut). ReadAs w at g (o ++ raw ∷ []) (out ∷ [])) (sym scene.begins.silent) same in
       leads_jump (fixed w) to (leads_end (fixed w)
       (finished scene s.objects b.memory s.globals b.globals f.locals next new (b.outs ++ raw ∷ []) (out ∷ []) (record { classes = refl; phases = refl }) refl scene.begins.stands.columns scene.begins.stands.globals (variables_on w g f next new variables_there) told moves))
 
   -- by what the operand has
-  by_value : (value_is : Value) (t : ValueType ClassId) (new : List (Option ℕ)) → v ≡ value_is → HasType (scope scene) x t → IsValue (classes_in w) s.objects.classes value_is t → register_of new r ≡ register_word w g value_is → is_unset value_is ≡ false → HasVariables w g f new
+  by_value : (value_is : Value) (t : ValueType ClassId) (new : List (Option ℕ)) → v ≡ value_is → HasType (scope scene) x t → IsValue (world_classes w) s.objects.classes value_is t → register_of new r ≡ register_word w g value_is → is_unset value_is ≡ false → HasVariables w g f new
       → move_in w s ≡ move_by (telling (state_on s s.objects s.globals (body_on f f.locals next) below) (value_out s.objects v)) None →
-      Leads (fixed w) (PrintOp r (operand_print (scope scene) x) ∷ Jump to ∷ []) (at_registers b new) P
+      OpsLead (fixed w) (PrintOp r (operand_print (scope scene) x) ∷ Jump to ∷ []) (at_registers b new) P
   by_value Unset t new is has typed word set variables_there moves = absurd (let f' : true ≡ false = set in cc)
   by_value (Number z) (PointerType c) new is has typed word set variables_there moves = absurd typed
   by_value (Number z) (NumberType t) new is has typed word set variables_there moves =
       let p = print_number (sight s f) (scope scene) x t z has is typed in
-      subst (λ (a : PrintAs). Leads (fixed w) (PrintOp r a ∷ Jump to ∷ []) (at_registers b new) P) (sym p.is)
+      subst (λ (a : PrintAs). OpsLead (fixed w) (PrintOp r a ∷ Jump to ∷ []) (at_registers b new) P) (sym p.is)
       (leads_print_number (fixed w) r (word_of z) p.width word p.some p.narrow
-      (ends (RawNumber (number_of p.width (word_of z))) (NumberOut z) new variables_there (moves ∙ ap (λ (u : Value). move_by (telling (state_on s s.objects s.globals (body_on f f.locals next) below) (value_out s.objects u)) None) is) (p.read, tt)))
+      (ends (RawNumber (number_of_word p.width (word_of z))) (NumberOut z) new variables_there (moves ∙ ap (λ (u : Value). move_by (telling (state_on s s.objects s.globals (body_on f f.locals next) below) (value_out s.objects u)) None) is) (p.read, tt)))
   by_value Null (NumberType t) new is has typed word set variables_there moves = absurd typed
   by_value Null (PointerType c) new is has typed word set variables_there moves =
-      subst (λ (a : PrintAs). Leads (fixed w) (PrintOp r a ∷ Jump to ∷ []) (at_registers b new) P) (sym (print_pointer (scope scene) x c has))
+      subst (λ (a : PrintAs). OpsLead (fixed w) (PrintOp r a ∷ Jump to ∷ []) (at_registers b new) P) (sym (print_pointer (scope scene) x c has))
       (leads_print_address (fixed w) r 0 word
       (ends (RawAddress 0) (PointerOut None) new variables_there (moves ∙ ap (λ (u : Value). move_by (telling (state_on s s.objects s.globals (body_on f f.locals next) below) (value_out s.objects u)) None) is) (refl, tt)))
   by_value (Pointer p) (NumberType t) new is has typed word set variables_there moves = absurd typed
   by_value (Pointer p) (PointerType c) new is has typed word set variables_there moves =
-      subst (λ (a : PrintAs). Leads (fixed w) (PrintOp r a ∷ Jump to ∷ []) (at_registers b new) P) (sym (print_pointer (scope scene) x c has))
-      (leads_print_address (fixed w) r (address (classes_in w) (places_in w) g p) word
-      (ends (RawAddress (address (classes_in w) (places_in w) g p)) (PointerOut (Some (location_of s.objects p))) new variables_there
+      subst (λ (a : PrintAs). OpsLead (fixed w) (PrintOp r a ∷ Jump to ∷ []) (at_registers b new) P) (sym (print_pointer (scope scene) x c has))
+      (leads_print_address (fixed w) r (address (world_classes w) (places_in w) g p) word
+      (ends (RawAddress (address (world_classes w) (places_in w) g p)) (PointerOut (Some (location_of s.objects p))) new variables_there
       (moves ∙ ap (λ (u : Value). move_by (telling (state_on s s.objects s.globals (body_on f f.locals next) below) (value_out s.objects u)) None) is) (part_lies w s.objects b.memory.regions p c typed, tt)))
 
   pub print_does : LeadsBlock (fixed w) (statement_ops w.setup at (top scene).on.routine body f.next print) b (Agrees w at (move_in w s))
   print_does =
       let e = scope scene in
-      let typed = print_typed (classes_in w) e x (kind_typed scene) in
-      let value_typed = operand_typed (classes_in w) e (sight s f) (sees scene) x typed.0 typed.1 in
+      let typed = print_typed (world_classes w) e x (kind_typed scene) in
+      let value_typed = operand_typed (world_classes w) e (sight s f) (sees scene) x typed.0 typed.1 in
       let stands = variables scene in
       let inside : free (block scene) 0 < length b.top.registers = subst (λ (n : ℕ). free (block scene) 0 < n) (sym stands.size) (has_free scene 0 (omega arith)) in
       leads_operand (fixed w) w g s f e b x typed.0 (free (block scene) 0) b.top.registers (sees scene) scene.begins.stands.globals stands typed.1 inside
-      (λ new read. leads_checks (fixed w) (at_registers b new) P (classes_in w) s.objects uses (reads e (free (block scene) 0) x)
+      (λ new read. leads_checks (fixed w) (at_registers b new) P (world_classes w) s.objects uses (reads e (free (block scene) 0) x)
       (along_reads w (sight s f) (at_registers b new) P scene.world scene.begins.stands.columns uses e (free (block scene) 0) x typed.0 (sees scene) typed.1 read.word)
-      (λ fine none. by_value v typed.0 new refl typed.1 value_typed read.word (unbroken (fixed w) (at_registers b new) P (classes_in w) s.objects uses (Reads v) UnsetUse (none UnsetUse) (inl refl))
+      (λ fine none. by_value v typed.0 new refl typed.1 value_typed read.word (unbroken (fixed w) (at_registers b new) P (world_classes w) s.objects uses (Reads v) UnsetUse (none UnsetUse) (inl refl))
       (variables_kept w g f (free (block scene) 0) b.top.registers new (is_free scene 0) stands read.wrote)
       (move_fine w s f below body print scene.world scene.next tt fine refl))
       (λ rule broken. refused scene rule (at_registers b new) refl (move_refused w s f below body print scene.world scene.next rule tt broken)))

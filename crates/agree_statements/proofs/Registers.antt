@@ -3,10 +3,10 @@ use Rattle.std.proofs.Common.{◌≡◌, ℕ, ◌+◌, ◌<◌, Option, List, le
 use Rattle.std.specs.Prelude.{slice_set}
 use Rattle.std.proofs.lemmas.Option.{slice_get_within}
 use Rattle.byte_machine.specs.Frames.{register_of}
-use Rattle.path_model.specs.States.{Running as Body}
+use Rattle.path_model.specs.States.{RunningBody as Body}
 use Rattle.byte_code.specs.declared.op.Op.{Op}
 use Rattle.byte_machine.specs.Running.{Fixed, Running, Stop}
-use Rattle.byte_machine.specs.Leads.{Leads}
+use Rattle.byte_machine.specs.Leads.{OpsLead}
 use Rattle.byte_machine.proofs.Registers.{register_same, register_other, registers_kept}
 use Rattle.agree_parts.specs.Heaps.{Heap}
 use Rattle.agree_relation.specs.Worlds.{World}
@@ -47,8 +47,8 @@ pub variables_on : (w : World) (g : Heap) (f : Body) (next : ℕ) (registers : L
 variables_on w g f next registers a = record { size = a.size; this = a.this; local = a.local; spare = a.spare }
 
 -- ops in one group are ops in two
-pub leads_grouped : (fx : Fixed) (first second rest : List Op) {s : Running} {P : Running → Stop → Type 0} → Leads fx (first ++ (second ++ rest)) s P → Leads fx ((first ++ second) ++ rest) s P
+pub leads_grouped : (fx : Fixed) (first second rest : List Op) {s : Running} {P : Running → Stop → Type 0} → OpsLead fx (first ++ (second ++ rest)) s P → OpsLead fx ((first ++ second) ++ rest) s P
 leads_grouped fx first second rest a = rw append_assoc a
 
-pub leads_regrouped : (fx : Fixed) (first second third rest : List Op) {s : Running} {P : Running → Stop → Type 0} → Leads fx (first ++ (second ++ (third ++ rest))) s P → Leads fx (first ++ ((second ++ third) ++ rest)) s P
-leads_regrouped fx first second third rest {s} {P} a = subst (λ (ops : List Op). Leads fx (first ++ ops) s P) (sym (append_assoc second third rest)) a
+pub leads_regrouped : (fx : Fixed) (first second third rest : List Op) {s : Running} {P : Running → Stop → Type 0} → OpsLead fx (first ++ (second ++ (third ++ rest))) s P → OpsLead fx (first ++ ((second ++ third) ++ rest)) s P
+leads_regrouped fx first second third rest {s} {P} a = subst (λ (ops : List Op). OpsLead fx (first ++ ops) s P) (sym (append_assoc second third rest)) a

@@ -21,9 +21,9 @@ use Rattle.path_model.proofs.Facts.{ready_of}
 use Rattle.abi_primary.specs.Kinds.{IsDynamic}
 use Rattle.byte_machine.specs.Running.{Running}
 use Rattle.agree_parts.proofs.Made.{owner_there, complete_made}
-use Rattle.agree_relation.specs.Worlds.{World, IsWorld, classes_in}
+use Rattle.agree_relation.specs.Worlds.{World, IsProgramWorld, world_classes}
 use Rattle.agree_relation.specs.Words.{heap_of}
-use Rattle.agree_relation.specs.Columns.{ColumnsStand, pair_of}
+use Rattle.agree_relation.specs.Columns.{ColumnsStand, shadow_pair}
 use Rattle.agree_relation.specs.Goings.{Going, ArePlanned}
 use Rattle.agree_relation.proofs.Objects.{objects_laid}
 use Rattle.agree_relation.proofs.Phases.{ready_begun}
@@ -37,17 +37,17 @@ use Rattle.agree_statements.proofs.Useds.{TellsViews}
 -- a part that is ready, its complete object, and the view of that
 pub record IsInSight (w : World) (s : Objects) (p : ObjectPart) (c : ClassId) : Type 0 where
   pub complete : ClassId
-  pub owner : class_of_owner (classes_in w) s p ≡ Some complete
+  pub owner : class_of_owner (world_classes w) s p ≡ Some complete
   pub at : Subobject
   pub class : ClassId
-  pub there : IsPartMade (classes_in w) s.classes (part p.object p.owner at) class
+  pub there : IsPartMade (world_classes w) s.classes (part p.object p.owner at) class
   pub seen : view s.phases p.object p.owner complete ≡ Some at
-  pub is_view : view_of (classes_in w) s p ≡ Some at
+  pub is_view : view_of (world_classes w) s p ≡ Some at
   pub ready : is_ready (s.phases.phase (part p.object p.owner at)) ≡ true
 
-pub in_sight : (w : World) (s : Objects) (goings : List Going) (p : ObjectPart) (c : ClassId) → ArePlanned w s.classes s.phases goings → AllSettled (classes_in w) s → AreSeen (classes_in w) s → IsPartMade (classes_in w) s.classes p c → is_unready s p ≡ false → IsInSight w s p c
+pub in_sight : (w : World) (s : Objects) (goings : List Going) (p : ObjectPart) (c : ClassId) → ArePlanned w s.classes s.phases goings → AllSettled (world_classes w) s → AreSeen (world_classes w) s → IsPartMade (world_classes w) s.classes p c → is_unready s p ≡ false → IsInSight w s p c
 in_sight w s goings p c planned settled seen made fine =
-    let h = classes_in w in
+    let h = world_classes w in
     let g = heap_of s.classes [] in
     let owner = owner_there h g p c made in
     let x = seen.view p c made fine in
@@ -64,20 +64,20 @@ in_sight w s goings p c planned settled seen made fine =
       ready = view_ready h s.phases p.object p.owner owner.0 x.0 (settled p.object made.class made.made) is;
     }
 
-pub tells_views : (w : World) (s : Objects) (goings : List Going) (b : Running) → IsWorld w → ColumnsStand w s b.memory b.objects b.heap b.notes → ArePlanned w s.classes s.phases goings → AllSettled (classes_in w) s → AreSeen (classes_in w) s → TellsViews w s b
+pub tells_views : (w : World) (s : Objects) (goings : List Going) (b : Running) → IsProgramWorld w → ColumnsStand w s b.memory b.objects b.heap b.notes → ArePlanned w s.classes s.phases goings → AllSettled (world_classes w) s → AreSeen (world_classes w) s → TellsViews w s b
 tells_views w s goings b world columns planned settled seen = record { of = tells }
   where
-    tells : (p : ObjectPart) (c : ClassId) → IsPartMade (classes_in w) s.classes p c → s.is_closed p.object ≡ false → is_unready s p ≡ false → IsDynamic (classes_in w) c → TellsView w s b p c
+    tells : (p : ObjectPart) (c : ClassId) → IsPartMade (world_classes w) s.classes p c → s.is_closed p.object ≡ false → is_unready s p ≡ false → IsDynamic (world_classes w) c → TellsView w s b p c
     tells p c made open_there fine dynamic =
-        let h = classes_in w in
+        let h = world_classes w in
         let g = heap_of s.classes b.memory.regions in
         let laid = objects_laid w s b.memory.regions b.objects b.heap world columns.objects in
         let k = in_sight w s goings p c planned settled seen made fine in
         let noted = view_noted w g s.phases b.notes p c k.complete k.class k.at columns.phases columns.views made k.owner (ready_begun (s.phases.phase p) (ready_of s p fine)) k.seen k.there in
         let test = view_tested w g p c k.class k.at laid made k.there in
         record {
-          owner = pair_of w g (part p.object p.owner (whole_of k.complete)) k.complete;
-          view = pair_of w g (part p.object p.owner k.at) k.class;
+          owner = shadow_pair w g (part p.object p.owner (whole_of k.complete)) k.complete;
+          view = shadow_pair w g (part p.object p.owner k.at) k.class;
           has = record { owner_is = noted.owner_is; view_is = noted.view_is };
           itself = λ same.
               let one : k.at ≡ p.at = subobject_same k.at p.at (sym test ∙ same) in

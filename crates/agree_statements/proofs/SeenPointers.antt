@@ -10,8 +10,8 @@ use Rattle.cxx_program.specs.declared.statement.TypedStatement.{TypedStatement}
 use Rattle.cxx_program.specs.Typed.{HasType, IsPolymorphic}
 use Rattle.path_rules.specs.declared.Undefined.{Undefined}
 use Rattle.path_rules.specs.declared.Undefined.TheVariants.{Dangling, NotReady, OutsideView}
-use Rattle.path_model.specs.Values.{Value, Pointer, value}
-use Rattle.path_model.specs.Uses.{Use, Reads, Guards, Views, arrow}
+use Rattle.path_model.specs.Values.{Value, Pointer, value_of_operand}
+use Rattle.path_model.specs.Uses.{StatementUse, Reads, Guards, Views, arrow}
 use Rattle.path_model.specs.Rules.{is_broken, is_unready, is_outside, names}
 use Rattle.path_model.specs.Order.{first_broken, sorted}
 use Rattle.path_model.specs.Runs.{IsRefused}
@@ -23,12 +23,12 @@ use Rattle.abi_primary.specs.Kinds.{IsDynamic, declares}
 use Rattle.abi_slots.proofs.Dynamics.{dynamic_whole}
 use Rattle.byte_machine.specs.Frames.{register_of}
 use Rattle.byte_code.specs.declared.op.Op.{Op}
-use Rattle.byte_machine.specs.Leads.{Leads}
+use Rattle.byte_machine.specs.Leads.{OpsLead}
 use Rattle.code_ops.specs.Arguments.{free}
 use Rattle.code_ops.specs.Operands.{operand_ops, operand_register}
 use Rattle.code_ops.specs.Uses.{check_ops, arrow_used}
 use Rattle.code_ops.specs.declared.uses.Used.TheVariants.{Views as ViewsWord}
-use Rattle.agree_relation.specs.Worlds.{classes_in, fixed}
+use Rattle.agree_relation.specs.Worlds.{world_classes, fixed}
 use Rattle.agree_relation.specs.Words.{register_word}
 use Rattle.agree_relation.specs.Frames.{HasVariables}
 use Rattle.agree_statements.specs.Registers.{at_registers, body_on}
@@ -51,7 +51,7 @@ polymorphic_dynamic h c a = dynamic_whole h c a.source a.part.part a.part.valid 
 pub record IsSeen {statement : TypedStatement} (scene : Scene statement) (v : Value) (c : ClassId) : Type 0 where
   pub part : ObjectPart
   pub is : v ≡ Pointer part
-  pub made : IsPartMade (classes_in scene.w) scene.s.objects.classes part c
+  pub made : IsPartMade (world_classes scene.w) scene.s.objects.classes part c
   pub is_open : scene.s.objects.is_closed part.object ≡ false
   pub under_view : IsUnder scene.w scene.s.objects scene.b part c
 
@@ -66,16 +66,16 @@ module _ {statement : TypedStatement} (scene : Scene statement) (locals : List V
   open scene use {w, at, s, f, below, body, b}
 
   abbrev v : Value
-  v = value (sight_with scene locals) x
+  v = value_of_operand (sight_with scene locals) x
 
   abbrev from : ℕ
   from = operand_register (free (block scene) 0) x
 
   -- a part that some uses read, guard and view
-  pub seen_part : (us : List Use) (p : ObjectPart) → v ≡ Pointer p → IsPartMade (classes_in w) s.objects.classes p c → IsDynamic (classes_in w) c → ((r : Undefined) → is_broken (classes_in w) s.objects us r ≡ false) → Has us (Reads v) → Has us (Guards v) → Has us (Views v) → IsSeen scene v c
+  pub seen_part : (us : List StatementUse) (p : ObjectPart) → v ≡ Pointer p → IsPartMade (world_classes w) s.objects.classes p c → IsDynamic (world_classes w) c → ((r : Undefined) → is_broken (world_classes w) s.objects us r ≡ false) → Has us (Reads v) → Has us (Guards v) → Has us (Views v) → IsSeen scene v c
   seen_part us p is made dynamic none reads_it guards_it views_it =
-      let h = classes_in w in
-      let clear = λ (u : Use) (has : Has us u) (r : Undefined). unbroken (fixed w) b (Reaches scene) h s.objects us u r (none r) has in
+      let h = world_classes w in
+      let clear = λ (u : StatementUse) (has : Has us u) (r : Undefined). unbroken (fixed w) b (Reaches scene) h s.objects us u r (none r) has in
       let open_there = subst (λ (y : Value). names (λ q. s.objects.is_closed q.object) y ≡ false) is (clear (Reads v) reads_it Dangling) in
       let ready = subst (λ (y : Value). names (is_unready s.objects) y ≡ false) is (clear (Guards v) guards_it NotReady) in
       record {
@@ -87,16 +87,16 @@ module _ {statement : TypedStatement} (scene : Scene statement) (locals : List V
             (subst (λ (y : Value). names (is_outside h s.objects) y ≡ false) is (clear (Views v) views_it OutsideView)) dynamic;
       }
 
-  abbrev followed_uses : List Use
+  abbrev followed_uses : List StatementUse
   followed_uses = arrow v ++ Views v ∷ []
 
   -- `typeid(*p)`
-  pub leads_seen : {ops : List Op} (old : List (Option ℕ)) → IsTypedSight (classes_in w) (scope scene) (sight_with scene locals) → length locals ≡ length body.locals → HasType (scope scene) x (PointerType c) → IsDynamic (classes_in w) c → HasVariables w (here scene) (body_on f locals f.next) old
-      → ((rule : Undefined) → first_broken (classes_in w) s.objects (sorted followed_uses) ≡ Some rule → move_in w s ≡ IsRefused rule statement.line)
-      → ((new : List (Option ℕ)) → IsSeen scene v c → first_broken (classes_in w) s.objects (sorted followed_uses) ≡ None → HasVariables w (here scene) (body_on f locals f.next) new → register_of new from ≡ register_word w (here scene) v → Leads (fixed w) ops (at_registers b new) (Reaches scene))
-      → Leads (fixed w) (operand_ops (free (block scene) 0) x ++ (check_ops (arrow_used (scope scene) (free (block scene) 0) x c ++ (ViewsWord from 0 c.0 ∷ [])) ++ ops)) (at_registers b old) (Reaches scene)
+  pub leads_seen : {ops : List Op} (old : List (Option ℕ)) → IsTypedSight (world_classes w) (scope scene) (sight_with scene locals) → length locals ≡ length body.locals → HasType (scope scene) x (PointerType c) → IsDynamic (world_classes w) c → HasVariables w (here scene) (body_on f locals f.next) old
+      → ((rule : Undefined) → first_broken (world_classes w) s.objects (sorted followed_uses) ≡ Some rule → move_in w s ≡ IsRefused rule statement.line)
+      → ((new : List (Option ℕ)) → IsSeen scene v c → first_broken (world_classes w) s.objects (sorted followed_uses) ≡ None → HasVariables w (here scene) (body_on f locals f.next) new → register_of new from ≡ register_word w (here scene) v → OpsLead (fixed w) ops (at_registers b new) (Reaches scene))
+      → OpsLead (fixed w) (operand_ops (free (block scene) 0) x ++ (check_ops (arrow_used (scope scene) (free (block scene) 0) x c ++ (ViewsWord from 0 c.0 ∷ [])) ++ ops)) (at_registers b old) (Reaches scene)
   leads_seen old sees count has dynamic variables refuses goes =
-      let h = classes_in w in
+      let h = world_classes w in
       let e = scope scene in
       let r = free (block scene) 0 in
       let us = followed_uses in

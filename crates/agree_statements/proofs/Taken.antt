@@ -12,19 +12,19 @@ use Rattle.cxx_program.specs.declared.operand.Variable.TheVariants.{Global, Loca
 use Rattle.cxx_program.specs.declared.statement.TypedStatement.{TypedStatement}
 use Rattle.cxx_program.specs.Typed.{variable_type}
 use Rattle.path_model.specs.Values.{Value}
-use Rattle.path_model.specs.States.{Running as Body, assigned}
+use Rattle.path_model.specs.States.{RunningBody as Body, assigned}
 use Rattle.path_model.specs.Runs.{Moves}
 use Rattle.byte_machine.specs.Frames.{register_of}
 use Rattle.byte_code.specs.declared.op.Op.TheVariants.{Does, Jump}
 use Rattle.byte_machine.specs.declared.turn.RawOut.{RawOut}
 use Rattle.byte_machine.specs.Running.{Running}
-use Rattle.byte_machine.specs.Leads.{Leads}
+use Rattle.byte_machine.specs.Leads.{OpsLead}
 use Rattle.byte_machine.proofs.Leads.{leads_end}
 use Rattle.byte_machine.proofs.ValueLeads.{leads_move, leads_write_global}
 use Rattle.byte_machine.proofs.ControlLeads.{leads_jump}
 use Rattle.code_ops.specs.Operands.{assign_op}
 use Rattle.agree_parts.specs.Heaps.{Heap}
-use Rattle.agree_relation.specs.Worlds.{World, fixed, classes_in}
+use Rattle.agree_relation.specs.Worlds.{World, fixed, world_classes}
 use Rattle.agree_relation.specs.Words.{register_word}
 use Rattle.agree_relation.specs.Frames.{HasVariables}
 use Rattle.agree_relation.specs.Agrees.{ReadAs}
@@ -59,10 +59,10 @@ module _ {statement : TypedStatement} (scene : Scene statement) (locals : List V
 
   pub leads_given : (variable : Variable) (t : ValueType ClassId) (v : Value) (from : ℕ) (old : List (Option ℕ)) → variable_type (scope scene) variable ≡ Some t → length locals ≡ length body.locals → register_of old from ≡ register_word w (here scene) v → HasVariables w (here scene) (body_on f locals f.next) old
       → move_in w s ≡ Moves (assigned (state_on s s.objects s.globals (body_on f locals statement.next) below) variable v) []
-      → Leads (fixed w) (Does (assign_op variable from) ∷ Jump (to_next scene statement.next) ∷ []) (at_registers b old) (Reaches scene)
+      → OpsLead (fixed w) (Does (assign_op variable from) ∷ Jump (to_next scene statement.next) ∷ []) (at_registers b old) (Reaches scene)
   leads_given (Global n) t v from old there count has variables moves =
       let g = here scene in
-      let known = values_count (classes_in w) s.objects.classes s.globals w.setup.program.globals (sees scene).globals in
+      let known = values_count (world_classes w) s.objects.classes s.globals w.setup.program.globals (sees scene).globals in
       let within = slice_get_within w.setup.program.globals n t there in
       let size : length b.globals ≡ length s.globals = ap length scene.begins.stands.globals ∙ length-map s.globals (register_word w g) in
       let words : set b.globals n (register_of old from) ≡ map (register_word w g) (set s.globals n v) = ap (λ (x : Option ℕ). set b.globals n x) has ∙ ap (λ (ws : List (Option ℕ)). set ws n (register_word w g v)) scene.begins.stands.globals ∙ sym (map-set (register_word w g) s.globals n v) in

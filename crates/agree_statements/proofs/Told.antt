@@ -6,16 +6,16 @@ use Rattle.path_model.specs.Values.{Objects}
 use Rattle.path_model.specs.Outs.{location_of, object_class, class_or_first}
 use Rattle.path_model.specs.TypedStates.{IsPartMade}
 use Rattle.byte_memory.specs.declared.memory.Region.{Region}
-use Rattle.abi_sound.specs.Locations.{place_at}
-use Rattle.agree_parts.specs.Heaps.{start_of}
+use Rattle.abi_sound.specs.Locations.{place_along_hops}
+use Rattle.agree_parts.specs.Heaps.{object_start}
 use Rattle.agree_parts.specs.Addresses.{address}
 use Rattle.agree_parts.proofs.Made.{part_at}
-use Rattle.agree_relation.specs.Worlds.{World, classes_in, places_in}
+use Rattle.agree_relation.specs.Worlds.{World, world_classes, places_in}
 use Rattle.agree_relation.specs.Words.{heap_of}
 use Rattle.agree_relation.specs.Agrees.{LiesAt}
 
 -- where a part lies, from the outside
-pub part_lies : (w : World) (s : Objects) (regions : List Region) (p : ObjectPart) (c : ClassId) → IsPartMade (classes_in w) s.classes p c → LiesAt w (heap_of s.classes regions) (location_of s p) (address (classes_in w) (places_in w) (heap_of s.classes regions) p)
+pub part_lies : (w : World) (s : Objects) (regions : List Region) (p : ObjectPart) (c : ClassId) → IsPartMade (world_classes w) s.classes p c → LiesAt w (heap_of s.classes regions) (location_of s p) (address (world_classes w) (places_in w) (heap_of s.classes regions) p)
 part_lies w s regions p c made =
     let class : object_class s p.object ≡ made.class = ap class_or_first made.made in
     let g = heap_of s.classes regions in
@@ -23,5 +23,5 @@ part_lies w s regions p c made =
       object = p.object;
       number = refl;
       class = made.made ∙ ap (λ (d : ClassId). Some d) (sym class);
-      is = part_at (classes_in w) (places_in w) g p c made ∙ ap (λ (d : ClassId). start_of g p.object + place_at (classes_in w) (places_in w) d (hops_of p.owner p.at)) (sym class);
+      is = part_at (world_classes w) (places_in w) g p c made ∙ ap (λ (d : ClassId). object_start g p.object + place_along_hops (world_classes w) (places_in w) d (hops_of p.owner p.at)) (sym class);
     }

@@ -15,12 +15,12 @@ use Rattle.cxx_program.specs.declared.statement.TypedPlace.{TypedPlace}
 use Rattle.cxx_program.specs.declared.statement.TypedStatement.{TypedStatement}
 use Rattle.cxx_program.specs.Typed.{Scope, HasType, IsTyped, writes, IsPlace, IsKept, whole, in_bits, place_width, width_within}
 use Rattle.path_rules.specs.declared.Undefined.TheVariants.{Unset as UnsetUse}
-use Rattle.path_model.specs.Values.{Value, Sight, value, argument_value}
+use Rattle.path_model.specs.Values.{Value, Sight, value_of_operand, argument_value}
 use Rattle.path_model.specs.Places.{leaf_at}
-use Rattle.path_model.specs.Uses.{Use, Reads, argument_uses, place_uses}
+use Rattle.path_model.specs.Uses.{StatementUse, Reads, argument_uses, place_uses}
 use Rattle.path_model.specs.Rules.{is_unset, refused as refused_by}
 use Rattle.path_model.specs.Order.{asked_place}
-use Rattle.path_model.specs.States.{sight, wanted}
+use Rattle.path_model.specs.States.{sight, wanted_result}
 use Rattle.path_model.specs.Effects.{written, leaf_set}
 use Rattle.path_model.specs.Runs.{move_by}
 use Rattle.path_model.specs.TypedStates.{IsValue}
@@ -31,7 +31,7 @@ use Rattle.path_model.proofs.TypedValues.{operand_typed}
 use Rattle.byte_machine.specs.Frames.{register_of}
 use Rattle.byte_code.specs.declared.op.Op.TheVariants.{Jump}
 use Rattle.byte_machine.specs.Running.{moved}
-use Rattle.byte_machine.specs.Leads.{Leads, LeadsBlock}
+use Rattle.byte_machine.specs.Leads.{OpsLead, LeadsBlock}
 use Rattle.byte_machine.proofs.Leads.{leads_end}
 use Rattle.byte_machine.proofs.ControlLeads.{leads_jump}
 use Rattle.code_blocks.specs.Blocks.{statement_ops}
@@ -40,7 +40,7 @@ use Rattle.code_ops.specs.Operands.{operand_ops, operand_register}
 use Rattle.code_ops.specs.PlaceOps.{place_used}
 use Rattle.code_ops.specs.Leaves.{place_leaf, store_op}
 use Rattle.agree_parts.specs.Addresses.{leaf_address}
-use Rattle.agree_relation.specs.Worlds.{classes_in, places_in, fixed}
+use Rattle.agree_relation.specs.Worlds.{world_classes, places_in, fixed}
 use Rattle.agree_relation.specs.Words.{register_word}
 use Rattle.agree_relation.specs.Frames.{HasVariables}
 use Rattle.agree_relation.specs.Agrees.{Agrees}
@@ -96,18 +96,18 @@ module _ (place : TypedPlace) (a : Argument) (line next : ℕ) (scene : Scene (r
   see = sight s f
 
   abbrev v : Value
-  v = value see place.pointer
+  v = value_of_operand see place.pointer
 
-  abbrev uses : List Use
+  abbrev uses : List StatementUse
   uses = asked_place v place ++ argument_uses see a
 
   -- the value is stored, and control goes on
-  stores : (new : List (Option ℕ)) (t : ValueType ClassId) (k : IsAimed scene v place) → IsLeaf scene v place t k → IsValue (classes_in w) s.objects.classes (argument_value see a) t → is_unset (argument_value see a) ≡ false → HasVariables w (here scene) f new
-      → register_of new (free (block scene) 2) ≡ Some (leaf_address (classes_in w) (places_in w) (here scene) (leaf_at k.part place)) → register_of new (free (block scene) 3) ≡ register_word w (here scene) (argument_value see a)
+  stores : (new : List (Option ℕ)) (t : ValueType ClassId) (k : IsAimed scene v place) → IsLeaf scene v place t k → IsValue (world_classes w) s.objects.classes (argument_value see a) t → is_unset (argument_value see a) ≡ false → HasVariables w (here scene) f new
+      → register_of new (free (block scene) 2) ≡ Some (leaf_address (world_classes w) (places_in w) (here scene) (leaf_at k.part place)) → register_of new (free (block scene) 3) ≡ register_word w (here scene) (argument_value see a)
       → move_in w s ≡ move_by (written (state_on s s.objects s.globals (body_on f f.locals next) below) place (argument_value see a) v) None
-      → Leads (fixed w) (store_op (place_leaf w.setup place) (free (block scene) 3) (free (block scene) 2) 0 ∷ Jump (to_next scene next) ∷ []) (at_registers b new) (Reaches scene)
+      → OpsLead (fixed w) (store_op (place_leaf w.setup place) (free (block scene) 3) (free (block scene) 2) 0 ∷ Jump (to_next scene next) ∷ []) (at_registers b new) (Reaches scene)
   stores new t k leaf typed set variables has_place has_value moves =
-      let h = classes_in w in
+      let h = world_classes w in
       let g = here scene in
       let there = leaf_address h (places_in w) g (leaf_at k.part place) in
       let x = argument_value see a in
@@ -124,7 +124,7 @@ module _ (place : TypedPlace) (a : Argument) (line next : ℕ) (scene : Scene (r
 
   pub write_does : LeadsBlock (fixed w) (statement_ops w.setup at (top scene).on.routine body f.next (record { kind = Write place a; line = line; next = next })) b (Agrees w at (move_in w s))
   write_does =
-      let h = classes_in w in
+      let h = world_classes w in
       let e = scope scene in
       let g = here scene in
       let k = written_typed h e place a (kind_typed scene) in
@@ -137,7 +137,7 @@ module _ (place : TypedPlace) (a : Argument) (line next : ℕ) (scene : Scene (r
       let stands = variables scene in
       let pointer_typed = operand_typed h e see (sees scene) place.pointer (PointerType place.class) has in
       let given : IsPlaceAt h see place = (value_of h s.objects v place.class pointer_typed, k.place_typed.path) in
-      let answers = statement_answers h scene.world.hierarchy see (wanted f) scene.next.settled (Write place a) given in
+      let answers = statement_answers h scene.world.hierarchy see (wanted_result f) scene.next.settled (Write place a) given in
       leads_grouped (fixed w) (operand_ops first place.pointer) (argument_front a second) _
       (leads_operand (fixed w) w g s f e b place.pointer (PointerType place.class) first b.top.registers (sees scene) scene.begins.stands.globals stands has (free_in scene f.locals b.top.registers 0 (omega arith) stands)
       (λ mid read. let kept = variables_kept w g f first b.top.registers mid (is_free scene 0) stands read.wrote in
@@ -152,12 +152,12 @@ module _ (place : TypedPlace) (a : Argument) (line next : ℕ) (scene : Scene (r
       let clear : refused_by h s.objects (place_uses see place ++ argument_uses see a) ≡ None = answers.same ∙ fine in
       let aim = aimed_among scene see place (argument_uses see a) refl pointer_typed clear in
       let leaf = leaf_of scene e v place k.type aim k.place_typed in
-      let set = unbroken (fixed w) b (Reaches scene) h s.objects uses (Reads (value see a.operand)) UnsetUse (none UnsetUse) (has_right (asked_place v place) (argument_uses see a) (Reads (value see a.operand)) (inl refl)) in
+      let set = unbroken (fixed w) b (Reaches scene) h s.objects uses (Reads (value_of_operand see a.operand)) UnsetUse (none UnsetUse) (has_right (asked_place v place) (argument_uses see a) (Reads (value_of_operand see a.operand)) (inl refl)) in
       leads_place scene v place k.place_typed.class (leaf_address h (places_in w) g (leaf_at aim.part place)) (free (block scene) 2) from new aim k.place_typed.path k.place_typed.of_class leaf.sum leaf.low pointer_word (free_in scene f.locals new 2 (omega arith) still)
       (λ third wrote is. let after = variables_kept w g f (free (block scene) 2) new third (is_free scene 2) still wrote in
       let argument_word = wrote.other (operand_register second a.operand) (λ same. operand_apart w s f e a.operand t.0 second (free (block scene) 2) (sees scene) t.1 (is_free scene 2) (free_apart scene 1 2 (λ q. omega arith)) same) ∙ read'.word in
       leads_argument scene f.locals uses (place_width h place) a k.type (free (block scene) 3) second third (sees scene) may.0 k.kept (λ u there. has_right (asked_place v place) (argument_uses see a) u there) none argument_word (free_in scene f.locals third 3 (omega arith) after)
       (λ last wrote' is'. let last_variables = variables_kept w g f (free (block scene) 3) third last (is_free scene 3) after wrote' in
-      stores last k.type aim leaf (kept_typed h s.objects.classes e (value see) (λ x u has_type. operand_typed h e see (sees scene) x u has_type) a k.type (place_width h place) may.1 k.kept) (argument_set see a set) last_variables
+      stores last k.type aim leaf (kept_typed h s.objects.classes e (value_of_operand see) (λ x u has_type. operand_typed h e see (sees scene) x u has_type) a k.type (place_width h place) may.1 k.kept) (argument_set see a set) last_variables
       (wrote'.other (free (block scene) 2) (free_apart scene 2 3 (λ q. omega arith)) ∙ is) is' (move_fine w s f below body writing scene.world scene.next given fine refl))))
       (λ rule broken. refused scene rule (at_registers b new) refl (move_refused w s f below body writing scene.world scene.next rule given broken)))))

@@ -1,8 +1,8 @@
 -- Within a block: the running state is the one in which the block began, but for registers of the frame on top.
 use Rattle.std.specs.Prelude.{◌≡◌, ℕ, Option, List, length}
 use Rattle.path_model.specs.Values.{Value}
-use Rattle.path_model.specs.States.{Running as Body}
-use Rattle.byte_machine.specs.Frames.{Frame, register_of}
+use Rattle.path_model.specs.States.{RunningBody as Body}
+use Rattle.byte_machine.specs.Frames.{MachineFrame, register_of}
 use Rattle.byte_machine.specs.Running.{Running}
 
 -- the same with other registers
@@ -18,5 +18,5 @@ pub record Wrote (r : ℕ) (old new : List (Option ℕ)) : Type 0 where
 abbrev pub body_on : Body → List Value → ℕ → Body
 body_on f locals next = record f { locals = locals; next = next }
 
-abbrev pub frame_on : Frame → List (Option ℕ) → ℕ → Frame
+abbrev pub frame_on : MachineFrame → List (Option ℕ) → ℕ → MachineFrame
 frame_on b registers block = record b { registers = registers; block = block }

@@ -7,7 +7,7 @@ use Rattle.cxx_subobject.specs.Locations.{ObjectPart}
 use Rattle.path_model.specs.Values.{inner_part}
 use Rattle.agree_parts.specs.Heaps.{Heap}
 use Rattle.byte_memory.specs.Store.{Store}
-use Rattle.agree_relation.specs.Worlds.{World, classes_in}
+use Rattle.agree_relation.specs.Worlds.{World, world_classes}
 use Rattle.agree_views.specs.Views.{IsStandingView}
 
 -- the part p, of class c, is a subobject of a view whose virtual pointers stand in memory
@@ -17,6 +17,6 @@ pub record IsSeenFrom (w : World) (g : Heap) (memory : Store) (p : ObjectPart) (
   pub complete : ClassId
   pub stands : IsStandingView w g memory view view_class complete
   pub inner : Subobject
-  pub valid : IsSubobject (classes_in w) view_class inner
+  pub valid : IsSubobject (world_classes w) view_class inner
   pub of_class : class_of inner ≡ Some c
   pub is : inner_part view inner ≡ p

@@ -18,15 +18,15 @@ use Rattle.cxx_program.specs.declared.statement.TypedKind.TheVariants.{Declare, 
 use Rattle.cxx_program.specs.declared.statement.TypedRight.{TypedRight}
 use Rattle.cxx_program.specs.declared.statement.TypedRight.TheVariants.{Call as CallRight, New}
 use Rattle.cxx_program.specs.declared.statement.TypedStatement.{TypedStatement}
-use Rattle.path_model.specs.States.{State, Running as Body, Frame as PathFrame, InBody, body_of}
+use Rattle.path_model.specs.States.{ProgramState, RunningBody as Body, Frame as PathFrame, InBody, owned_body}
 use Rattle.path_model.specs.TypedStates.{IsPartMade, IsTypedState}
 use Rattle.path_model.specs.Typed.{AllSettled}
-use Rattle.byte_machine.specs.Frames.{Frame}
+use Rattle.byte_machine.specs.Frames.{MachineFrame}
 use Rattle.byte_machine.specs.Running.{Running}
 use Rattle.byte_machine.specs.Turn.{stepping}
-use Rattle.agree_relation.specs.Worlds.{World, classes_in}
-use Rattle.agree_relation.specs.Frames.{Numbers}
-use Rattle.agree_relation.specs.Stands.{Stands}
+use Rattle.agree_relation.specs.Worlds.{World, world_classes}
+use Rattle.agree_relation.specs.Frames.{PlaceNumbers}
+use Rattle.agree_relation.specs.Stands.{StateStands}
 
 -- what is ready lies in a complete object that has a view, and what it is a base of, by a path through no virtual base, has begun
 pub record AreSeen (h : Classes) (s : Objects) : Type 0 where
@@ -34,18 +34,18 @@ pub record AreSeen (h : Classes) (s : Objects) : Type 0 where
   pub around : (p : ObjectPart) (c target : ClassId) (i t : Subobject) → IsPartMade h s.classes p c → is_unready s p ≡ false → IsSubobject h target i → i.root ≡ Whole → derived_of h s target i p ≡ Some t → s.phases.phase (part p.object p.owner t) ≡ Raw → ⊥
 
 -- a body is on top, and the statement is its next one
-pub record IsNext (w : World) (s : State) (f : Body) (below : List PathFrame) (body : TypedBody) (statement : TypedStatement) : Type 0 where
+pub record IsNext (w : World) (s : ProgramState) (f : Body) (below : List PathFrame) (body : TypedBody) (statement : TypedStatement) : Type 0 where
   pub frames : s.frames ≡ InBody f ∷ below
-  pub there : body_of w.setup.program f.owner ≡ Some body
+  pub there : owned_body w.setup.program f.owner ≡ Some body
   pub here : slice_get body.statements f.next ≡ Some statement
-  pub typed : IsTypedState (classes_in w) w.setup.program s
-  pub settled : AllSettled (classes_in w) s.objects
-  pub seen : AreSeen (classes_in w) s.objects
+  pub typed : IsTypedState (world_classes w) w.setup.program s
+  pub settled : AllSettled (world_classes w) s.objects
+  pub seen : AreSeen (world_classes w) s.objects
 
 -- a block begins where a byte state stands for the state, and nothing was told; the frame on top has stepped to the block behind
-pub record BeginsAt (w : World) (at : Numbers) (s : State) (b : Running) : Type 0 where
-  pub top : Frame
-  pub stands : Stands w at s b.memory b.objects b.heap b.notes b.globals (top ∷ b.below) b.calls
+pub record BeginsBlock (w : World) (at : PlaceNumbers) (s : ProgramState) (b : Running) : Type 0 where
+  pub top : MachineFrame
+  pub stands : StateStands w at s b.memory b.objects b.heap b.notes b.globals (top ∷ b.below) b.calls
   pub stepped : b.top ≡ stepping top
   pub opened : b.opened ≡ []
   pub silent : b.outs ≡ []
@@ -61,11 +61,11 @@ is_plain_value None = true
 is_plain_value (Some x) = is_plain_right x.right
 
 -- a statement whose block alone is its step: it opens and closes no frame, and copies no part
-abbrev pub is_plain : TypedKind → Bool
-is_plain (Declare n x) = is_plain_value x
-is_plain (Assign variable x) = is_plain_right x.right
-is_plain (Copy to from c) = false
-is_plain (Call call) = false
-is_plain (Delete x c) = false
-is_plain (Return x) = false
-is_plain other = true
+abbrev pub is_plain_statement : TypedKind → Bool
+is_plain_statement (Declare n x) = is_plain_value x
+is_plain_statement (Assign variable x) = is_plain_right x.right
+is_plain_statement (Copy to from c) = false
+is_plain_statement (Call call) = false
+is_plain_statement (Delete x c) = false
+is_plain_statement (Return x) = false
+is_plain_statement other = true

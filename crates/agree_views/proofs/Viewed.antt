@@ -18,7 +18,7 @@ use Rattle.abi_slots.specs.Groups.{IsGroup}
 use Rattle.abi_slots.specs.Images.{HasInfo}
 use Rattle.abi_slots.specs.Views.{View, IsView}
 use Rattle.abi_slots.specs.Seen.{PlacedTables, IsPointOf}
-use Rattle.abi_vtt.specs.Vtts.{has_virtual, is_filled}
+use Rattle.abi_vtt.specs.Vtts.{has_vtt, is_filled}
 use Rattle.abi_tables.specs.Tables.{names_to}
 use Rattle.agree_parts.specs.Heaps.{Heap}
 use Rattle.agree_parts.specs.Addresses.{address}
@@ -29,9 +29,9 @@ use Rattle.agree_parts.proofs.Sums.{in_view}
 use Rattle.byte_memory.specs.Store.{Store}
 use Rattle.byte_code.specs.Images.{word_at}
 use Rattle.byte_machine.specs.Running.{table_of}
-use Rattle.agree_relation.specs.Worlds.{World, IsWorld, classes_in, places_in}
+use Rattle.agree_relation.specs.Worlds.{World, IsProgramWorld, world_classes, places_in}
 use Rattle.agree_relation.specs.Columns.{group_view, ArePlacedFor}
-use Rattle.agree_dispatch.specs.Standing.{IsViewAt, LieAlike, ArePointed, part_at}
+use Rattle.agree_dispatch.specs.Standing.{IsViewAt, LieAlike, ArePointed, address_in_object}
 use Rattle.agree_dispatch.proofs.Viewing.{lie_alone, seen_placed}
 use Rattle.agree_views.specs.Views.{IsStandingView}
 
@@ -40,7 +40,7 @@ abbrev pub placed_in : World → ℕ → Group → PlacedTables
 placed_in w number group = record { image = word_at w.image; codes = w.numbers; info = w.addresses.info; tables = group.tables; at = w.addresses.group number }
 
 -- the class numbers of records
-pub info_there : (w : World) → IsWorld w → (c : ClassId) → c.0 < length (classes_in w) → (t : TypeInfo) × HasInfo (word_at w.image) w.addresses.info c t (w.addresses.info c)
+pub info_there : (w : World) → IsProgramWorld w → (c : ClassId) → c.0 < length (world_classes w) → (t : TypeInfo) × HasInfo (word_at w.image) w.addresses.info c t (w.addresses.info c)
 info_there w is c known =
     let size = is.tables.one_info_each in
     let t = get_or w.infos c.0 Plain in
@@ -49,26 +49,26 @@ info_there w is c known =
 module _ (w : World) (g : Heap) (memory : Store) (q : ObjectPart) (c d : ClassId) (v : IsStandingView w g memory q c d) where
   -- where the complete object starts
   abbrev pub start : ℕ
-  start = address (classes_in w) (places_in w) g (part q.object q.owner (whole_of d))
+  start = address (world_classes w) (places_in w) g (part q.object q.owner (whole_of d))
 
-  pub owner : owner_class (classes_in w) g.classes q.object q.owner ≡ Some d
-  owner = whole_owner (classes_in w) g (part q.object q.owner (whole_of d)) d v.complete refl
+  pub owner : owner_class (world_classes w) g.classes q.object q.owner ≡ Some d
+  owner = whole_owner (world_classes w) g (part q.object q.owner (whole_of d)) d v.complete refl
 
-  pub valid : IsSubobject (classes_in w) d q.at
+  pub valid : IsSubobject (world_classes w) d q.at
   valid =
-      let o = owner_there (classes_in w) g q c v.made in
+      let o = owner_there (world_classes w) g q c v.made in
       let both : Some o.0 ≡ Some d = sym o.1 ∙ owner in
       let same : o.0 ≡ d = cc in
-      subst (λ (e : ClassId). IsSubobject (classes_in w) e q.at) same o.2
+      subst (λ (e : ClassId). IsSubobject (world_classes w) e q.at) same o.2
 
-  pub complete_known : d.0 < length (classes_in w)
-  complete_known = known_class (classes_in w) w.setup.rows g (part q.object q.owner (whole_of d)) d v.laid v.complete
+  pub complete_known : d.0 < length (world_classes w)
+  complete_known = known_class (world_classes w) w.setup.rows g (part q.object q.owner (whole_of d)) d v.laid v.complete
 
-  pub class_known : c.0 < length (classes_in w)
-  class_known = known_class (classes_in w) w.setup.rows g q c v.laid v.made
+  pub class_known : c.0 < length (world_classes w)
+  class_known = known_class (world_classes w) w.setup.rows g q c v.laid v.made
 
-  pub part_address : (s : Subobject) → IsSubobject (classes_in w) c s → address (classes_in w) (places_in w) g (inner_part q s) ≡ part_at (places_in w) d (address (classes_in w) (places_in w) g (part q.object q.owner (whole_of d))) q.at s
-  part_address s there = in_view (classes_in w) w.setup.rows g q c d s v.made owner there
+  pub part_address : (s : Subobject) → IsSubobject (world_classes w) c s → address (world_classes w) (places_in w) g (inner_part q s) ≡ address_in_object (places_in w) d (address (world_classes w) (places_in w) g (part q.object q.owner (whole_of d))) q.at s
+  part_address s there = in_view (world_classes w) w.setup.rows g q c d s v.made owner there
 
   -- the view whose group serves the part, as one of class c
   pub record HasView : Type 0 where
@@ -76,19 +76,19 @@ module _ (w : World) (g : Heap) (memory : Store) (q : ObjectPart) (c d : ClassId
     pub at_sub : Subobject
     pub number : ℕ
     pub group : Group
-    pub stands : IsViewAt (classes_in w) w.setup.rows w.image memory d (address (classes_in w) (places_in w) g (part q.object q.owner (whole_of d))) q.at (record { complete = complete; at_sub = at_sub; class = c }) (placed_in w number group)
+    pub stands : IsViewAt (world_classes w) w.setup.rows w.image memory d (address (world_classes w) (places_in w) g (part q.object q.owner (whole_of d))) q.at (record { complete = complete; at_sub = at_sub; class = c }) (placed_in w number group)
 
   -- the group of a name
-  group_named : (number : ℕ) (group : Group) → slice_get w.groups number ≡ Some group → IsGroup (classes_in w) (places_in w) group
+  group_named : (number : ℕ) (group : Group) → slice_get w.groups number ≡ Some group → IsGroup (world_classes w) (places_in w) group
   group_named number group there =
       let are = v.world.tables.groups in
-      let name = also_there w.groups (names_to (classes_in w) (length (classes_in w))) number group (sym are.size) there in
+      let name = also_there w.groups (names_to (world_classes w) (length (world_classes w))) number group (sym are.size) there in
       (are.each number name.0 group name.1 there).group
 
-  viewed : (e : ClassId) (s : Subobject) → group_view w d q.at c ≡ record { complete = e; at_sub = s; class = c } → IsView (classes_in w) (record { complete = e; at_sub = s; class = c }) →
-      LieAlike (classes_in w) (places_in w) d (address (classes_in w) (places_in w) g (part q.object q.owner (whole_of d))) q.at (record { complete = e; at_sub = s; class = c }) → HasView
+  viewed : (e : ClassId) (s : Subobject) → group_view w d q.at c ≡ record { complete = e; at_sub = s; class = c } → IsView (world_classes w) (record { complete = e; at_sub = s; class = c }) →
+      LieAlike (world_classes w) (places_in w) d (address (world_classes w) (places_in w) g (part q.object q.owner (whole_of d))) q.at (record { complete = e; at_sub = s; class = c }) → HasView
   viewed e s is view alike =
-      let h = classes_in w in
+      let h = world_classes w in
       let l = places_in w in
       let x : View = record { complete = e; at_sub = s; class = c } in
       let p = v.pointers in
@@ -129,9 +129,9 @@ module _ (w : World) (g : Heap) (memory : Store) (q : ObjectPart) (c d : ClassId
   none_filled (x ∷ xs) e = cc
 
   pub has_view : HasView
-  has_view = by_virtual (has_virtual (classes_in w) c) refl
+  has_view = by_virtual (has_vtt (world_classes w) c) refl
     where
-      by_virtual : (b : Bool) → has_virtual (classes_in w) c ≡ b → HasView
+      by_virtual : (b : Bool) → has_vtt (world_classes w) c ≡ b → HasView
       by_virtual true e =
           let own : View = record { complete = d; at_sub = q.at; class = c } in
           let alone : View = record { complete = c; at_sub = whole_of c; class = c } in
@@ -140,4 +140,4 @@ module _ (w : World) (g : Heap) (memory : Store) (q : ObjectPart) (c d : ClassId
           let own : View = record { complete = d; at_sub = q.at; class = c } in
           let alone : View = record { complete = c; at_sub = whole_of c; class = c } in
           viewed c (whole_of c) (ap (λ b. if b then own else alone) e) (record { known = class_known; valid = whole [] tt; of_class = refl; dynamic = v.dynamic })
-          (lie_alone (classes_in w) w.setup.rows d c start q.at v.world.hierarchy valid v.made.of_class (none_filled (virtual_bases (classes_in w) c) e))
+          (lie_alone (world_classes w) w.setup.rows d c start q.at v.world.hierarchy valid v.made.of_class (none_filled (virtual_bases (world_classes w) c) e))

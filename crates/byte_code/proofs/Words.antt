@@ -6,11 +6,11 @@ use Rattle.std.proofs.Math.Nat.{mod-eq_of_lt, div-add-mod, mod-lt, mul-pos, div-
 use Rattle.std.proofs.lemmas.Nat.{mod-mul-add, pow-add}
 use Rattle.byte_code.specs.declared.width.Width.{Width}
 use Rattle.byte_code.specs.declared.width.BitWidth.{BitWidth}
-use Rattle.byte_code.specs.Numbers.{signed_in, low_in, IsWithin, signed_of, low_of, word_of, number_of, extended, IsInBytes, IsInRange, low_bits, number_of_bits, extended_bits, IsInBits}
+use Rattle.byte_code.specs.Numbers.{signed_in, low_in, FitsRange, signed_of, low_of, word_of, number_of_word, extended, IsInBytes, FitsInWidth, low_bits, number_of_bits, extended_bits, IsInBits}
 use Rattle.byte_code.proofs.Pow.{pow_pos, bit_pos}
 
 -- a number modulo a range reads back as it, where it is within the range
-signed_in-low_in : (range : ℕ) (signed : Bool) (number : ℤ) → IsWithin range signed number → signed_in range signed (low_in range number) ≡ number
+signed_in-low_in : (range : ℕ) (signed : Bool) (number : ℤ) → FitsRange range signed number → signed_in range signed (low_in range number) ≡ number
 signed_in-low_in range false (pos a) fits = ap pos (mod-eq_of_lt fits)
 signed_in-low_in range false (negsuc a) fits = absurd fits
 signed_in-low_in range true (pos a) fits =
@@ -62,12 +62,12 @@ word_of-low n (negsuc a) small =
     subst (λ w. (w - 1 - a % w) % 256 ^ n ≡ 256 ^ n - 1 - a % 256 ^ n) (word_split n small) (rest_of_multiple (256 ^ (8 - n)) (256 ^ n) a (pow_pos n) (pow_pos (8 - n)))
 
 -- a word reads as the number in range that it stands for
-pub number_of-word_of : (width : Width) (number : ℤ) → width.bytes ≤ 8 → IsInRange width number → number_of width (word_of number) ≡ number
+pub number_of-word_of : (width : Width) (number : ℤ) → width.bytes ≤ 8 → FitsInWidth width number → number_of_word width (word_of number) ≡ number
 number_of-word_of width number small fits =
     ap (λ low. signed_of width.bytes width.signed low) (word_of-low width.bytes number small) ∙ signed_of-low_of width.bytes width.signed number fits
 
 -- loaded bytes of a number in range are extended to its word
-pub extended-low_of : (width : Width) (number : ℤ) → IsInRange width number → extended width (low_of width.bytes number) ≡ word_of number
+pub extended-low_of : (width : Width) (number : ℤ) → FitsInWidth width number → extended width (low_of width.bytes number) ≡ word_of number
 extended-low_of width number fits = ap word_of (signed_of-low_of width.bytes width.signed number fits)
 
 -- 2 ^ 64 is a multiple of the range of each number of bits

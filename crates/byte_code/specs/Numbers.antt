@@ -13,11 +13,11 @@ low_in range (pos a) = a % range
 low_in range (negsuc a) = range - 1 - a % range
 
 -- the number is one that a number below the range stands for
-abbrev pub IsWithin : ℕ → Bool → ℤ → Type 0
-IsWithin range false (pos a) = a < range
-IsWithin range false (negsuc a) = ⊥
-IsWithin range true (pos a) = 2 * a < range
-IsWithin range true (negsuc a) = 2 * suc a ≤ range
+abbrev pub FitsRange : ℕ → Bool → ℤ → Type 0
+FitsRange range false (pos a) = a < range
+FitsRange range false (negsuc a) = ⊥
+FitsRange range true (pos a) = 2 * a < range
+FitsRange range true (negsuc a) = 2 * suc a ≤ range
 
 -- bytes
 
@@ -34,8 +34,8 @@ abbrev pub word_of : ℤ → ℕ
 word_of number = low_of 8 number
 
 -- the number that the low bytes of a word stand for
-abbrev pub number_of : Width → ℕ → ℤ
-number_of width word = signed_of width.bytes width.signed (word % 256 ^ width.bytes)
+abbrev pub number_of_word : Width → ℕ → ℤ
+number_of_word width word = signed_of width.bytes width.signed (word % 256 ^ width.bytes)
 
 -- the word of the number that the bytes stand for
 abbrev pub extended : Width → ℕ → ℕ
@@ -43,11 +43,11 @@ extended width low = word_of (signed_of width.bytes width.signed low)
 
 -- the number can stand in n bytes
 abbrev pub IsInBytes : ℕ → Bool → ℤ → Type 0
-IsInBytes n signed number = IsWithin (256 ^ n) signed number
+IsInBytes n signed number = FitsRange (256 ^ n) signed number
 
 -- the number can stand in the bytes of a width
-abbrev pub IsInRange : Width → ℤ → Type 0
-IsInRange width number = IsInBytes width.bytes width.signed number
+abbrev pub FitsInWidth : Width → ℤ → Type 0
+FitsInWidth width number = IsInBytes width.bytes width.signed number
 
 -- bits
 
@@ -69,4 +69,4 @@ extended_bits width low = word_of (signed_bits width low)
 
 -- the number can stand in the bits of a width
 abbrev pub IsInBits : BitWidth → ℤ → Type 0
-IsInBits width number = IsWithin (2 ^ width.bits) width.signed number
+IsInBits width number = FitsRange (2 ^ width.bits) width.signed number

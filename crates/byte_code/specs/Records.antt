@@ -36,7 +36,7 @@ pub record IsInfoAt (image : ℕ → Option ℕ) (at : ℕ) (info : InfoRecord) 
   pub first : image (at + 24) ≡ Some info.first
 
 -- a base in the record of a class: the address of its own record, and where it lies and what it is
-pub record IsBaseAt (image : ℕ → Option ℕ) (at : ℕ) (base : BaseRecord) : Type 0 where
+pub record HasBaseRecord (image : ℕ → Option ℕ) (at : ℕ) (base : BaseRecord) : Type 0 where
   pub info : image at ≡ Some base.info
   pub offset_flags : HasSigned image (at + 8) base.offset_flags
 
@@ -52,7 +52,7 @@ pub record IsThunkAt (image : ℕ → Option ℕ) (at : ℕ) (thunk : ThunkRecor
 pub record IsClearOf (image : ℕ → Option ℕ) (infos : List ℕ) (at info_at : ℕ) : Type 0 where
   pub info : InfoRecord
   pub there : IsInfoAt image info_at info
-  pub bases : (i : ℕ) → i < info.bases → (base : BaseRecord) × IsBaseAt image (info.first + 16 * i) base × Contains infos base.info
+  pub bases : (i : ℕ) → i < info.bases → (base : BaseRecord) × HasBaseRecord image (info.first + 16 * i) base × Contains infos base.info
   pub apart : (i : ℕ) → i < info.bases → (at + 8 ≤ info.first + 16 * i) ⊎ (info.first + 16 * i + 16 ≤ at)
 
 -- a word of the directory, of a table or of a VTT: no record of a base has a byte of it, where the records of classes stand at the

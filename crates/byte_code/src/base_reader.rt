@@ -3,7 +3,7 @@
 ghost use Rattle.std.specs.Prelude.{◌≡◌, ◌<◌, ◌^◌, ◌+◌, ◌*◌, ℕ, Some, true};
 ghost use Rattle.byte_code.specs.Numbers.{signed_of, word_of};
 ghost use Rattle.byte_code.specs.Images.{word_at};
-ghost use Rattle.byte_code.specs.Records.{IsInfoAt, IsBaseAt, IsTableWord};
+ghost use Rattle.byte_code.specs.Records.{IsInfoAt, HasBaseRecord, IsTableWord};
 ghost use Rattle.byte_code.specs.Readers.{image_of, visits_of, raised};
 ghost use Rattle.byte_code.specs.declared.image.InfoRecord.{InfoRecord};
 ghost use Rattle.byte_code.specs.declared.image.BaseRecord.{BaseRecord};
@@ -55,7 +55,7 @@ impl BaseReader<'_> {
     pub fn base(&mut self, info: &InfoRecord, i: u32) -> BaseRecord
         requires number { i < info.now.bases }
         requires low { info.now.first + 16 * i < 2 ^ 64 }
-        ensures record { (r : BaseRecord) → IsBaseAt (word_at (image_of self.old)) (info.now.first + 16 * i) r → result ≡ r }
+        ensures record { (r : BaseRecord) → HasBaseRecord (word_at (image_of self.old)) (info.now.first + 16 * i) r → result ≡ r }
         ensures visits { visits_of self.new ≡ raised (visits_of self.old) }
         ensures image { image_of self.new ≡ image_of self.old }
     {

@@ -2,8 +2,8 @@
 
 ghost use Rattle.std.specs.Prelude.{◌≡◌, ◌<◌, ◌^◌, ◌+◌, ℕ, Some, true};
 ghost use Rattle.byte_code.specs.Numbers.{signed_of, word_of};
-ghost use Rattle.byte_code.specs.Images.{number_at, word_at};
-ghost use Rattle.byte_code.specs.Records.{IsEntryAt, IsInfoAt, IsBaseAt, IsThunkAt, not_zero};
+ghost use Rattle.byte_code.specs.Images.{image_number_at, word_at};
+ghost use Rattle.byte_code.specs.Records.{IsEntryAt, IsInfoAt, HasBaseRecord, IsThunkAt, not_zero};
 ghost use Rattle.byte_code.specs.declared.image.EntryRecord.{EntryRecord};
 ghost use Rattle.byte_code.specs.declared.image.InfoRecord.{InfoRecord};
 ghost use Rattle.byte_code.specs.declared.image.BaseRecord.{BaseRecord};
@@ -50,9 +50,9 @@ pub struct ThunkRecord {
 }
 
 /// The number whose eight bytes stand from an index on, the lowest first; none where there are fewer.
-#[tactic(auto, unfolding(crate::specs::Images::number_at))]
+#[tactic(auto, unfolding(crate::specs::Images::image_number_at))]
 pub fn number_at(bytes: &[u8], at: u128) -> Option<u64>
-    ensures { result ≡ number_at bytes.now at }
+    ensures { result ≡ image_number_at bytes.now at }
 {
     if at > bytes.len() as u128 {
         return None;
@@ -164,7 +164,7 @@ impl ImageBytes {
 
     /// The direct base that stands at an address. Where none stands there, what is given is not said.
     pub fn base(&self, at: u64) -> BaseRecord
-        ensures { (r : BaseRecord) → IsBaseAt (word_at self.now) at r → result ≡ r }
+        ensures { (r : BaseRecord) → HasBaseRecord (word_at self.now) at r → result ≡ r }
     {
         BaseRecord {
             info: self.number_or_zero(at, 0),

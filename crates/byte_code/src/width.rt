@@ -1,7 +1,7 @@
 //! How many bytes or bits a number takes, and how they are read.
 
 ghost use Rattle.std.specs.Prelude.{◌≡◌, ◌+◌, ◌%◌, ◌<◌, ◌≤◌, ◌^◌};
-ghost use Rattle.byte_code.specs.Numbers.{number_of, extended, extended_bits};
+ghost use Rattle.byte_code.specs.Numbers.{number_of_word, extended, extended_bits};
 
 /// A width of 1, 2, 4 or 8 bytes, read as two's complement or as an unsigned number.
 #[derive(Clone, Copy, Debug, PartialEq, Eq)]
@@ -54,7 +54,7 @@ impl Width {
     #[tactic(auto, using(crate::proofs::Pow::pow_word, crate::proofs::Pow::pow_pos))]
     pub fn number(self, word: u64) -> i128
         requires { self.bytes ≤ 8 }
-        ensures { result ≡ number_of self word }
+        ensures { result ≡ number_of_word self word }
     {
         let low = self.low(word);
         let greatest = self.greatest();

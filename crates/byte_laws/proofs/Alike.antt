@@ -11,7 +11,7 @@ use Rattle.byte_machine.specs.declared.turn.MachineTurn.TheVariants.{Refused}
 use Rattle.byte_machine.specs.Running.{Fixed, Running, Stop, Answers, Returned, Effect, Goes, Asks, Casts, Tells, Stops, Stuck}
 use Rattle.byte_machine.specs.Calls.{made_at}
 use Rattle.byte_machine.specs.Plans.{with_notes}
-use Rattle.byte_machine.specs.Runs.{Follows}
+use Rattle.byte_machine.specs.Runs.{MayLeadTo}
 use Rattle.byte_laws.specs.Notes.{IsFront, is_refusal}
 
 -- fronts
@@ -99,7 +99,7 @@ made_grows f was s new size class block result at stays k =
     }
 
 -- where an effect leads is later
-pub follow_grows : (f : Fixed) (was : Past) {e d : Effect} → Alike was e d → (s new : Running) (stop : Stop) (rest : Running → Type 0) → ((mid : Running) → rest mid → Grows (past mid) new) → Follows f e s new stop rest → Grows was new
+pub follow_grows : (f : Fixed) (was : Past) {e d : Effect} → Alike was e d → (s new : Running) (stop : Stop) (rest : Running → Type 0) → ((mid : Running) → rest mid → Grows (past mid) new) → MayLeadTo f e s new stop rest → Grows was new
 follow_grows f was (goes at n stays) s new stop rest grow r = grows_trans was at new (stays_grow was at stays) (grow at r)
 follow_grows f was (makes g at n size class block result stays) s new stop rest grow r = made_grows g was at new size class block result r.0 stays (grow (made_at g at size class block result r.0) r.1.1)
 follow_grows f was (casts at class target hint h) s new stop rest grow r = follow_grows f was (h r.0) s new stop rest grow r.1.1
@@ -139,14 +139,14 @@ is_refused_by : (stop : Stop) (rule line : ℕ) → stop ≡ Answers (Refused ru
 is_refused_by stop rule line e = subst IsRefused (sym e) refl
 
 -- alike effects end alike
-pub follow_alike : (f : Fixed) (was : Past) {e d : Effect} → Alike was e d → (all : List Opened) (s : Running) (n : Notes) (new new' : Running) (stop stop' : Stop) (rest rest' : Running → Type 0) → Meet all new new' stop stop' rest rest' → Follows f e s new stop rest → Follows f d (with_notes s n) new' stop' rest' → EndAlike new new' stop stop'
+pub follow_alike : (f : Fixed) (was : Past) {e d : Effect} → Alike was e d → (all : List Opened) (s : Running) (n : Notes) (new new' : Running) (stop stop' : Stop) (rest rest' : Running → Type 0) → Meet all new new' stop stop' rest rest' → MayLeadTo f e s new stop rest → MayLeadTo f d (with_notes s n) new' stop' rest' → EndAlike new new' stop stop'
 follow_alike f was (goes at m stays) all s n new new' stop stop' rest rest' k r r' = k.ends at m r r'
 follow_alike f was (makes g at m size class block result stays) all s n new new' stop stop' rest rest' k r r' =
     let one : r.0 ≡ r'.0 = one_next at.objects _ _ all (front_trans _ _ _ (k.grows _ r.1.1).objects k.front) (front_trans _ _ _ (k.grows' _ r'.1.1).objects k.front') in
     k.ends (made_at g at size class block result r.0) m r.1.1 (subst (λ a. rest' (made_at g (with_notes at m) size class block result a)) (sym one) r'.1.1)
 follow_alike f was (casts at class target hint {next} {next'} h) all s n new new' stop stop' rest rest' k r r' =
     let one : r.0 ≡ r'.0 = one_result (word_at f.image) s.memory at class target r.0 r'.0 r.1.0 r'.1.0 in
-    follow_alike f was (h r.0) all s n new new' stop stop' rest rest' k r.1.1 (subst (λ a. Follows f (next' a) (with_notes s n) new' stop' rest') (sym one) r'.1.1)
+    follow_alike f was (h r.0) all s n new new' stop stop' rest rest' k r.1.1 (subst (λ a. MayLeadTo f (next' a) (with_notes s n) new' stop' rest') (sym one) r'.1.1)
 follow_alike f was (tells_left view_at view_class at class h) all s n new new' stop stop' rest rest' k r r' = follow_alike f was (h r.0) all s n new new' stop stop' rest rest' k r.1.1 r'
 follow_alike f was (tells_right view_at view_class at class h) all s n new new' stop stop' rest rest' k r r' = follow_alike f was (h r'.0) all s n new new' stop stop' rest rest' k r r'.1.1
 follow_alike f was (stops at m reason stays) all s n new new' stop stop' rest rest' k r r' = both_alike (rw (r.0, r'.0) refl) (r.1 ∙ sym r'.1)

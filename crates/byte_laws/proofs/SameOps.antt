@@ -11,9 +11,9 @@ use Rattle.byte_code.specs.Images.{word_at}
 use Rattle.byte_code.specs.Numbers.{extended, extended_bits}
 use Rattle.byte_shadow.specs.Shadows.{Notes}
 use Rattle.byte_machine.specs.declared.turn.MachineTurn.TheVariants.{Ended}
-use Rattle.byte_machine.specs.Frames.{Frame}
+use Rattle.byte_machine.specs.Frames.{MachineFrame}
 use Rattle.byte_machine.specs.Running.{Fixed, Running, Answers, moved, register, table_word}
-use Rattle.byte_machine.specs.Plans.{word_bytes, owner_of, with_notes}
+use Rattle.byte_machine.specs.Plans.{word_offset, frame_owner, with_notes}
 use Rattle.byte_machine.specs.Calls.{nothing_used}
 use Rattle.byte_machine.specs.Effects.{bytes_before, or_null, finish_effect, jumping, jumped_if, call_told, traced, effect_of}
 use Rattle.byte_laws.proofs.Alike.{past, still, Alike, goes, casts, stops, stuck_both}
@@ -25,7 +25,7 @@ use Rattle.byte_laws.proofs.SamePlans.{part_opened_alike, table_set_alike, part_
 finish_alike : (f : Fixed) (finish : Finish) (s : Running) (n : Notes) → Alike (past s) (finish_effect f finish s) (finish_effect f finish (with_notes s n))
 finish_alike f (CheckOp test) s n = checked_alike f test s n
 finish_alike f (Add to base offset) s n = passed_alike s n to (register s base) (λ at. put_alike s n to _)
-finish_alike f (AddVbase to base word) s n = passed_alike s n to (register s base) (λ at. with_word_alike (table_word f.image s.memory at (word_bytes word)) (λ by. put_alike s n to _))
+finish_alike f (AddVbase to base word) s n = passed_alike s n to (register s base) (λ at. with_word_alike (table_word f.image s.memory at (word_offset word)) (λ by. put_alike s n to _))
 finish_alike f (Convert to from kind) s n = converted_alike s n to kind (register s from)
 finish_alike f (Move to from) s n = put_alike s n to (register s from)
 finish_alike f (WriteGlobal global from) s n = global_written_alike s n global (register s from)
@@ -34,7 +34,7 @@ jumped_alike : (s : Running) (n : Notes) (block word : ℕ) → Alike (past s) (
 jumped_alike s n block zero = goes s n still
 jumped_alike s n block (suc word) = goes (jumping block s) n still
 
-call_alike : (s : Running) (n : Notes) (opened : List Frame) → Alike (past s) (call_told s opened) (call_told (with_notes s n) opened)
+call_alike : (s : Running) (n : Notes) (opened : List MachineFrame) → Alike (past s) (call_told s opened) (call_told (with_notes s n) opened)
 call_alike s n [] = stuck_both
 call_alike s n (frame ∷ frames) = with_word_alike _ (λ this. telling_alike s n _)
 
@@ -66,9 +66,9 @@ effect_alike f (DeleteEntry this entry) s n = with_word_alike (register s this) 
 effect_alike f (DeleteCode this block) s n = with_word_alike (register s this) (λ at. deleted_alike s n at (code_called_alike f s n block [] nothing_used at))
 effect_alike f (Open how) s n = with_word_alike (register s 0) (λ this. part_opened_alike f s n how how.count this)
 effect_alike f (SetTable how) s n = with_word_alike (register s 0) (λ this. table_set_alike f s n how this)
-effect_alike f (Begin class owner) s n = with_word_alike (register s 0) (λ this. part_begun_alike s n class (owner_of s.top.handed owner this class) this)
+effect_alike f (Begin class owner) s n = with_word_alike (register s 0) (λ this. part_begun_alike s n class (frame_owner s.top.handed owner this class) this)
 effect_alike f (SetPhase class phase) s n = with_word_alike (register s 0) (λ this. part_phased_alike s n class phase this)
-effect_alike f (SetView class owner) s n = with_word_alike (register s 0) (λ this. view_set_alike s n (owner_of s.top.handed owner this class) this class)
+effect_alike f (SetView class owner) s n = with_word_alike (register s 0) (λ this. view_set_alike s n (frame_owner s.top.handed owner this class) this class)
 effect_alike f ViewBack s n = view_set_alike s n _ _ _
 effect_alike f (Jump block) s n = goes (jumping block s) n still
 effect_alike f (JumpIf r block) s n = with_word_alike (register s r) (λ word. jumped_alike s n block word)

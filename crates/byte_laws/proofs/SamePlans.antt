@@ -7,12 +7,12 @@ use Rattle.byte_memory.specs.Store.{close_of}
 use Rattle.byte_code.specs.declared.op.Opening.{Opening}
 use Rattle.byte_code.specs.declared.op.Setting.{Setting}
 use Rattle.byte_code.specs.declared.op.Phase.{Phase}
-use Rattle.byte_shadow.specs.Shadows.{Notes, begun, phased, viewed}
+use Rattle.byte_shadow.specs.Shadows.{Notes, noted_raw, phased, viewed}
 use Rattle.byte_machine.specs.declared.frames.Handed.{Handed}
 use Rattle.byte_machine.specs.Heap.{object_at}
 use Rattle.byte_machine.specs.Running.{Fixed, Running, Effect, moved}
 use Rattle.byte_machine.specs.Calls.{opening}
-use Rattle.byte_machine.specs.Plans.{handed_to, part_frame, part_opened_by, part_opened, source_word, place_through, table_set, with_notes, noted, unnoted, part_begun, region_closed, is_ended, is_object, closed_if, part_phased, view_set}
+use Rattle.byte_machine.specs.Plans.{handed_to, part_frame, part_opened_by, part_opened, source_word, place_through, table_set, with_notes, where_noted, unnoted, part_begun, region_closed, is_ended, is_heap_object, closed_if, part_phased, view_set}
 use Rattle.byte_laws.proofs.Alike.{Past, past, still, Alike, goes, stuck_left, stuck_right, stuck_both}
 use Rattle.byte_laws.proofs.SameTests.{if_alike, with_word_alike}
 use Rattle.byte_laws.proofs.SameValues.{with_memory_alike}
@@ -29,7 +29,7 @@ pub table_set_alike : (f : Fixed) (s : Running) (n : Notes) (how : Setting) (thi
 table_set_alike f s n how this = with_word_alike (source_word f s.top.handed how.source) (λ point. with_word_alike (place_through f s.top.handed (moved this how.place) how.through) (λ at. with_memory_alike s n _ _))
 
 -- an entry may be there in one of both alone
-noted_alike : {was : Past} (phase phase' : Option Phase) {next next' : Effect} → Alike was next next' → Alike was (noted phase next) (noted phase' next')
+noted_alike : {was : Past} (phase phase' : Option Phase) {next next' : Effect} → Alike was next next' → Alike was (where_noted phase next) (where_noted phase' next')
 noted_alike None None h = stuck_both
 noted_alike None (Some phase') h = stuck_left h
 noted_alike (Some phase) None h = stuck_right h
@@ -42,7 +42,7 @@ unnoted_alike (Some phase) None h = stuck_left h
 unnoted_alike (Some phase) (Some phase') h = stuck_both
 
 pub part_begun_alike : (s : Running) (n : Notes) (class : ℕ) (owner : ℕ × ℕ) (this : ℕ) → Alike (past s) (part_begun s class owner this) (part_begun (with_notes s n) class owner this)
-part_begun_alike s n class owner this = unnoted_alike _ _ (goes (with_notes s (begun s.notes this class owner.0 owner.1)) (begun n this class owner.0 owner.1) still)
+part_begun_alike s n class owner this = unnoted_alike _ _ (goes (with_notes s (noted_raw s.notes this class owner.0 owner.1)) (noted_raw n this class owner.0 owner.1) still)
 
 region_closed_alike : (s : Running) (n : Notes) (at : ℕ) (region : Option Region) → Alike (past s) (region_closed s at region) (region_closed (with_notes s n) at region)
 region_closed_alike s n at None = stuck_both
@@ -53,7 +53,7 @@ closed_if_alike s n false at = goes s n still
 closed_if_alike s n true at = region_closed_alike s n at (find (starts at) s.memory.regions)
 
 pub part_phased_alike : (s : Running) (n : Notes) (class : ℕ) (phase : Phase) (this : ℕ) → Alike (past s) (part_phased s class phase this) (part_phased (with_notes s n) class phase this)
-part_phased_alike s n class phase this = noted_alike _ _ (closed_if_alike (with_notes s (phased s.notes this class phase)) (phased n this class phase) (is_ended phase && is_object this class (object_at s.objects this)) this)
+part_phased_alike s n class phase this = noted_alike _ _ (closed_if_alike (with_notes s (phased s.notes this class phase)) (phased n this class phase) (is_ended phase && is_heap_object this class (object_at s.objects this)) this)
 
 pub view_set_alike : (s : Running) (n : Notes) (owner : ℕ × ℕ) (at class : ℕ) → Alike (past s) (view_set s owner at class) (view_set (with_notes s n) owner at class)
 view_set_alike s n owner at class = noted_alike _ _ (goes (with_notes s (viewed s.notes owner.0 owner.1 at class)) (viewed n owner.0 owner.1 at class) still)

@@ -12,8 +12,8 @@ use Rattle.byte_shadow.specs.Shadows.{Notes}
 use Rattle.byte_machine.specs.declared.heap.Opened.{Opened}
 use Rattle.byte_machine.specs.declared.turn.MachineTurn.TheVariants.{Refused}
 use Rattle.byte_machine.specs.Heap.{object_at}
-use Rattle.byte_machine.specs.Running.{Fixed, Running, Effect, Answers, Tells, moved, register, refuse, put, with_word, with_register, passed}
-use Rattle.byte_machine.specs.Checks.{passes_if, of_address, null_checked, open_checked, same_pair, with_pair, view_tested, view_checked, in_width, in_bits, set_checked, leaf_checked, code_checked, begun_checked, with_object, complete_checked, fit_checked, checked}
+use Rattle.byte_machine.specs.Running.{Fixed, Running, Effect, Answers, Tells, moved, register, refuse, put_register, with_some_word, with_register, passed}
+use Rattle.byte_machine.specs.Checks.{passes_if, of_address, null_checked, open_checked, same_address_and_class, with_pair, view_tested, view_checked, in_width, in_bits, set_checked, leaf_checked, code_checked, begun_checked, with_object, complete_checked, fit_checked, checked}
 use Rattle.byte_machine.specs.Plans.{with_notes}
 use Rattle.byte_laws.proofs.Alike.{Past, past, still, Alike, goes, tells_left, tells_right, stops, refused_left, refused_right, stuck_left, stuck_right, stuck_both}
 
@@ -32,10 +32,10 @@ pub if_alike : {was : Past} (b : Bool) {e e' d d' : Effect} → Alike was e d �
 if_alike true h k = h
 if_alike false h k = k
 
-pub put_alike : (s : Running) (n : Notes) (to : ℕ) (word : Option ℕ) → Alike (past s) (put to word s) (put to word (with_notes s n))
+pub put_alike : (s : Running) (n : Notes) (to : ℕ) (word : Option ℕ) → Alike (past s) (put_register to word s) (put_register to word (with_notes s n))
 put_alike s n to word = if_alike (nat_lt to _) (goes (with_register s to word) n still) stuck_both
 
-pub with_word_alike : {was : Past} (word : Option ℕ) {next next' : ℕ → Effect} → ((word : ℕ) → Alike was (next word) (next' word)) → Alike was (with_word word next) (with_word word next')
+pub with_word_alike : {was : Past} (word : Option ℕ) {next next' : ℕ → Effect} → ((word : ℕ) → Alike was (next word) (next' word)) → Alike was (with_some_word word next) (with_some_word word next')
 with_word_alike None h = stuck_both
 with_word_alike (Some word) h = h word
 
@@ -75,7 +75,7 @@ with_pair_alike (Some pair) (Some pair') h = h pair pair'
 
 -- two questions of a view may differ, and each answer refuses or goes on alike
 view_tested_alike : (s : Running) (n : Notes) (at class : ℕ) (view view' : ℕ × ℕ) {next next' : Effect} → Alike (past s) next next' → Alike (past s) (view_tested s at class view next) (view_tested (with_notes s n) at class view' next')
-view_tested_alike s n at class view view' {next} {next'} h = left (same_pair view at class)
+view_tested_alike s n at class view view' {next} {next'} h = left (same_address_and_class view at class)
   where
     right_told : (inside : Bool) → Alike (past s) next (if inside then next' else refuse 4 (with_notes s n))
     right_told true = h
@@ -86,11 +86,11 @@ view_tested_alike s n at class view view' {next} {next'} h = left (same_pair vie
     right false = tells_right _ _ _ _ right_told
 
     left_told : (inside : Bool) → Alike (past s) (if inside then next else refuse 4 s) (view_tested (with_notes s n) at class view' next')
-    left_told true = right (same_pair view' at class)
-    left_told false = refuse_left s _ (right (same_pair view' at class))
+    left_told true = right (same_address_and_class view' at class)
+    left_told false = refuse_left s _ (right (same_address_and_class view' at class))
 
     left : (b : Bool) → Alike (past s) (if b then next else Tells view.0 view.1 at class (λ inside. if inside then next else refuse 4 s)) (view_tested (with_notes s n) at class view' next')
-    left true = right (same_pair view' at class)
+    left true = right (same_address_and_class view' at class)
     left false = tells_left _ _ _ _ left_told
 
 pub view_checked_alike : (s : Running) (n : Notes) (at class : ℕ) {next next' : Effect} → Alike (past s) next next' → Alike (past s) (view_checked s at class next) (view_checked (with_notes s n) at class next')
@@ -147,8 +147,8 @@ checked_alike f (SetLeaf base offset width) s n = of_address_alike s n (register
 checked_alike f (SetBits base offset first width) s n = of_address_alike s n (register s base) (λ at. in_bits_alike first width.bits (leaf_alike s n _ _))
 checked_alike f (HasCode r entry) s n = of_address_alike s n (register s r) (λ at. code_alike s n _)
 checked_alike f (Derived r offset class) s n = of_address_alike s n (register s r) (λ at. begun_alike s n _ _)
-checked_alike f (Whole r class) s n = of_address_alike s n (register s r) (λ at. with_pair_alike (s.notes.owner at class) (n.owner at class) (λ owner owner'. passes_alike s n 8 (same_pair owner at class) (same_pair owner' at class)))
-checked_alike f (HeapObject r class) s n = of_address_alike s n (register s r) (λ at. with_pair_alike (s.notes.owner at class) (n.owner at class) (λ owner owner'. with_object_alike (object_at s.objects at) (λ object. passes_alike s n 9 (same_pair owner object.start object.class) (same_pair owner' object.start object.class))))
+checked_alike f (Whole r class) s n = of_address_alike s n (register s r) (λ at. with_pair_alike (s.notes.owner at class) (n.owner at class) (λ owner owner'. passes_alike s n 8 (same_address_and_class owner at class) (same_address_and_class owner' at class)))
+checked_alike f (HeapObject r class) s n = of_address_alike s n (register s r) (λ at. with_pair_alike (s.notes.owner at class) (n.owner at class) (λ owner owner'. with_object_alike (object_at s.objects at) (λ object. passes_alike s n 9 (same_address_and_class owner object.start object.class) (same_address_and_class owner' object.start object.class))))
 checked_alike f (Complete r) s n = of_address_alike s n (register s r) (λ at. with_object_alike (object_at s.objects at) (λ object. complete_alike s n _ _))
 checked_alike f Never s n = refuse_both s n _
 checked_alike f (Fits kind width left right) s n = in_width_alike width.bytes (fit_alike s n kind width _ _)

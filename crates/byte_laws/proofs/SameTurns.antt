@@ -9,11 +9,11 @@ use Rattle.byte_machine.specs.declared.heap.Opened.{Opened}
 use Rattle.byte_machine.specs.declared.turn.MachineTurn.{MachineTurn}
 use Rattle.byte_machine.specs.declared.turn.MachineTurn.TheVariants.{Went, Ended, Refused, OutOfSteps, Limit}
 use Rattle.byte_machine.specs.declared.turn.RawOut.{RawOut}
-use Rattle.byte_machine.specs.Frames.{Frame}
+use Rattle.byte_machine.specs.Frames.{MachineFrame}
 use Rattle.byte_machine.specs.Running.{Fixed, Running, Stop, Answers, Returned}
 use Rattle.byte_machine.specs.Plans.{with_notes}
 use Rattle.byte_machine.specs.Runs.{Runs, finishing, Finishes, RunsBlock}
-use Rattle.byte_machine.specs.Turn.{State, at_block, after_block, kept_answer, Turns, TurnsBy, TurnsFrom, TurnsIn}
+use Rattle.byte_machine.specs.Turn.{ByteState, at_block, after_block, kept_answer, Turns, TurnsBy, TurnsFrom, TurnsIn}
 use Rattle.byte_machine.proofs.TurnLeads.{answer_kept}
 use Rattle.byte_laws.specs.Notes.{IsSameButNotes, IsFront, ArePlacedAlike, is_refusal, is_refused, TurnAll, ComeTo, the_same, first_refused, second_refused}
 use Rattle.byte_laws.proofs.Alike.{front_same, front_trans, past, Grows, grows_trans, same_grows, follow_grows, IsRefused, EndAlike, both_alike, left_refused, right_refused, follow_alike}
@@ -92,53 +92,53 @@ unfolding turn_in
 same_turn turn turn' e = ap turn_in e
 
 -- what both turns came to
-data TurnAlike (b' c' : State) (told told' : List RawOut) (turn turn' : MachineTurn) : Type 0 where
+data TurnAlike (b' c' : ByteState) (told told' : List RawOut) (turn turn' : MachineTurn) : Type 0 where
   turned_alike : IsSameButNotes b' c' → told ≡ told' → turn ≡ turn' → TurnAlike b' c' told told' turn turn'
   turn_refused : is_refusal turn ≡ true → IsFront told told' → TurnAlike b' c' told told' turn turn'
   turn_refused' : is_refusal turn' ≡ true → IsFront told' told → TurnAlike b' c' told told' turn turn'
 
 -- a turn is later
-record Later (b b' : State) (outs told : List RawOut) : Type 0 where
+record Later (b b' : ByteState) (outs told : List RawOut) : Type 0 where
   pub objects : IsFront b.objects b'.objects
   pub outs_kept : IsFront outs told
 
-later_same : (b b' : State) (outs told : List RawOut) → b'.objects ≡ b.objects → told ≡ outs → Later b b' outs told
+later_same : (b b' : ByteState) (outs told : List RawOut) → b'.objects ≡ b.objects → told ≡ outs → Later b b' outs told
 later_same b b' outs told e k = record { objects = front_same b.objects b'.objects e; outs_kept = front_same outs told k }
 
-module _ (f : Fixed) (code : Code) (b b' : State) (outs told : List RawOut) (turn : MachineTurn) where
-  later_in : (top : Frame) (below : List Frame) (block : Option Block) → TurnsIn f b top below block outs b' told turn → Later b b' outs told
+module _ (f : Fixed) (code : Code) (b b' : ByteState) (outs told : List RawOut) (turn : MachineTurn) where
+  later_in : (top : MachineFrame) (below : List MachineFrame) (block : Option Block) → TurnsIn f b top below block outs b' told turn → Later b b' outs told
   later_in top below None t = absurd t
   later_in top below (Some block) t =
       let grown = block_grows f block.ops (at_block b top below outs block.line) t.0 turn t.1.0 in
-      record { objects = subst (λ (x : State). IsFront b.objects x.objects) (sym t.1.1) grown.objects; outs_kept = subst (λ (x : List RawOut). IsFront outs x) (sym t.1.2) grown.outs }
+      record { objects = subst (λ (x : ByteState). IsFront b.objects x.objects) (sym t.1.1) grown.objects; outs_kept = subst (λ (x : List RawOut). IsFront outs x) (sym t.1.2) grown.outs }
 
-  later_from : (frames : List Frame) → TurnsFrom f code b frames outs b' told turn → Later b b' outs told
+  later_from : (frames : List MachineFrame) → TurnsFrom f code b frames outs b' told turn → Later b b' outs told
   later_from [] t = absurd t
   later_from (top ∷ below) t = later_in top below (slice_get code.blocks top.block) t
 
   later_by : (answer : Option MachineTurn) (spent : Bool) → TurnsBy answer spent f code b outs b' told turn → Later b b' outs told
-  later_by (Some answer) spent t = later_same b b' outs told (ap (λ (x : State). x.objects) t.0) t.1
-  later_by None true t = later_same b b' outs told (ap (λ (x : State). x.objects) t.0) t.1
+  later_by (Some answer) spent t = later_same b b' outs told (ap (λ (x : ByteState). x.objects) t.0) t.1
+  later_by None true t = later_same b b' outs told (ap (λ (x : ByteState). x.objects) t.0) t.1
   later_by None false t = later_from b.frames t
 
-turn_later : (f : Fixed) (code : Code) (b b' : State) (outs told : List RawOut) (turn : MachineTurn) → Turns f code b outs b' told turn → Later b b' outs told
+turn_later : (f : Fixed) (code : Code) (b b' : ByteState) (outs told : List RawOut) (turn : MachineTurn) → Turns f code b outs b' told turn → Later b b' outs told
 turn_later f code b b' outs told turn t = later_by f code b b' outs told turn b.answer (nat_eq b.left 0) t
 
-module _ (f : Fixed) (code : Code) (all : List Opened) (b : State) (n : Notes) (b' c' : State) (outs told told' : List RawOut) (turn turn' : MachineTurn) (front : IsFront b'.objects all) (front' : IsFront c'.objects all) where
-  block_ends : (top : Frame) (below : List Frame) (new new' : Running) → b' ≡ after_block b new turn → c' ≡ after_block (record b { notes = n }) new' turn' → told ≡ new.outs → told' ≡ new'.outs → EndAlike new new' (Answers turn) (Answers turn') → TurnAlike b' c' told told' turn turn'
+module _ (f : Fixed) (code : Code) (all : List Opened) (b : ByteState) (n : Notes) (b' c' : ByteState) (outs told told' : List RawOut) (turn turn' : MachineTurn) (front : IsFront b'.objects all) (front' : IsFront c'.objects all) where
+  block_ends : (top : MachineFrame) (below : List MachineFrame) (new new' : Running) → b' ≡ after_block b new turn → c' ≡ after_block (record b { notes = n }) new' turn' → told ≡ new.outs → told' ≡ new'.outs → EndAlike new new' (Answers turn) (Answers turn') → TurnAlike b' c' told told' turn turn'
   block_ends top below new new' e e' k k' (both_alike states reasons) =
       turned_alike (rw (e, e') (ap (λ (x : Running). after_block (record b { notes = n }) x turn) states ∙ ap (λ answer. after_block (record b { notes = n }) new' answer) (same_turn turn turn' reasons)))
       (k ∙ (ap (λ (x : Running). x.outs) states ∙ sym k')) (same_turn turn turn' reasons)
   block_ends top below new new' e e' k k' (left_refused refused ahead) = turn_refused refused (rw (k, k') ahead)
   block_ends top below new new' e e' k k' (right_refused refused ahead) = turn_refused' refused (rw (k, k') ahead)
 
-  alike_in : (top : Frame) (below : List Frame) (block : Option Block) → TurnsIn f b top below block outs b' told turn → TurnsIn f (record b { notes = n }) top below block outs c' told' turn' → TurnAlike b' c' told told' turn turn'
+  alike_in : (top : MachineFrame) (below : List MachineFrame) (block : Option Block) → TurnsIn f b top below block outs b' told turn → TurnsIn f (record b { notes = n }) top below block outs c' told' turn' → TurnAlike b' c' told told' turn turn'
   alike_in top below None t t' = absurd t
   alike_in top below (Some block) t t' =
       block_ends top below t.0 t'.0 t.1.1 t'.1.1 t.1.2 t'.1.2
-      (blocks_alike f block.ops all (at_block b top below outs block.line) n t.0 t'.0 turn turn' (subst (λ (x : State). IsFront x.objects all) t.1.1 front) (subst (λ (x : State). IsFront x.objects all) t'.1.1 front') t.1.0 t'.1.0)
+      (blocks_alike f block.ops all (at_block b top below outs block.line) n t.0 t'.0 turn turn' (subst (λ (x : ByteState). IsFront x.objects all) t.1.1 front) (subst (λ (x : ByteState). IsFront x.objects all) t'.1.1 front') t.1.0 t'.1.0)
 
-  alike_from : (frames : List Frame) → TurnsFrom f code b frames outs b' told turn → TurnsFrom f code (record b { notes = n }) frames outs c' told' turn' → TurnAlike b' c' told told' turn turn'
+  alike_from : (frames : List MachineFrame) → TurnsFrom f code b frames outs b' told turn → TurnsFrom f code (record b { notes = n }) frames outs c' told' turn' → TurnAlike b' c' told told' turn turn'
   alike_from [] t t' = absurd t
   alike_from (top ∷ below) t t' = alike_in top below (slice_get code.blocks top.block) t t'
 
@@ -147,30 +147,30 @@ module _ (f : Fixed) (code : Code) (all : List Opened) (b : State) (n : Notes) (
   alike_by None true t t' = turned_alike (rw (t.0, t'.0) refl) (t.1 ∙ sym t'.1) (t.2 ∙ sym t'.2)
   alike_by None false t t' = alike_from b.frames t t'
 
-turns_alike : (f : Fixed) (code : Code) (all : List Opened) (b c b' c' : State) (outs told told' : List RawOut) (turn turn' : MachineTurn) → IsSameButNotes b c → Turns f code b outs b' told turn → Turns f code c outs c' told' turn' → IsFront b'.objects all → IsFront c'.objects all → TurnAlike b' c' told told' turn turn'
+turns_alike : (f : Fixed) (code : Code) (all : List Opened) (b c b' c' : ByteState) (outs told told' : List RawOut) (turn turn' : MachineTurn) → IsSameButNotes b c → Turns f code b outs b' told turn → Turns f code c outs c' told' turn' → IsFront b'.objects all → IsFront c'.objects all → TurnAlike b' c' told told' turn turn'
 turns_alike f code all b c b' c' outs told told' turn turn' same t t' front front' =
-    alike_by f code all b c.notes b' c' outs told told' turn turn' front front' b.answer (nat_eq b.left 0) t (subst (λ (x : State). Turns f code x outs c' told' turn') (sym same) t')
+    alike_by f code all b c.notes b' c' outs told told' turn turn' front front' b.answer (nat_eq b.left 0) t (subst (λ (x : ByteState). Turns f code x outs c' told' turn') (sym same) t')
 
 -- so many turns
 
-all_later : (f : Fixed) (code : Code) (n : ℕ) (b b' : State) (outs told : List RawOut) → TurnAll f code n b outs b' told → Later b b' outs told
-all_later f code zero b b' outs told t = later_same b b' outs told (ap (λ (x : State). x.objects) t.0) t.1
+all_later : (f : Fixed) (code : Code) (n : ℕ) (b b' : ByteState) (outs told : List RawOut) → TurnAll f code n b outs b' told → Later b b' outs told
+all_later f code zero b b' outs told t = later_same b b' outs told (ap (λ (x : ByteState). x.objects) t.0) t.1
 all_later f code (suc n) b b' outs told t =
     let first = turn_later f code b t.0 outs t.1 t.2 t.3.0 in
     let others = all_later f code n t.0 b' t.1 told t.3.1 in
     record { objects = front_trans b.objects t.0.objects b'.objects first.objects others.objects; outs_kept = front_trans outs t.1 told first.outs_kept others.outs_kept }
 
 -- after an answer that ended the run nothing changes
-ended_turn : (f : Fixed) (code : Code) (b b' : State) (outs told : List RawOut) (turn answer : MachineTurn) → b.answer ≡ Some answer → Turns f code b outs b' told turn → (b' ≡ b) × (told ≡ outs)
+ended_turn : (f : Fixed) (code : Code) (b b' : ByteState) (outs told : List RawOut) (turn answer : MachineTurn) → b.answer ≡ Some answer → Turns f code b outs b' told turn → (b' ≡ b) × (told ≡ outs)
 ended_turn f code b b' outs told turn answer e t =
     let same = subst (λ (a : Option MachineTurn). TurnsBy a (nat_eq b.left 0) f code b outs b' told turn) e t in
     (same.0, same.1)
 
-all_ended : (f : Fixed) (code : Code) (n : ℕ) (b b' : State) (outs told : List RawOut) (answer : MachineTurn) → b.answer ≡ Some answer → TurnAll f code n b outs b' told → (b' ≡ b) × (told ≡ outs)
+all_ended : (f : Fixed) (code : Code) (n : ℕ) (b b' : ByteState) (outs told : List RawOut) (answer : MachineTurn) → b.answer ≡ Some answer → TurnAll f code n b outs b' told → (b' ≡ b) × (told ≡ outs)
 all_ended f code zero b b' outs told answer e t = t
 all_ended f code (suc n) b b' outs told answer e t =
     let first = ended_turn f code b t.0 outs t.1 t.2 answer e t.3.0 in
-    let others = all_ended f code n t.0 b' t.1 told answer (ap (λ (x : State). x.answer) first.0 ∙ e) t.3.1 in
+    let others = all_ended f code n t.0 b' t.1 told answer (ap (λ (x : ByteState). x.answer) first.0 ∙ e) t.3.1 in
     (others.0 ∙ first.0, others.1 ∙ first.1)
 
 refusal_kept : (turn : MachineTurn) → is_refusal turn ≡ true → kept_answer turn ≡ Some turn
@@ -181,13 +181,13 @@ refusal_kept OutOfSteps refused = refl
 refusal_kept (Limit number) refused = refl
 
 -- where a turn is refused, the turns after it leave all as it is
-refused_stays : (f : Fixed) (code : Code) (n : ℕ) (b mid b' : State) (outs so_far told : List RawOut) (turn : MachineTurn) → is_refusal turn ≡ true → Turns f code b outs mid so_far turn → TurnAll f code n mid so_far b' told → (is_refused b'.answer ≡ true) × (told ≡ so_far)
+refused_stays : (f : Fixed) (code : Code) (n : ℕ) (b mid b' : ByteState) (outs so_far told : List RawOut) (turn : MachineTurn) → is_refusal turn ≡ true → Turns f code b outs mid so_far turn → TurnAll f code n mid so_far b' told → (is_refused b'.answer ≡ true) × (told ≡ so_far)
 refused_stays f code n b mid b' outs so_far told turn refused first others =
     let ended = answer_kept f code b mid outs so_far turn first (refusal_kept turn refused) in
     let stays = all_ended f code n mid b' so_far told turn ended others in
-    (ap (λ (x : State). is_refused x.answer) stays.0 ∙ (ap is_refused ended ∙ refused), stays.1)
+    (ap (λ (x : ByteState). is_refused x.answer) stays.0 ∙ (ap is_refused ended ∙ refused), stays.1)
 
-all_alike : (f : Fixed) (code : Code) (all : List Opened) (n : ℕ) (b c b' c' : State) (outs told told' : List RawOut) → IsSameButNotes b c → TurnAll f code n b outs b' told → TurnAll f code n c outs c' told' → IsFront b'.objects all → IsFront c'.objects all → ComeTo b' c' told told'
+all_alike : (f : Fixed) (code : Code) (all : List Opened) (n : ℕ) (b c b' c' : ByteState) (outs told told' : List RawOut) → IsSameButNotes b c → TurnAll f code n b outs b' told → TurnAll f code n c outs c' told' → IsFront b'.objects all → IsFront c'.objects all → ComeTo b' c' told told'
 all_alike f code all zero b c b' c' outs told told' same t t' front front' = the_same (rw (t.0, t'.0) same) (t.1 ∙ sym t'.1)
 all_alike f code all (suc n) b c b' c' outs told told' same t t' front front' =
     by_first (turns_alike f code all b c t.0 t'.0 outs t.1 t'.1 t.2 t'.2 same t.3.0 t'.3.0 (front_trans t.0.objects b'.objects all left.objects front) (front_trans t'.0.objects c'.objects all right.objects front'))
@@ -210,14 +210,14 @@ all_alike f code all (suc n) b c b' c' outs told told' same t t' front front' =
 
 -- the law
 
-passed_alike : (b' c' : State) (told told' : List RawOut) (turn turn' : MachineTurn) → is_refusal turn ≡ false → is_refusal turn' ≡ false → TurnAlike b' c' told told' turn turn' → IsSameButNotes b' c' × (told ≡ told') × (turn ≡ turn')
+passed_alike : (b' c' : ByteState) (told told' : List RawOut) (turn turn' : MachineTurn) → is_refusal turn ≡ false → is_refusal turn' ≡ false → TurnAlike b' c' told told' turn turn' → IsSameButNotes b' c' × (told ≡ told') × (turn ≡ turn')
 passed_alike b' c' told told' turn turn' passed passed' (turned_alike states told_same answers) = (states, told_same, answers)
 passed_alike b' c' told told' turn turn' passed passed' (turn_refused refused ahead) = let wrong : true ≡ false = sym refused ∙ passed in absurd cc
 passed_alike b' c' told told' turn turn' passed passed' (turn_refused' refused ahead) = let wrong : true ≡ false = sym refused ∙ passed' in absurd cc
 
-pub turn_law : (f : Fixed) (code : Code) (b c b' c' : State) (outs told told' : List RawOut) (turn turn' : MachineTurn) → IsSameButNotes b c → Turns f code b outs b' told turn → Turns f code c outs c' told' turn' → ArePlacedAlike b' c' → is_refusal turn ≡ false → is_refusal turn' ≡ false → IsSameButNotes b' c' × (told ≡ told') × (turn ≡ turn')
+pub turn_law : (f : Fixed) (code : Code) (b c b' c' : ByteState) (outs told told' : List RawOut) (turn turn' : MachineTurn) → IsSameButNotes b c → Turns f code b outs b' told turn → Turns f code c outs c' told' turn' → ArePlacedAlike b' c' → is_refusal turn ≡ false → is_refusal turn' ≡ false → IsSameButNotes b' c' × (told ≡ told') × (turn ≡ turn')
 turn_law f code b c b' c' outs told told' turn turn' same t t' placed passed passed' =
     passed_alike b' c' told told' turn turn' passed passed' (turns_alike f code placed.objects b c b' c' outs told told' turn turn' same t t' placed.first placed.second)
 
-pub turns_law : (f : Fixed) (code : Code) (n : ℕ) (b c b' c' : State) (outs told told' : List RawOut) → IsSameButNotes b c → TurnAll f code n b outs b' told → TurnAll f code n c outs c' told' → ArePlacedAlike b' c' → ComeTo b' c' told told'
+pub turns_law : (f : Fixed) (code : Code) (n : ℕ) (b c b' c' : ByteState) (outs told told' : List RawOut) → IsSameButNotes b c → TurnAll f code n b outs b' told → TurnAll f code n c outs c' told' → ArePlacedAlike b' c' → ComeTo b' c' told told'
 turns_law f code n b c b' c' outs told told' same t t' placed = all_alike f code placed.objects n b c b' c' outs told told' same t t' placed.first placed.second

@@ -8,13 +8,13 @@ use Rattle.byte_code.specs.declared.op.PrintAs.{PrintAs}
 use Rattle.byte_code.specs.declared.op.PrintAs.TheVariants.{Number as AsNumber, Address as AsAddress, Class as AsClass}
 use Rattle.byte_shadow.specs.Shadows.{Notes}
 use Rattle.byte_machine.specs.declared.turn.RawOut.{RawOut}
-use Rattle.byte_machine.specs.Running.{Running, telling}
-use Rattle.byte_machine.specs.Values.{converted, converted_word, global_read, global_written, put_loaded, with_memory, are_equal_or_apart, copied_bytes, copied_bits, printed}
+use Rattle.byte_machine.specs.Running.{Running, telling_raw}
+use Rattle.byte_machine.specs.Values.{put_converted, converted_word, global_read, global_written, put_loaded, with_memory, are_equal_or_apart, copied_bytes, copied_bits, print_effect}
 use Rattle.byte_machine.specs.Plans.{with_notes}
 use Rattle.byte_laws.proofs.Alike.{past, still, Alike, goes, stuck_both}
 use Rattle.byte_laws.proofs.SameTests.{if_alike, put_alike, in_width_alike}
 
-pub converted_alike : (s : Running) (n : Notes) (to : ℕ) (kind : NumberKind) (word : Option ℕ) → Alike (past s) (converted to kind s word) (converted to kind (with_notes s n) word)
+pub converted_alike : (s : Running) (n : Notes) (to : ℕ) (kind : NumberKind) (word : Option ℕ) → Alike (past s) (put_converted to kind s word) (put_converted to kind (with_notes s n) word)
 converted_alike s n to kind None = put_alike s n to None
 converted_alike s n to kind (Some word) = put_alike s n to (Some (converted_word kind word))
 
@@ -41,10 +41,10 @@ pub copied_bits_alike : (s : Running) (n : Notes) (from to first bits : ℕ) (fa
 copied_bits_alike s n from to first bits (Some fault) = stuck_both
 copied_bits_alike s n from to first bits None = if_alike (are_equal_or_apart (8 * from) (8 * to) bits) (with_memory_alike s n _ _) stuck_both
 
-pub telling_alike : (s : Running) (n : Notes) (out : RawOut) → Alike (past s) (telling out s) (telling out (with_notes s n))
+pub telling_alike : (s : Running) (n : Notes) (out : RawOut) → Alike (past s) (telling_raw out s) (telling_raw out (with_notes s n))
 telling_alike s n out = goes (record s { outs = s.outs ++ out ∷ [] }) n (refl, (out ∷ [], refl))
 
-pub printed_alike : (s : Running) (n : Notes) (what : PrintAs) (word : ℕ) → Alike (past s) (printed what s word) (printed what (with_notes s n) word)
+pub printed_alike : (s : Running) (n : Notes) (what : PrintAs) (word : ℕ) → Alike (past s) (print_effect what s word) (print_effect what (with_notes s n) word)
 printed_alike s n (AsNumber width) word = in_width_alike width.bytes (telling_alike s n _)
 printed_alike s n AsAddress word = telling_alike s n _
 printed_alike s n AsClass word = telling_alike s n _

@@ -9,7 +9,7 @@ use Rattle.std.proofs.Math.IntN.{negsuc-*ℤ-pos, pos-*ℤ-negsuc}
 use Rattle.std.proofs.Math.Nat.{mod-lt, mod-eq_of_lt, div-add-mod, add-mod-mod, mod-add-mod, mul-add-mod_self_left, mul_comm, pow-le-pow_right}
 use Rattle.byte_code.specs.declared.width.Width.{Width}
 use Rattle.byte_code.specs.declared.width.BitWidth.{BitWidth}
-use Rattle.byte_code.specs.Numbers.{signed_in, signed_of, low_of, word_of, number_of, extended, extended_bits}
+use Rattle.byte_code.specs.Numbers.{signed_in, signed_of, low_of, word_of, number_of_word, extended, extended_bits}
 use Rattle.byte_code.proofs.Pow.{pow_pos}
 use Rattle.byte_code.proofs.Words.{word_of-low}
 
@@ -36,7 +36,7 @@ is_read n true low = by_half (nat_lt (2 * low) (256 ^ n))
     by_half true = inl refl
     by_half false = inr (omega (arith, ints))
 
-number_read : (width : Width) (word : ℕ) → IsRead (256 ^ width.bytes) (word % 256 ^ width.bytes) (number_of width word)
+number_read : (width : Width) (word : ℕ) → IsRead (256 ^ width.bytes) (word % 256 ^ width.bytes) (number_of_word width word)
 number_read width word = is_read width.bytes width.signed (word % 256 ^ width.bytes)
 
 -- sums
@@ -45,10 +45,10 @@ sum_by n x y z w r t =
     ⊎_elim (λ e. ⊎_elim (λ g. low_by n (z +ℤ w) (x + y) 0 (omega (arith, ints))) (λ g. low_by n (z +ℤ w) (x + y) 1 (omega (arith, ints))) t)
     (λ e. ⊎_elim (λ g. low_by n (z +ℤ w) (x + y) 1 (omega (arith, ints))) (λ g. low_by n (z +ℤ w) (x + y) 2 (omega (arith, ints))) t) r
 
-pub low_sum : (width : Width) (a b : ℕ) → width.bytes ≤ 8 → (a + b) % 2 ^ 64 % 256 ^ width.bytes ≡ low_of width.bytes (number_of width a +ℤ number_of width b)
+pub low_sum : (width : Width) (a b : ℕ) → width.bytes ≤ 8 → (a + b) % 2 ^ 64 % 256 ^ width.bytes ≡ low_of width.bytes (number_of_word width a +ℤ number_of_word width b)
 low_sum width a b small =
     let n = width.bytes in
-    word_of-low n (pos (a + b)) small ∙ sym (mod-add-mod a (256 ^ n) b) ∙ sym (add-mod-mod (a % 256 ^ n) b (256 ^ n)) ∙ sym (sum_by n (a % 256 ^ n) (b % 256 ^ n) (number_of width a) (number_of width b) (number_read width a) (number_read width b))
+    word_of-low n (pos (a + b)) small ∙ sym (mod-add-mod a (256 ^ n) b) ∙ sym (add-mod-mod (a % 256 ^ n) b (256 ^ n)) ∙ sym (sum_by n (a % 256 ^ n) (b % 256 ^ n) (number_of_word width a) (number_of_word width b) (number_read width a) (number_read width b))
 
 -- differences
 difference_by : (n x y : ℕ) (z w : ℤ) → y ≤ 256 ^ n → IsRead (256 ^ n) x z → IsRead (256 ^ n) y w → low_of n (z -ℤ w) ≡ (x + (256 ^ n - y)) % 256 ^ n
@@ -62,12 +62,12 @@ word_difference n a b =
     let split = div-add-mod b (256 ^ n) in
     low_by n (pos a -ℤ pos b) (a + (256 ^ n - b % 256 ^ n)) (b / 256 ^ n + 1) (omega (arith, ints)) ∙ sym (mod-add-mod a (256 ^ n) (256 ^ n - b % 256 ^ n))
 
-pub low_difference : (width : Width) (a b : ℕ) → width.bytes ≤ 8 → b < 2 ^ 64 → (a + (2 ^ 64 - b)) % 2 ^ 64 % 256 ^ width.bytes ≡ low_of width.bytes (number_of width a -ℤ number_of width b)
+pub low_difference : (width : Width) (a b : ℕ) → width.bytes ≤ 8 → b < 2 ^ 64 → (a + (2 ^ 64 - b)) % 2 ^ 64 % 256 ^ width.bytes ≡ low_of width.bytes (number_of_word width a -ℤ number_of_word width b)
 low_difference width a b small fits =
     let n = width.bytes in
     let word : word_of (pos a -ℤ pos b) ≡ (a + (2 ^ 64 - b)) % 2 ^ 64 = low_by 8 (pos a -ℤ pos b) (a + (2 ^ 64 - b)) 1 (omega (arith, ints)) in
     let less : b % 256 ^ n < 256 ^ n = mod-lt b (pow_pos n) in
-    ap (λ w. w % 256 ^ n) (sym word) ∙ word_of-low n (pos a -ℤ pos b) small ∙ word_difference n a b ∙ sym (difference_by n (a % 256 ^ n) (b % 256 ^ n) (number_of width a) (number_of width b) (omega arith) (number_read width a) (number_read width b))
+    ap (λ w. w % 256 ^ n) (sym word) ∙ word_of-low n (pos a -ℤ pos b) small ∙ word_difference n a b ∙ sym (difference_by n (a % 256 ^ n) (b % 256 ^ n) (number_of_word width a) (number_of_word width b) (omega arith) (number_read width a) (number_read width b))
 
 -- products
 negative : (range low : ℕ) (z : ℤ) → low < range → z +ℤ pos range ≡ pos low → (c : ℕ) × ((z ≡ negsuc c) × (range ≡ low + suc c))
@@ -105,10 +105,10 @@ product_mod a b m =
     let turned : a * (b % m) ≡ b % m * a = mul_comm a (b % m) in
     mul-mod_first a (b % m) m ∙ ap (λ v. v % m) turned ∙ mul-mod_first b a m ∙ ap (λ v. v % m) (mul_comm b a)
 
-pub low_product : (width : Width) (a b : ℕ) → width.bytes ≤ 8 → a * b % 2 ^ 64 % 256 ^ width.bytes ≡ low_of width.bytes (number_of width a *ℤ number_of width b)
+pub low_product : (width : Width) (a b : ℕ) → width.bytes ≤ 8 → a * b % 2 ^ 64 % 256 ^ width.bytes ≡ low_of width.bytes (number_of_word width a *ℤ number_of_word width b)
 low_product width a b small =
     let n = width.bytes in
-    word_of-low n (pos (a * b)) small ∙ sym (product_mod a b (256 ^ n)) ∙ sym (product_by n (a % 256 ^ n) (b % 256 ^ n) (number_of width a) (number_of width b) (mod-lt a (pow_pos n)) (mod-lt b (pow_pos n)) (number_read width a) (number_read width b))
+    word_of-low n (pos (a * b)) small ∙ sym (product_mod a b (256 ^ n)) ∙ sym (product_by n (a % 256 ^ n) (b % 256 ^ n) (number_of_word width a) (number_of_word width b) (mod-lt a (pow_pos n)) (mod-lt b (pow_pos n)) (number_read width a) (number_read width b))
 
 -- a word below half of a range stands for itself
 low_half : (range : ℕ) (signed : Bool) (word : ℕ) → 2 * word < range → signed_in range signed word ≡ pos word

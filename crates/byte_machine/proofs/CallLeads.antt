@@ -10,55 +10,55 @@ use Rattle.byte_code.specs.Images.{word_at}
 use Rattle.byte_machine.specs.declared.turn.MachineTurn.TheVariants.{Limit}
 use Rattle.byte_machine.specs.Heap.{heap_limit}
 use Rattle.byte_machine.specs.Running.{Fixed, Running, Stop, Answers, moved, register, table_word}
-use Rattle.byte_machine.specs.Calls.{Callee, callee, callee_at, callee_by, calling, frame_at, kept_for, words_in, made_at, nothing_used, most_calls, moved_by_word}
+use Rattle.byte_machine.specs.Calls.{Callee, callee, callee_at, callee_by, calling, frame_at, kept_for, register_words, made_at, nothing_used, most_calls, moved_by_word}
 use Rattle.byte_machine.specs.Runs.{MayAsk}
-use Rattle.byte_machine.specs.Leads.{Leads}
+use Rattle.byte_machine.specs.Leads.{OpsLead}
 use Rattle.byte_machine.proofs.Leads.{below, not_below, within, not_within, not_zero}
 
 -- a call by an entry
-pub leads_call_entry : (f : Fixed) {ops : List Op} {s : Running} {P : Running → Stop → Type 0} (this entry : ℕ) (arguments : List ℕ) (result : ResultUse) (at : ℕ) (to : Callee) → register s this ≡ Some at → s.calls < most_calls → callee f.image s.memory at entry ≡ Some to → Leads f ops (calling (frame_at f to.block to.this (words_in s arguments) (kept_for result to.vbase to.add)) s) P → Leads f (CallEntry this entry arguments result ∷ ops) s P
+pub leads_call_entry : (f : Fixed) {ops : List Op} {s : Running} {P : Running → Stop → Type 0} (this entry : ℕ) (arguments : List ℕ) (result : ResultUse) (at : ℕ) (to : Callee) → register s this ≡ Some at → s.calls < most_calls → callee f.image s.memory at entry ≡ Some to → OpsLead f ops (calling (frame_at f to.block to.this (register_words s arguments) (kept_for result to.vbase to.add)) s) P → OpsLead f (CallEntry this entry arguments result ∷ ops) s P
 leads_call_entry f {ops} {s} {P} this entry arguments result at to e room there h = record { run = rw (e, not_within most_calls s.calls room, there) h.run }
 
-pub leads_call_entry_full : (f : Fixed) {ops : List Op} {s : Running} {P : Running → Stop → Type 0} (this entry : ℕ) (arguments : List ℕ) (result : ResultUse) (at : ℕ) → register s this ≡ Some at → most_calls ≤ s.calls → P s (Answers (Limit 10)) → Leads f (CallEntry this entry arguments result ∷ ops) s P
+pub leads_call_entry_full : (f : Fixed) {ops : List Op} {s : Running} {P : Running → Stop → Type 0} (this entry : ℕ) (arguments : List ℕ) (result : ResultUse) (at : ℕ) → register s this ≡ Some at → most_calls ≤ s.calls → P s (Answers (Limit 10)) → OpsLead f (CallEntry this entry arguments result ∷ ops) s P
 leads_call_entry_full f {ops} {s} {P} this entry arguments result at e full h = record { run = rw (e, within most_calls s.calls full) h }
 
 -- a call of a block
-pub leads_call_code : (f : Fixed) {ops : List Op} {s : Running} {P : Running → Stop → Type 0} (block this : ℕ) (arguments : List ℕ) (result : ResultUse) (at : ℕ) → register s this ≡ Some at → s.calls < most_calls → Leads f ops (calling (frame_at f block at (words_in s arguments) (kept_for result 0 0)) s) P → Leads f (CallCode block this arguments result ∷ ops) s P
+pub leads_call_code : (f : Fixed) {ops : List Op} {s : Running} {P : Running → Stop → Type 0} (block this : ℕ) (arguments : List ℕ) (result : ResultUse) (at : ℕ) → register s this ≡ Some at → s.calls < most_calls → OpsLead f ops (calling (frame_at f block at (register_words s arguments) (kept_for result 0 0)) s) P → OpsLead f (CallCode block this arguments result ∷ ops) s P
 leads_call_code f {ops} {s} {P} block this arguments result at e room h = record { run = rw (e, not_within most_calls s.calls room) h.run }
 
-pub leads_call_code_full : (f : Fixed) {ops : List Op} {s : Running} {P : Running → Stop → Type 0} (block this : ℕ) (arguments : List ℕ) (result : ResultUse) (at : ℕ) → register s this ≡ Some at → most_calls ≤ s.calls → P s (Answers (Limit 10)) → Leads f (CallCode block this arguments result ∷ ops) s P
+pub leads_call_code_full : (f : Fixed) {ops : List Op} {s : Running} {P : Running → Stop → Type 0} (block this : ℕ) (arguments : List ℕ) (result : ResultUse) (at : ℕ) → register s this ≡ Some at → most_calls ≤ s.calls → P s (Answers (Limit 10)) → OpsLead f (CallCode block this arguments result ∷ ops) s P
 leads_call_code_full f {ops} {s} {P} block this arguments result at e full h = record { run = rw (e, within most_calls s.calls full) h }
 
 -- `new`, at any address
-pub leads_new : (f : Fixed) {ops : List Op} {s : Running} {P : Running → Stop → Type 0} (size class block : ℕ) (result : ResultUse) → s.heap + rounded size ≤ heap_limit → s.calls < most_calls → MayAsk s size → ((at : ℕ) → IsRoom s.memory at size → Leads f ops (made_at f s size class block result at) P) → Leads f (New size class block result ∷ ops) s P
+pub leads_new : (f : Fixed) {ops : List Op} {s : Running} {P : Running → Stop → Type 0} (size class block : ℕ) (result : ResultUse) → s.heap + rounded size ≤ heap_limit → s.calls < most_calls → MayAsk s size → ((at : ℕ) → IsRoom s.memory at size → OpsLead f ops (made_at f s size class block result at) P) → OpsLead f (New size class block result ∷ ops) s P
 leads_new f {ops} {s} {P} size class block result fits room may h = record { run = rw (not_below heap_limit (s.heap + rounded size) fits, not_within most_calls s.calls room) (may, λ at there. (h at there).run) }
 
 -- limit 8
-pub leads_new_full : (f : Fixed) {ops : List Op} {s : Running} {P : Running → Stop → Type 0} (size class block : ℕ) (result : ResultUse) → heap_limit < s.heap + rounded size → P s (Answers (Limit 8)) → Leads f (New size class block result ∷ ops) s P
+pub leads_new_full : (f : Fixed) {ops : List Op} {s : Running} {P : Running → Stop → Type 0} (size class block : ℕ) (result : ResultUse) → heap_limit < s.heap + rounded size → P s (Answers (Limit 8)) → OpsLead f (New size class block result ∷ ops) s P
 leads_new_full f {ops} {s} {P} size class block result past h = record { run = rw (below heap_limit (s.heap + rounded size) past) h }
 
 -- limit 10
-pub leads_new_deep : (f : Fixed) {ops : List Op} {s : Running} {P : Running → Stop → Type 0} (size class block : ℕ) (result : ResultUse) → s.heap + rounded size ≤ heap_limit → most_calls ≤ s.calls → P s (Answers (Limit 10)) → Leads f (New size class block result ∷ ops) s P
+pub leads_new_deep : (f : Fixed) {ops : List Op} {s : Running} {P : Running → Stop → Type 0} (size class block : ℕ) (result : ResultUse) → s.heap + rounded size ≤ heap_limit → most_calls ≤ s.calls → P s (Answers (Limit 10)) → OpsLead f (New size class block result ∷ ops) s P
 leads_new_deep f {ops} {s} {P} size class block result fits full h = record { run = rw (not_below heap_limit (s.heap + rounded size) fits, within most_calls s.calls full) h }
 
 -- `delete` of 0, and by an entry
-pub leads_delete_entry_null : (f : Fixed) {ops : List Op} {s : Running} {P : Running → Stop → Type 0} (this entry : ℕ) → register s this ≡ Some 0 → Leads f ops s P → Leads f (DeleteEntry this entry ∷ ops) s P
+pub leads_delete_entry_null : (f : Fixed) {ops : List Op} {s : Running} {P : Running → Stop → Type 0} (this entry : ℕ) → register s this ≡ Some 0 → OpsLead f ops s P → OpsLead f (DeleteEntry this entry ∷ ops) s P
 leads_delete_entry_null f {ops} {s} {P} this entry e h = record { run = rw e h.run }
 
-pub leads_delete_entry : (f : Fixed) {ops : List Op} {s : Running} {P : Running → Stop → Type 0} (this entry at : ℕ) (to : Callee) → register s this ≡ Some at → (at ≡ 0 → ⊥) → s.calls < most_calls → callee f.image s.memory at entry ≡ Some to → Leads f ops (calling (frame_at f to.block to.this [] (kept_for nothing_used to.vbase to.add)) s) P → Leads f (DeleteEntry this entry ∷ ops) s P
+pub leads_delete_entry : (f : Fixed) {ops : List Op} {s : Running} {P : Running → Stop → Type 0} (this entry at : ℕ) (to : Callee) → register s this ≡ Some at → (at ≡ 0 → ⊥) → s.calls < most_calls → callee f.image s.memory at entry ≡ Some to → OpsLead f ops (calling (frame_at f to.block to.this [] (kept_for nothing_used to.vbase to.add)) s) P → OpsLead f (DeleteEntry this entry ∷ ops) s P
 leads_delete_entry f {ops} {s} {P} this entry at to e some room there h = record { run = rw (e, not_zero at some, not_within most_calls s.calls room, there) h.run }
 
-pub leads_delete_entry_full : (f : Fixed) {ops : List Op} {s : Running} {P : Running → Stop → Type 0} (this entry at : ℕ) → register s this ≡ Some at → (at ≡ 0 → ⊥) → most_calls ≤ s.calls → P s (Answers (Limit 10)) → Leads f (DeleteEntry this entry ∷ ops) s P
+pub leads_delete_entry_full : (f : Fixed) {ops : List Op} {s : Running} {P : Running → Stop → Type 0} (this entry at : ℕ) → register s this ≡ Some at → (at ≡ 0 → ⊥) → most_calls ≤ s.calls → P s (Answers (Limit 10)) → OpsLead f (DeleteEntry this entry ∷ ops) s P
 leads_delete_entry_full f {ops} {s} {P} this entry at e some full h = record { run = rw (e, not_zero at some, within most_calls s.calls full) h }
 
 -- the same by a block
-pub leads_delete_code_null : (f : Fixed) {ops : List Op} {s : Running} {P : Running → Stop → Type 0} (this block : ℕ) → register s this ≡ Some 0 → Leads f ops s P → Leads f (DeleteCode this block ∷ ops) s P
+pub leads_delete_code_null : (f : Fixed) {ops : List Op} {s : Running} {P : Running → Stop → Type 0} (this block : ℕ) → register s this ≡ Some 0 → OpsLead f ops s P → OpsLead f (DeleteCode this block ∷ ops) s P
 leads_delete_code_null f {ops} {s} {P} this block e h = record { run = rw e h.run }
 
-pub leads_delete_code : (f : Fixed) {ops : List Op} {s : Running} {P : Running → Stop → Type 0} (this block at : ℕ) → register s this ≡ Some at → (at ≡ 0 → ⊥) → s.calls < most_calls → Leads f ops (calling (frame_at f block at [] (kept_for nothing_used 0 0)) s) P → Leads f (DeleteCode this block ∷ ops) s P
+pub leads_delete_code : (f : Fixed) {ops : List Op} {s : Running} {P : Running → Stop → Type 0} (this block at : ℕ) → register s this ≡ Some at → (at ≡ 0 → ⊥) → s.calls < most_calls → OpsLead f ops (calling (frame_at f block at [] (kept_for nothing_used 0 0)) s) P → OpsLead f (DeleteCode this block ∷ ops) s P
 leads_delete_code f {ops} {s} {P} this block at e some room h = record { run = rw (e, not_zero at some, not_within most_calls s.calls room) h.run }
 
-pub leads_delete_code_full : (f : Fixed) {ops : List Op} {s : Running} {P : Running → Stop → Type 0} (this block at : ℕ) → register s this ≡ Some at → (at ≡ 0 → ⊥) → most_calls ≤ s.calls → P s (Answers (Limit 10)) → Leads f (DeleteCode this block ∷ ops) s P
+pub leads_delete_code_full : (f : Fixed) {ops : List Op} {s : Running} {P : Running → Stop → Type 0} (this block at : ℕ) → register s this ≡ Some at → (at ≡ 0 → ⊥) → most_calls ≤ s.calls → P s (Answers (Limit 10)) → OpsLead f (DeleteCode this block ∷ ops) s P
 leads_delete_code_full f {ops} {s} {P} this block at e some full h = record { run = rw (e, not_zero at some, within most_calls s.calls full) h }
 
 -- where the heap's total is that of the regions, a `new` within the limit has room

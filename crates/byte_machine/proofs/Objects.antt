@@ -9,14 +9,14 @@ use Rattle.std.proofs.lemmas.List.Elements.{All-push, All-nil, All-head, All-tai
 use Rattle.byte_memory.specs.declared.memory.Region.{Region}
 use Rattle.byte_memory.proofs.Ascending.{HasAddress, IsAscendingBy-push}
 use Rattle.byte_machine.specs.declared.heap.Opened.{Opened}
-use Rattle.byte_machine.specs.Heap.{has_address, made, IsInOrder, LiesIn}
+use Rattle.byte_machine.specs.Heap.{has_address, with_heap_object, AreObjectsInOrder, LieInRegions}
 
 -- an object that has an address starts there or below
 pub has_address-within : (objects : List Opened) (at : ℕ) → HasAddress (λ object. object.start) (λ object. object.size) objects at (has_address at)
 has_address-within objects at k object here pass = (grind (arith, nat_tests), grind (arith, nat_tests))
 
 -- a region above all others is above all objects
-pub IsInOrder-made : (objects : List Opened) (regions : List Region) (at size class : ℕ) → IsInOrder objects → LiesIn objects regions → All (λ region. region.start + region.size ≤ at) regions → IsInOrder (made objects at size class)
+pub IsInOrder-made : (objects : List Opened) (regions : List Region) (at size class : ℕ) → AreObjectsInOrder objects → LieInRegions objects regions → All (λ region. region.start + region.size ≤ at) regions → AreObjectsInOrder (with_heap_object objects at size class)
 IsInOrder-made objects regions at size class up inside above =
     IsAscendingBy-push (λ (object : Opened). object.start) (λ object. object.size) objects (record { number = length objects + 1; start = at; size = size; class = class }) up (inside at above)
 
@@ -28,7 +28,7 @@ All-split P (x ∷ xs) y all =
     (All-cons P x xs (All-head P x (xs ++ y ∷ []) all) rest.0, rest.1)
 
 -- the objects lie in the regions after one was opened for a new object
-pub LiesIn-made : (objects : List Opened) (regions : List Region) (at size class : ℕ) → LiesIn objects regions → LiesIn (made objects at size class) (regions ++ (record { start = at; size = size; is_open = true }) ∷ [])
+pub LiesIn-made : (objects : List Opened) (regions : List Region) (at size class : ℕ) → LieInRegions objects regions → LieInRegions (with_heap_object objects at size class) (regions ++ (record { start = at; size = size; is_open = true }) ∷ [])
 LiesIn-made objects regions at size class inside bound all =
     let parts = All-split (λ (region : Region). region.start + region.size ≤ bound) regions (record { start = at; size = size; is_open = true }) all in
     All-push (λ (object : Opened). object.start + object.size ≤ bound) objects (record { number = length objects + 1; start = at; size = size; class = class }) (inside bound parts.0) parts.1
@@ -46,10 +46,10 @@ before_shut (r ∷ regions) at bound all =
     (before_shut regions at bound (All-tail (λ (r : Region). r.start + r.size ≤ bound) (shut at r) (map (shut at) regions) all))
 
 -- the objects lie in the regions after one was closed
-pub LiesIn-shut : (objects : List Opened) (regions : List Region) (at : ℕ) → LiesIn objects regions → LiesIn objects (map (shut at) regions)
+pub LiesIn-shut : (objects : List Opened) (regions : List Region) (at : ℕ) → LieInRegions objects regions → LieInRegions objects (map (shut at) regions)
 LiesIn-shut objects regions at inside bound all = inside bound (before_shut regions at bound all)
 
 -- and so they do after a call to close one
-pub LiesIn-closed : {X : Type 0} (objects : List Opened) (old new : Store) (at : ℕ) (result : Result X MemoryFault) → MatchResult result (λ done. Closes old new at) (λ fault. (close_fault old.regions at ≡ Some fault) × (new ≡ old)) → LiesIn objects old.regions → LiesIn objects new.regions
-LiesIn-closed {X} objects old new at (Ok done) closes inside = subst (λ (s : Store). LiesIn objects s.regions) (sym closes.new_is) (LiesIn-shut objects old.regions at inside)
-LiesIn-closed {X} objects old new at (Err fault) kept inside = subst (λ (s : Store). LiesIn objects s.regions) (sym kept.1) inside
+pub LiesIn-closed : {X : Type 0} (objects : List Opened) (old new : Store) (at : ℕ) (result : Result X MemoryFault) → MatchResult result (λ done. Closes old new at) (λ fault. (close_fault old.regions at ≡ Some fault) × (new ≡ old)) → LieInRegions objects old.regions → LieInRegions objects new.regions
+LiesIn-closed {X} objects old new at (Ok done) closes inside = subst (λ (s : Store). LieInRegions objects s.regions) (sym closes.new_is) (LiesIn-shut objects old.regions at inside)
+LiesIn-closed {X} objects old new at (Err fault) kept inside = subst (λ (s : Store). LieInRegions objects s.regions) (sym kept.1) inside

@@ -17,13 +17,13 @@ abbrev pub object_at : List Opened → ℕ → Option Opened
 object_at objects at = find (has_address at) objects
 
 -- the heap objects after one more was made; they are numbered from 1
-abbrev pub made : List Opened → ℕ → ℕ → ℕ → List Opened
-made objects start size class = objects ++ (record { number = length objects + 1; start = start; size = size; class = class }) ∷ []
+abbrev pub with_heap_object : List Opened → ℕ → ℕ → ℕ → List Opened
+with_heap_object objects start size class = objects ++ (record { number = length objects + 1; start = start; size = size; class = class }) ∷ []
 
 -- each heap object ends before the later ones start
-abbrev pub IsInOrder : List Opened → Type 0
-IsInOrder objects = IsAscendingBy (λ object. object.start) (λ object. object.size) objects
+abbrev pub AreObjectsInOrder : List Opened → Type 0
+AreObjectsInOrder objects = IsAscendingBy (λ object. object.start) (λ object. object.size) objects
 
 -- what is above all regions is above all heap objects
-abbrev pub LiesIn : List Opened → List Region → Type 0
-LiesIn objects regions = (bound : ℕ) → All (λ region. region.start + region.size ≤ bound) regions → All (λ object. object.start + object.size ≤ bound) objects
+abbrev pub LieInRegions : List Opened → List Region → Type 0
+LieInRegions objects regions = (bound : ℕ) → All (λ region. region.start + region.size ≤ bound) regions → All (λ object. object.start + object.size ≤ bound) objects

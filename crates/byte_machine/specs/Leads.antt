@@ -24,13 +24,13 @@ LeadsIn f [] s P = P s (Answers Went)
 LeadsIn f (op ∷ ops) s P = LeadsBy f (effect_of f op s) s (λ next. LeadsIn f ops next P) P
 
 -- the ops are defined from s, and whatever they lead to meets P
-pub record Leads (f : Fixed) (ops : List Op) (s : Running) (P : Running → Stop → Type 0) : Type 0 where
+pub record OpsLead (f : Fixed) (ops : List Op) (s : Running) (P : Running → Stop → Type 0) : Type 0 where
   pub run : LeadsIn f ops s P
 
 -- what holds of the answer of a whole block: behind a return the ops that follow it lead there
-abbrev pub Ends : Fixed → (Running → MachineTurn → Type 0) → Running → Stop → Type 0
-Ends f P new (Answers turn) = P new turn
-Ends f P new (Returned finish) = Leads f (finishing finish) new (Finally P)
+abbrev pub HoldsOfAnswer : Fixed → (Running → MachineTurn → Type 0) → Running → Stop → Type 0
+HoldsOfAnswer f P new (Answers turn) = P new turn
+HoldsOfAnswer f P new (Returned finish) = OpsLead f (finishing finish) new (Finally P)
   where
     Finally : (Running → MachineTurn → Type 0) → Running → Stop → Type 0
     Finally Q last (Answers turn) = Q last turn
@@ -38,4 +38,4 @@ Ends f P new (Returned finish) = Leads f (finishing finish) new (Finally P)
 
 -- a block and what follows its return are defined, and whatever they lead to meets P
 abbrev pub LeadsBlock : Fixed → List Op → Running → (Running → MachineTurn → Type 0) → Type 0
-LeadsBlock f ops s P = Leads f ops s (Ends f P)
+LeadsBlock f ops s P = OpsLead f ops s (HoldsOfAnswer f P)

@@ -1,10 +1,10 @@
 //! Calls, `new` and `delete` (Itanium C++ ABI 2.5.2, 2.5.3).
 
 ghost use Rattle.std.specs.Prelude.{◌≡◌, [], IfOk};
-ghost use Rattle.byte_machine.specs.Calls.{code_called, deleted, entry_called, new_made, nothing_used};
+ghost use Rattle.byte_machine.specs.Calls.{code_called, deleted_unless_null, entry_called, new_effect, nothing_used};
 ghost use Rattle.byte_machine.specs.Effects.{effect_of};
 ghost use Rattle.byte_machine.specs.invariants.OpKinds.{op_kind, OfCalls, OfDeletes};
-ghost use Rattle.byte_machine.specs.invariants.States.{CanDo, DidAs, Keeps, limited};
+ghost use Rattle.byte_machine.specs.invariants.States.{CanDo, DidAs, KeepsRoomAndOuts, limited};
 
 use crate::callees::find_callee;
 use crate::entering::{keep, open_call};
@@ -27,7 +27,7 @@ fn call_entry<M: Memory>(
 ) -> Result<Option<u8>, NoMemory>
     requires { CanDo setup.now (λ f s. entry_called f s entry arguments.now outcome.now this) running.old }
     ensures did { IfOk result (λ limit. DidAs setup.now (λ f s. entry_called f s entry arguments.now outcome.now this) running.old running.new (limited limit)) }
-    ensures kept { Keeps running.old running.new }
+    ensures kept { KeepsRoomAndOuts running.old running.new }
 {
     if running.calls >= MOST_CALLS {
         return Ok(Some(10));
@@ -49,7 +49,7 @@ fn call_code<M: Memory>(
 ) -> Result<Option<u8>, NoMemory>
     requires { CanDo setup.now (λ f s. code_called f s block arguments.now outcome.now this) running.old }
     ensures did { IfOk result (λ limit. DidAs setup.now (λ f s. code_called f s block arguments.now outcome.now this) running.old running.new (limited limit)) }
-    ensures kept { Keeps running.old running.new }
+    ensures kept { KeepsRoomAndOuts running.old running.new }
 {
     if running.calls >= MOST_CALLS {
         return Ok(Some(10));
@@ -68,9 +68,9 @@ fn make<M: Memory>(
     block: u32,
     outcome: &ResultUse,
 ) -> Result<Option<u8>, NoMemory>
-    requires { CanDo setup.now (λ f s. new_made f s size class block outcome.now) running.old }
-    ensures did { IfOk result (λ limit. DidAs setup.now (λ f s. new_made f s size class block outcome.now) running.old running.new (limited limit)) }
-    ensures kept { Keeps running.old running.new }
+    requires { CanDo setup.now (λ f s. new_effect f s size class block outcome.now) running.old }
+    ensures did { IfOk result (λ limit. DidAs setup.now (λ f s. new_effect f s size class block outcome.now) running.old running.new (limited limit)) }
+    ensures kept { KeepsRoomAndOuts running.old running.new }
 {
     if running.heap.is_full(size) {
         return Ok(Some(8));
@@ -102,9 +102,9 @@ fn delete_entry<M: Memory>(
     this: u64,
     entry: u32,
 ) -> Result<Option<u8>, NoMemory>
-    requires { CanDo setup.now (λ f s. deleted this s (entry_called f s entry [] nothing_used this)) running.old }
-    ensures did { IfOk result (λ limit. DidAs setup.now (λ f s. deleted this s (entry_called f s entry [] nothing_used this)) running.old running.new (limited limit)) }
-    ensures kept { Keeps running.old running.new }
+    requires { CanDo setup.now (λ f s. deleted_unless_null this s (entry_called f s entry [] nothing_used this)) running.old }
+    ensures did { IfOk result (λ limit. DidAs setup.now (λ f s. deleted_unless_null this s (entry_called f s entry [] nothing_used this)) running.old running.new (limited limit)) }
+    ensures kept { KeepsRoomAndOuts running.old running.new }
 {
     if this == 0 {
         return Ok(None);
@@ -121,9 +121,9 @@ fn delete_code<M: Memory>(
     this: u64,
     block: u32,
 ) -> Result<Option<u8>, NoMemory>
-    requires { CanDo setup.now (λ f s. deleted this s (code_called f s block [] nothing_used this)) running.old }
-    ensures did { IfOk result (λ limit. DidAs setup.now (λ f s. deleted this s (code_called f s block [] nothing_used this)) running.old running.new (limited limit)) }
-    ensures kept { Keeps running.old running.new }
+    requires { CanDo setup.now (λ f s. deleted_unless_null this s (code_called f s block [] nothing_used this)) running.old }
+    ensures did { IfOk result (λ limit. DidAs setup.now (λ f s. deleted_unless_null this s (code_called f s block [] nothing_used this)) running.old running.new (limited limit)) }
+    ensures kept { KeepsRoomAndOuts running.old running.new }
 {
     if this == 0 {
         return Ok(None);
@@ -144,7 +144,7 @@ pub fn run_call<M: Memory>(
     requires kind { op_kind op.now ≡ OfCalls }
     requires allowed { CanDo setup.now (λ f s. effect_of f op.now s) running.old }
     ensures did { IfOk result (λ limit. DidAs setup.now (λ f s. effect_of f op.now s) running.old running.new (limited limit)) }
-    ensures kept { Keeps running.old running.new }
+    ensures kept { KeepsRoomAndOuts running.old running.new }
 {
     let limit = match op {
         Op::CallEntry {
@@ -187,7 +187,7 @@ pub fn run_delete<M: Memory>(
     requires kind { op_kind op.now ≡ OfDeletes }
     requires allowed { CanDo setup.now (λ f s. effect_of f op.now s) running.old }
     ensures did { IfOk result (λ limit. DidAs setup.now (λ f s. effect_of f op.now s) running.old running.new (limited limit)) }
-    ensures kept { Keeps running.old running.new }
+    ensures kept { KeepsRoomAndOuts running.old running.new }
 {
     let limit = match op {
         Op::DeleteEntry { this, entry } => {

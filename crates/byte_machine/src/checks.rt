@@ -4,7 +4,7 @@ ghost use Rattle.std.specs.Prelude.{◌≡◌, if◌then◌else◌};
 ghost use Rattle.abi_dyncast.specs.Casts.{room};
 ghost use Rattle.byte_machine.specs.Running.{Goes};
 ghost use Rattle.byte_machine.specs.Checks.{checked, view_checked};
-ghost use Rattle.byte_machine.specs.invariants.States.{running_of, CanDo, DidAs, Keeps, refusal};
+ghost use Rattle.byte_machine.specs.invariants.States.{running_of, CanDo, DidAs, KeepsRoomAndOuts, refusal_stop};
 ghost use Rattle.byte_machine.specs.invariants.CheckKinds.{check_kind, OfMemory, OfPhases, OfOwners};
 ghost use Rattle.byte_code.specs.declared.op.Check.TheVariants.{Fits};
 
@@ -34,7 +34,7 @@ fn check_fits<M: Memory>(
     right: u32,
 ) -> Option<u8>
     requires allowed { CanDo _setup.now (λ f s. checked f (Fits kind width left right) s) running.now }
-    ensures { DidAs _setup.now (λ f s. checked f (Fits kind width left right) s) running.now running.now (refusal running.now.line result) }
+    ensures { DidAs _setup.now (λ f s. checked f (Fits kind width left right) s) running.now running.now (refusal_stop running.now.line result) }
 {
     match running.register(left) {
         None => None,
@@ -50,7 +50,7 @@ fn check_fits<M: Memory>(
 fn check_memory<M: Memory>(setup: &Setup, running: &Running<M>, check: &Check) -> Option<u8>
     requires kind { check_kind check.now ≡ OfMemory }
     requires allowed { CanDo setup.now (λ f s. checked f check.now s) running.now }
-    ensures { DidAs setup.now (λ f s. checked f check.now s) running.now running.now (refusal running.now.line result) }
+    ensures { DidAs setup.now (λ f s. checked f check.now s) running.now running.now (refusal_stop running.now.line result) }
 {
     match check {
         Check::Open { register } => match running.register(*register) {
@@ -102,7 +102,7 @@ fn check_memory<M: Memory>(setup: &Setup, running: &Running<M>, check: &Check) -
 fn check_phases<M: Memory>(_setup: &Setup, running: &Running<M>, check: &Check) -> Option<u8>
     requires kind { check_kind check.now ≡ OfPhases }
     requires allowed { CanDo _setup.now (λ f s. checked f check.now s) running.now }
-    ensures { DidAs _setup.now (λ f s. checked f check.now s) running.now running.now (refusal running.now.line result) }
+    ensures { DidAs _setup.now (λ f s. checked f check.now s) running.now running.now (refusal_stop running.now.line result) }
 {
     match check {
         Check::Ready {
@@ -119,7 +119,10 @@ fn check_phases<M: Memory>(_setup: &Setup, running: &Running<M>, check: &Check) 
             class,
         } => match running.register(*register) {
             None | Some(0) => None,
-            Some(at) => unless(running.shadow.phase(moved(at, *offset), *class).is_some(), 7),
+            Some(at) => unless(
+                running.shadow.phase(moved(at, *offset), *class).is_some(),
+                7,
+            ),
         },
         Check::Complete { register } => match running.register(*register) {
             None | Some(0) => None,
@@ -142,9 +145,9 @@ pub fn check_view<M: Memory>(
 ) -> Option<u8>
     requires allowed { CanDo setup.now (λ f s. view_checked s at class (Goes s)) running.old }
     requires room { room running.old.work ≡ setup.now.parts }
-    ensures did { DidAs setup.now (λ f s. view_checked s at class (Goes s)) running.old running.old (refusal running.old.line result) }
+    ensures did { DidAs setup.now (λ f s. view_checked s at class (Goes s)) running.old running.old (refusal_stop running.old.line result) }
     ensures same { running_of running.new ≡ running_of running.old }
-    ensures kept { Keeps running.old running.new }
+    ensures kept { KeepsRoomAndOuts running.old running.new }
 {
     let owner = running.shadow.owner(at, class).unwrap();
     let view = running.shadow.view(owner.0, owner.1).unwrap();
@@ -169,8 +172,8 @@ fn check_owners<M: Memory>(setup: &Setup, running: &mut Running<M>, check: &Chec
     requires kind { check_kind check.now ≡ OfOwners }
     requires allowed { CanDo setup.now (λ f s. checked f check.now s) running.old }
     requires room { room running.old.work ≡ setup.now.parts }
-    ensures did { DidAs setup.now (λ f s. checked f check.now s) running.old running.new (refusal running.old.line result) }
-    ensures kept { Keeps running.old running.new }
+    ensures did { DidAs setup.now (λ f s. checked f check.now s) running.old running.new (refusal_stop running.old.line result) }
+    ensures kept { KeepsRoomAndOuts running.old running.new }
 {
     match check {
         Check::InView {
@@ -208,8 +211,8 @@ fn check_owners<M: Memory>(setup: &Setup, running: &mut Running<M>, check: &Chec
 pub fn run_check<M: Memory>(setup: &Setup, running: &mut Running<M>, check: &Check) -> Option<u8>
     requires allowed { CanDo setup.now (λ f s. checked f check.now s) running.old }
     requires room { room running.old.work ≡ setup.now.parts }
-    ensures did { DidAs setup.now (λ f s. checked f check.now s) running.old running.new (refusal running.old.line result) }
-    ensures kept { Keeps running.old running.new }
+    ensures did { DidAs setup.now (λ f s. checked f check.now s) running.old running.new (refusal_stop running.old.line result) }
+    ensures kept { KeepsRoomAndOuts running.old running.new }
 {
     match check {
         Check::SetRegister { register } => unless(running.register(*register).is_some(), 5),

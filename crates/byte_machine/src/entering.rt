@@ -1,11 +1,11 @@
 //! The frames that calls open.
 
 ghost use Rattle.std.specs.Prelude.{◌≡◌, ◌<◌, ◌++◌, IfOk, replicate};
-ghost use Rattle.byte_machine.specs.Frames.{entered};
-ghost use Rattle.byte_machine.specs.Calls.{calling, frame_at, kept_for, most_calls, words_in};
+ghost use Rattle.byte_machine.specs.Frames.{entry_registers};
+ghost use Rattle.byte_machine.specs.Calls.{calling, frame_at, kept_for, most_calls, register_words};
 ghost use Rattle.byte_machine.specs.GivenFrames.{frame_of, kept_of};
 ghost use Rattle.byte_machine.specs.Turn.{main_frame};
-ghost use Rattle.byte_machine.specs.invariants.States.{fixed_by, running_of, Keeps};
+ghost use Rattle.byte_machine.specs.invariants.States.{fixed_by, running_of, KeepsRoomAndOuts};
 
 use crate::frames::{Frame, Handed, Kept};
 use crate::running::{Running, Setup};
@@ -20,7 +20,7 @@ fn push_words<M: Memory>(
     running: &Running<M>,
     arguments: &[u32],
 ) -> Result<(), NoMemory>
-    ensures { IfOk result (λ _. registers.new.items ≡ registers.old.items ++ words_in (running_of running.now) arguments.now) }
+    ensures { IfOk result (λ _. registers.new.items ≡ registers.old.items ++ register_words (running_of running.now) arguments.now) }
 {
     for number in arguments {
         registers.push(running.register(*number))?;
@@ -35,7 +35,7 @@ pub fn enter<M: Memory>(
     this: u64,
     arguments: &[u32],
 ) -> Result<Vec<Option<u64>>, NoMemory>
-    ensures { IfOk result (λ registers. registers.items ≡ entered setup.now.size this (words_in (running_of running.now) arguments.now)) }
+    ensures { IfOk result (λ registers. registers.items ≡ entry_registers setup.now.size this (register_words (running_of running.now) arguments.now)) }
 {
     let size = setup.size as usize;
     let mut registers = Vec::with_capacity(setup.alloc, size)?;
@@ -79,8 +79,8 @@ pub fn open_call<M: Memory>(
     kept: Kept,
 ) -> Result<(), NoMemory>
     requires { running.old.calls < 4096 }
-    ensures did { IfOk result (λ _. running_of running.new ≡ calling (frame_at (fixed_by setup.now) block this (words_in (running_of running.old) arguments.now) (kept_of kept)) (running_of running.old)) }
-    ensures kept { Keeps running.old running.new }
+    ensures did { IfOk result (λ _. running_of running.new ≡ calling (frame_at (fixed_by setup.now) block this (register_words (running_of running.old) arguments.now) (kept_of kept)) (running_of running.old)) }
+    ensures kept { KeepsRoomAndOuts running.old running.new }
 {
     let registers = enter(setup, running, this, arguments)?;
     let frame = Frame {

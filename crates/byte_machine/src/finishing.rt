@@ -3,7 +3,7 @@
 ghost use Rattle.std.specs.Prelude.{◌≡◌};
 ghost use Rattle.abi_dyncast.specs.Casts.{room};
 ghost use Rattle.byte_machine.specs.Effects.{finish_effect};
-ghost use Rattle.byte_machine.specs.invariants.States.{CanDo, DidAs, Keeps, refusal};
+ghost use Rattle.byte_machine.specs.invariants.States.{CanDo, DidAs, KeepsRoomAndOuts, refusal_stop};
 
 use crate::checks::run_check;
 use crate::numbers::convert;
@@ -18,8 +18,8 @@ use byte_memory::Memory;
 pub fn run_finish<M: Memory>(setup: &Setup, running: &mut Running<M>, finish: &Finish) -> Option<u8>
     requires allowed { CanDo setup.now (λ f s. finish_effect f finish.now s) running.old }
     requires room { room running.old.work ≡ setup.now.parts }
-    ensures did { DidAs setup.now (λ f s. finish_effect f finish.now s) running.old running.new (refusal running.old.line result) }
-    ensures kept { Keeps running.old running.new }
+    ensures did { DidAs setup.now (λ f s. finish_effect f finish.now s) running.old running.new (refusal_stop running.old.line result) }
+    ensures kept { KeepsRoomAndOuts running.old running.new }
 {
     match finish {
         Finish::Check(check) => {

@@ -1,7 +1,7 @@
 //! What the frames of bases are handed, and where virtual pointers lead and stand (Itanium C++ ABI 2.6).
 
 ghost use Rattle.std.specs.Prelude.{◌≡◌};
-ghost use Rattle.byte_machine.specs.Plans.{directory_point, directory_vtt, handed_to, owner_of, place_through, source_word, vtt_of};
+ghost use Rattle.byte_machine.specs.Plans.{directory_point, directory_vtt, handed_to, frame_owner, place_through, source_word, vtt_of};
 ghost use Rattle.byte_machine.specs.invariants.States.{fixed_by};
 
 use crate::entering::NOTHING_HANDED;
@@ -12,7 +12,7 @@ use byte_code::{BaseHand, PointSource, Whose};
 
 /// The complete object that a frame works in, whose `this` and class are given: its address, and the number of its class.
 pub fn owner_of(handed: Handed, owner: Whose, this: u64, class: u32) -> (u64, u32)
-    ensures { result ≡ owner_of handed owner this class }
+    ensures { result ≡ frame_owner handed owner this class }
 {
     match owner {
         Whose::Itself => (this, class),

@@ -1,8 +1,8 @@
 //! The heap objects of a run, over a memory.
 
 ghost use Rattle.std.specs.Prelude.{◌≡◌, ◌+◌, ◌*◌, ◌<◌, ◌≤◌, ◌^◌, length, nat_le};
-ghost use Rattle.byte_memory.specs.Regions.{rounded, IsCount};
-ghost use Rattle.byte_machine.specs.Heap.{IsInOrder, LiesIn, has_address, object_at};
+ghost use Rattle.byte_memory.specs.Regions.{rounded, CountsStarts};
+ghost use Rattle.byte_machine.specs.Heap.{AreObjectsInOrder, LieInRegions, has_address, object_at};
 
 use byte_memory::{Memory, MemoryFault};
 use foundation::NoMemory;
@@ -25,8 +25,8 @@ pub struct Heap<M: Memory> {
     total: u64,
     ghost counted: { 16 * length objects.items ≤ total },
     ghost limited: { total ≤ 67108864 },
-    ghost in_order: { IsInOrder objects.items },
-    ghost inside: { LiesIn objects.items (M.meaning memory).regions },
+    ghost in_order: { AreObjectsInOrder objects.items },
+    ghost inside: { LieInRegions objects.items (M.meaning memory).regions },
 }
 
 /// A size rounded up to a multiple of 16.
@@ -39,9 +39,9 @@ fn round_up(size: u32) -> u64
 impl<M: Memory> Heap<M> {
     ghost use Rattle.std.specs.Prelude.{[], IfOk, MatchResult, Some, nat_lt};
     ghost use Rattle.byte_memory.specs.Bits.{AreOneOrApart};
-    ghost use Rattle.byte_memory.specs.Store.{IsRoom, byte_span, open_of, store_of, store_bits_of, load_of, load_bits_of, copy_of, copy_bits_of, Closes, IsChanged};
+    ghost use Rattle.byte_memory.specs.Store.{IsRoom, byte_span, open_of, store_of, store_bits_of, load_of, load_bits_of, copied_store, copy_bits_of, Closes, IsChanged};
     ghost use Rattle.byte_memory.specs.Regions.{total_of, fault_at, copy_fault, close_fault};
-    ghost use Rattle.byte_machine.specs.Heap.{made, heap_limit};
+    ghost use Rattle.byte_machine.specs.Heap.{with_heap_object, heap_limit};
 
     /// A memory in which no heap object was made yet.
     pub fn new(alloc: Global, memory: M) -> Heap<M>
@@ -78,7 +78,7 @@ impl<M: Memory> Heap<M> {
         requires room { total_of (M.meaning self.old.memory).regions + rounded size < 2 ^ 40 }
         ensures at { IfOk result (λ at. IsRoom (M.meaning self.old.memory) at size) }
         ensures memory { IfOk result (λ at. M.meaning self.new.memory ≡ open_of (M.meaning self.old.memory) at size) }
-        ensures objects { IfOk result (λ at. self.new.objects.items ≡ made self.old.objects.items at size class) }
+        ensures objects { IfOk result (λ at. self.new.objects.items ≡ with_heap_object self.old.objects.items at size class) }
         ensures total { IfOk result (λ _. self.new.total ≡ self.old.total + rounded size) }
     {
         if self.objects.try_reserve(1).is_err() {
@@ -149,7 +149,7 @@ impl<M: Memory> Heap<M> {
         requires word { bytes ≤ 8 }
         requires apart { AreOneOrApart from to bytes }
         ensures result { IsChanged result (copy_fault (M.meaning self.old.memory).regions from to bytes)
-            (M.meaning self.old.memory) (M.meaning self.new.memory) (copy_of (M.meaning self.old.memory) from to bytes) }
+            (M.meaning self.old.memory) (M.meaning self.new.memory) (copied_store (M.meaning self.old.memory) from to bytes) }
         ensures objects { self.new.objects.items ≡ self.old.objects.items }
         ensures total { self.new.total ≡ self.old.total }
     {
@@ -210,9 +210,9 @@ impl<M: Memory> Heap<M> {
 
 /// How many heap objects start there or below: a binary search.
 fn count_up_to(objects: &[Opened], at: u64) -> usize
-    requires { IsInOrder objects.now }
+    requires { AreObjectsInOrder objects.now }
     ensures bound { result ≤ length objects.now }
-    ensures count { IsCount (λ object. object.start) objects.now at result }
+    ensures count { CountsStarts (λ object. object.start) objects.now at result }
 {
     objects.partition_point(
         |object: &Opened| -> bool
@@ -230,7 +230,7 @@ fn is_within(object: Opened, at: u64) -> bool
 
 /// The heap object that has the address.
 fn find_object(objects: &[Opened], at: u64) -> Option<Opened>
-    requires { IsInOrder objects.now }
+    requires { AreObjectsInOrder objects.now }
     ensures { result ≡ object_at objects.now at }
 {
     let count = count_up_to(objects, at);

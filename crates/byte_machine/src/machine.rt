@@ -35,8 +35,8 @@ pub struct Machine<M: Memory> {
 impl<M: Memory> Machine<M> {
     ghost use Rattle.std.specs.Prelude.{IfOk, OnOk, OnErr, IsErr, true, false};
     ghost use Rattle.byte_machine.specs.Heap.{object_at};
-    ghost use Rattle.byte_machine.specs.Turn.{Turns, HasTurn, begun};
-    ghost use Rattle.byte_machine.specs.MachineState.{code_of, image_of, parts_of, fixed_in, state_of, has_failed};
+    ghost use Rattle.byte_machine.specs.Turn.{Turns, HasTurn, start_state};
+    ghost use Rattle.byte_machine.specs.MachineState.{machine_code, machine_image, cast_room, fixed_in, state_of, has_failed};
 
     /// A machine before its first step, with globals that are 0 and registers that are unset.
     ///
@@ -52,10 +52,10 @@ impl<M: Memory> Machine<M> {
     ) -> Result<Machine<M>, NoMemory>
     where
         M: Drop,
-        ensures state { IfOk result (λ m. state_of m ≡ begun (M.meaning memory) code steps) }
-        ensures code { IfOk result (λ m. code_of m ≡ code) }
-        ensures image { IfOk result (λ m. image_of m ≡ image) }
-        ensures parts { IfOk result (λ m. parts_of m ≡ largest) }
+        ensures state { IfOk result (λ m. state_of m ≡ start_state (M.meaning memory) code steps) }
+        ensures code { IfOk result (λ m. machine_code m ≡ code) }
+        ensures image { IfOk result (λ m. machine_image m ≡ image) }
+        ensures parts { IfOk result (λ m. cast_room m ≡ largest) }
         ensures failed { IfOk result (λ m. has_failed m ≡ false) }
     {
         if code.blocks.len() > u32::MAX as usize {
@@ -99,14 +99,14 @@ impl<M: Memory> Machine<M> {
 
     /// The image that the machine was made with.
     pub fn image(&self) -> &ImageBytes
-        ensures { result.now ≡ image_of self.now }
+        ensures { result.now ≡ machine_image self.now }
     {
         &self.setup.image
     }
 
     /// The code that the machine was made with.
     pub fn code(&self) -> &Code
-        ensures { result.now ≡ code_of self.now }
+        ensures { result.now ≡ machine_code self.now }
     {
         &self.code
     }
@@ -123,12 +123,12 @@ impl<M: Memory> Machine<M> {
     /// After NoMemory `outs` has its old items, and each later step answers NoMemory too.
     #[inline(always)]
     pub fn step(&mut self, outs: &mut RawOutList) -> Result<MachineTurn, NoMemory>
-        requires { has_failed self.old ≡ false → HasTurn (fixed_in self.old) (code_of self.old) (state_of self.old) outs.old }
+        requires { has_failed self.old ≡ false → HasTurn (fixed_in self.old) (machine_code self.old) (state_of self.old) outs.old }
         ensures turn { IfOk result (λ turn.
-            Turns (fixed_in self.old) (code_of self.old) (state_of self.old) outs.old (state_of self.new) outs.new turn) }
-        ensures code { code_of self.new ≡ code_of self.old }
-        ensures image { image_of self.new ≡ image_of self.old }
-        ensures parts { parts_of self.new ≡ parts_of self.old }
+            Turns (fixed_in self.old) (machine_code self.old) (state_of self.old) outs.old (state_of self.new) outs.new turn) }
+        ensures code { machine_code self.new ≡ machine_code self.old }
+        ensures image { machine_image self.new ≡ machine_image self.old }
+        ensures parts { cast_room self.new ≡ cast_room self.old }
         ensures ok { OnOk result (has_failed self.new ≡ false) }
         ensures failed { OnErr result (has_failed self.new ≡ true) }
         ensures outs { OnErr result (outs.new ≡ outs.old) }

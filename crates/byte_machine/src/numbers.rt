@@ -2,9 +2,9 @@
 
 ghost use Rattle.std.specs.Prelude.{◌≡◌, ◌<◌, ◌≤◌, ◌^◌, ◌%◌, true, Some, ℤ, int_lt, SomeIff, FitsSigned};
 ghost use Rattle.std.specs.Int.{w64};
-ghost use Rattle.byte_code.specs.Numbers.{number_of, signed_of};
+ghost use Rattle.byte_code.specs.Numbers.{number_of_word, signed_of};
 ghost use Rattle.byte_machine.specs.Checks.{exact, is_number_of};
-ghost use Rattle.byte_machine.specs.Values.{calculated, converted_word, truth_word};
+ghost use Rattle.byte_machine.specs.Values.{calculated_word, converted_word, truth_word};
 
 use byte_code::{ArithKind, BitWidth, NumberKind, Width};
 
@@ -33,7 +33,7 @@ fn truth(holds: bool) -> u64
 fn signed_number(width: Width, word: u64) -> i64
     requires bytes { width.bytes ≤ 8 }
     requires signed { width.signed ≡ true }
-    ensures { result ≡ number_of width word }
+    ensures { result ≡ number_of_word width word }
 {
     width.extend(width.low(word)).cast_signed()
 }
@@ -42,7 +42,7 @@ fn signed_number(width: Width, word: u64) -> i64
 #[inline(always)]
 fn is_less(width: Width, left: u64, right: u64) -> bool
     requires { width.bytes ≤ 8 }
-    ensures { result ≡ int_lt (number_of width left) (number_of width right) }
+    ensures { result ≡ int_lt (number_of_word width left) (number_of_word width right) }
 {
     if width.signed {
         signed_number(width, left) < signed_number(width, right)
@@ -55,7 +55,7 @@ fn is_less(width: Width, left: u64, right: u64) -> bool
 #[inline(always)]
 pub fn calculate(kind: ArithKind, width: Width, left: u64, right: u64) -> u64
     requires { width.bytes ≤ 8 }
-    ensures { result ≡ calculated kind width (number_of width left) (number_of width right) }
+    ensures { result ≡ calculated_word kind width (number_of_word width left) (number_of_word width right) }
 {
     match kind {
         ArithKind::Add => width.extend(width.low(left.wrapping_add(right))),
@@ -109,7 +109,7 @@ fn is_in_width(width: Width, exact: Option<i64>) -> bool
 #[inline(always)]
 pub fn fits(kind: ArithKind, width: Width, left: u64, right: u64) -> bool
     requires { width.bytes ≤ 8 }
-    ensures { result ≡ is_number_of width (exact kind (number_of width left) (number_of width right)) }
+    ensures { result ≡ is_number_of width (exact kind (number_of_word width left) (number_of_word width right)) }
 {
     if !width.signed {
         return true;

@@ -4,7 +4,7 @@ ghost use Rattle.std.specs.Prelude.{◌≡◌, None, IfOk};
 ghost use Rattle.abi_dyncast.specs.Casts.{room};
 ghost use Rattle.byte_machine.specs.Effects.{effect_of};
 ghost use Rattle.byte_machine.specs.invariants.OpKinds.{op_kind, OfJumps, NeverStops};
-ghost use Rattle.byte_machine.specs.invariants.States.{CanDo, DidAs, Keeps, limited, refusal, stopped};
+ghost use Rattle.byte_machine.specs.invariants.States.{CanDo, DidAs, KeepsRoomAndOuts, limited, refusal_stop, stopped};
 
 use crate::calls::{run_call, run_delete};
 use crate::finishing::run_finish;
@@ -21,7 +21,7 @@ use foundation::NoMemory;
 
 /// What stops a block with this line, if a rule refuses.
 fn refused(rule: Option<u8>, line: u32) -> Option<Stop>
-    ensures { stopped result ≡ refusal line rule }
+    ensures { stopped result ≡ refusal_stop line rule }
 {
     match rule {
         None => None,
@@ -44,7 +44,7 @@ fn run_jump<M: Memory>(_setup: &Setup, running: &mut Running<M>, op: &Op)
     requires kind { op_kind op.now ≡ OfJumps }
     requires allowed { CanDo _setup.now (λ f s. effect_of f op.now s) running.old }
     ensures did { DidAs _setup.now (λ f s. effect_of f op.now s) running.old running.new None }
-    ensures kept { Keeps running.old running.new }
+    ensures kept { KeepsRoomAndOuts running.old running.new }
 {
     match op {
         Op::Jump { block } => running.top.block = *block,
@@ -63,7 +63,7 @@ fn run_plain<M: Memory>(setup: &Setup, running: &mut Running<M>, op: &Op) -> Res
     requires allowed { CanDo setup.now (λ f s. effect_of f op.now s) running.old }
     requires room { room running.old.work ≡ setup.now.parts }
     ensures did { IfOk result (λ _. DidAs setup.now (λ f s. effect_of f op.now s) running.old running.new None) }
-    ensures kept { Keeps running.old running.new }
+    ensures kept { KeepsRoomAndOuts running.old running.new }
 {
     match op {
         Op::Const { .. }
@@ -99,7 +99,7 @@ pub fn run_op<M: Memory>(
     requires allowed { CanDo setup.now (λ f s. effect_of f op.now s) running.old }
     requires room { room running.old.work ≡ setup.now.parts }
     ensures did { IfOk result (λ stop. DidAs setup.now (λ f s. effect_of f op.now s) running.old running.new (stopped stop)) }
-    ensures kept { Keeps running.old running.new }
+    ensures kept { KeepsRoomAndOuts running.old running.new }
 {
     match op {
         Op::Does(finish) => {

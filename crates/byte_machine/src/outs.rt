@@ -1,10 +1,10 @@
 //! What ops tell.
 
 ghost use Rattle.std.specs.Prelude.{◌≡◌, None, IfOk};
-ghost use Rattle.byte_machine.specs.Running.{telling};
+ghost use Rattle.byte_machine.specs.Running.{telling_raw};
 ghost use Rattle.byte_machine.specs.Effects.{effect_of};
 ghost use Rattle.byte_machine.specs.invariants.OpKinds.{op_kind, OfOuts};
-ghost use Rattle.byte_machine.specs.invariants.States.{CanDo, DidAs, Keeps};
+ghost use Rattle.byte_machine.specs.invariants.States.{CanDo, DidAs, KeepsRoomAndOuts};
 
 use crate::running::{Running, Setup};
 use crate::turn::RawOut;
@@ -17,7 +17,7 @@ pub fn run_out<M: Memory>(_setup: &Setup, running: &mut Running<M>, op: &Op) -> 
     requires kind { op_kind op.now ≡ OfOuts }
     requires allowed { CanDo _setup.now (λ f s. effect_of f op.now s) running.old }
     ensures did { IfOk result (λ _. DidAs _setup.now (λ f s. effect_of f op.now s) running.old running.new None) }
-    ensures kept { Keeps running.old running.new }
+    ensures kept { KeepsRoomAndOuts running.old running.new }
 {
     let out = match op {
         Op::Print { from, what } => {

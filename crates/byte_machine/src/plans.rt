@@ -2,10 +2,10 @@
 
 ghost use Rattle.std.specs.Prelude.{◌≡◌, None, IfOk};
 ghost use Rattle.byte_machine.specs.Running.{with_this};
-ghost use Rattle.byte_machine.specs.Plans.{is_ended, is_object, part_begun, part_opened, part_phased, table_set, view_set};
+ghost use Rattle.byte_machine.specs.Plans.{is_ended, is_heap_object, part_begun, part_opened, part_phased, table_set, view_set};
 ghost use Rattle.byte_machine.specs.Effects.{effect_of};
 ghost use Rattle.byte_machine.specs.invariants.OpKinds.{op_kind, OfPlans};
-ghost use Rattle.byte_machine.specs.invariants.States.{CanDo, DidAs, Keeps};
+ghost use Rattle.byte_machine.specs.invariants.States.{CanDo, DidAs, KeepsRoomAndOuts};
 
 use crate::entering::enter;
 use crate::frames::{Frame, Kept};
@@ -26,7 +26,7 @@ fn open_part<M: Memory>(
 ) -> Result<(), NoMemory>
     requires { CanDo setup.now (λ f s. part_opened f s how how.count this) running.old }
     ensures did { IfOk result (λ _. DidAs setup.now (λ f s. part_opened f s how how.count this) running.old running.new None) }
-    ensures kept { Keeps running.old running.new }
+    ensures kept { KeepsRoomAndOuts running.old running.new }
 {
     if how.count == 0 {
         return Ok(());
@@ -58,7 +58,7 @@ fn open_part<M: Memory>(
 fn set_table<M: Memory>(setup: &Setup, running: &mut Running<M>, how: Setting, this: u64)
     requires { CanDo setup.now (λ f s. table_set f s how this) running.old }
     ensures did { DidAs setup.now (λ f s. table_set f s how this) running.old running.new None }
-    ensures kept { Keeps running.old running.new }
+    ensures kept { KeepsRoomAndOuts running.old running.new }
 {
     let handed = running.top.handed;
     let point = source_word(setup, handed, how.source).unwrap();
@@ -71,7 +71,7 @@ fn set_table<M: Memory>(setup: &Setup, running: &mut Running<M>, how: Setting, t
 
 /// Whether a subobject of the class at an address is a heap object itself.
 fn is_object(at: u64, class: u32, object: Option<Opened>) -> bool
-    ensures { result ≡ is_object at class object }
+    ensures { result ≡ is_heap_object at class object }
 {
     match object {
         None => false,
@@ -95,7 +95,7 @@ fn set_phase<M: Memory>(
 )
     requires { CanDo _setup.now (λ f s. part_phased s class phase this) running.old }
     ensures did { DidAs _setup.now (λ f s. part_phased s class phase this) running.old running.new None }
-    ensures kept { Keeps running.old running.new }
+    ensures kept { KeepsRoomAndOuts running.old running.new }
 {
     running.shadow.set_phase(this, class, phase);
     if is_ended(phase) && is_object(this, class, running.heap.opened(this)) {
@@ -108,7 +108,7 @@ pub fn run_plan<M: Memory>(setup: &Setup, running: &mut Running<M>, op: &Op) -> 
     requires kind { op_kind op.now ≡ OfPlans }
     requires allowed { CanDo setup.now (λ f s. effect_of f op.now s) running.old }
     ensures did { IfOk result (λ _. DidAs setup.now (λ f s. effect_of f op.now s) running.old running.new None) }
-    ensures kept { Keeps running.old running.new }
+    ensures kept { KeepsRoomAndOuts running.old running.new }
 {
     if let Op::ViewBack = op {
         let handed = running.top.handed;

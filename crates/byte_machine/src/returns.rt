@@ -4,9 +4,9 @@ ghost use Rattle.std.specs.Prelude.{◌≡◌, ◌<◌, ◌-◌, Some, IsSome, l
 ghost use Rattle.abi_dyncast.specs.Casts.{room};
 ghost use Rattle.byte_machine.specs.Frames.{next_element};
 ghost use Rattle.byte_machine.specs.Running.{Goes, Returned, moved, register};
-ghost use Rattle.byte_machine.specs.Calls.{given, operand, result_checked, result_moved, returned, returned_to};
+ghost use Rattle.byte_machine.specs.Calls.{resumed_frame, operand, result_checked, result_moved, return_effect, returned_to};
 ghost use Rattle.byte_machine.specs.GivenFrames.{frame_of};
-ghost use Rattle.byte_machine.specs.invariants.States.{fixed_by, running_of, CanDo, DidAs, Keeps, refusal, stopped};
+ghost use Rattle.byte_machine.specs.invariants.States.{fixed_by, running_of, CanDo, DidAs, KeepsRoomAndOuts, refusal_stop, stopped};
 
 use crate::callees::moved_by_word;
 use crate::checks::check_view;
@@ -55,9 +55,9 @@ fn check_result<M: Memory>(
 ) -> Option<u8>
     requires allowed { CanDo setup.now (λ f s. result_checked s word s.top.kept.class class (Goes s)) running.old }
     requires room { room running.old.work ≡ setup.now.parts }
-    ensures did { DidAs setup.now (λ f s. result_checked s word s.top.kept.class class (Goes s)) running.old running.old (refusal running.old.line result) }
+    ensures did { DidAs setup.now (λ f s. result_checked s word s.top.kept.class class (Goes s)) running.old running.old (refusal_stop running.old.line result) }
     ensures same { running_of running.new ≡ running_of running.old }
-    ensures kept { Keeps running.old running.new }
+    ensures kept { KeepsRoomAndOuts running.old running.new }
 {
     let at = word?;
     if at == 0 {
@@ -83,7 +83,7 @@ fn enter_next<M: Memory>(running: &mut Running<M>, this: u64)
     requires some { 0 < running.old.top.again }
     requires registers { 0 < length running.old.top.registers.items }
     ensures next { running_of running.new ≡ record (running_of running.old) { top = next_element (running_of running.old).top this (running.old.top.again - 1) } }
-    ensures kept { Keeps running.old running.new }
+    ensures kept { KeepsRoomAndOuts running.old running.new }
 {
     running.top.registers.fill(None);
     running.top.registers[0] = Some(this);
@@ -93,8 +93,8 @@ fn enter_next<M: Memory>(running: &mut Running<M>, this: u64)
 
 /// The frame below takes a result.
 fn give(frame: &mut Frame, to: Option<u32>, word: Option<u64>)
-    requires { IsSome (given to word (frame_of frame.old)) }
-    ensures { given to word (frame_of frame.old) ≡ Some (frame_of frame.new) }
+    requires { IsSome (resumed_frame to word (frame_of frame.old)) }
+    ensures { resumed_frame to word (frame_of frame.old) ≡ Some (frame_of frame.new) }
 {
     if let Some(to) = to {
         frame.registers[to as usize] = word;
@@ -116,7 +116,7 @@ fn left_calls(calls: u32, is_call: bool) -> u32
 fn leave<M: Memory>(_setup: &Setup, running: &mut Running<M>, word: Option<u64>) -> FinishList
     requires { CanDo _setup.now (λ f s. returned_to s word s.below) running.old }
     ensures did { DidAs _setup.now (λ f s. returned_to s word s.below) running.old running.new (Some (Returned result)) }
-    ensures kept { Keeps running.old running.new }
+    ensures kept { KeepsRoomAndOuts running.old running.new }
 {
     let mut under = running.below.pop().unwrap();
     give(&mut under, running.top.kept.to, word);
@@ -133,10 +133,10 @@ pub fn run_return<M: Memory>(
     from: Option<u32>,
     class: Option<u32>,
 ) -> Option<Stop>
-    requires allowed { CanDo setup.now (λ f s. returned f s from class s.opened) running.old }
+    requires allowed { CanDo setup.now (λ f s. return_effect f s from class s.opened) running.old }
     requires room { room running.old.work ≡ setup.now.parts }
-    ensures did { DidAs setup.now (λ f s. returned f s from class s.opened) running.old running.new (stopped result) }
-    ensures kept { Keeps running.old running.new }
+    ensures did { DidAs setup.now (λ f s. return_effect f s from class s.opened) running.old running.new (stopped result) }
+    ensures kept { KeepsRoomAndOuts running.old running.new }
 {
     if running.top.again > 0 {
         let this = running.register(0).unwrap();

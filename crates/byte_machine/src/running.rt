@@ -48,7 +48,7 @@ pub enum Stop {
 impl<M: Memory> Running<M> {
     ghost use Rattle.std.specs.Prelude.{◌<◌, length};
     ghost use Rattle.byte_machine.specs.Running.{register, with_register};
-    ghost use Rattle.byte_machine.specs.invariants.States.{running_of, Keeps};
+    ghost use Rattle.byte_machine.specs.invariants.States.{running_of, KeepsRoomAndOuts};
 
     /// The word that a register of the frame has, None where it is unset.
     pub fn register(&self, number: u32) -> Option<u64>
@@ -64,7 +64,7 @@ impl<M: Memory> Running<M> {
     pub fn put(&mut self, number: u32, word: Option<u64>)
         requires { number < length self.old.top.registers.items }
         ensures put { running_of self.new ≡ with_register (running_of self.old) number word }
-        ensures kept { Keeps self.old self.new }
+        ensures kept { KeepsRoomAndOuts self.old self.new }
     {
         self.top.registers[number as usize] = word;
     }

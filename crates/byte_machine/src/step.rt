@@ -2,8 +2,8 @@
 
 ghost use Rattle.std.specs.Prelude.{◌≡◌, ◌<◌, ◌^◌, IfOk, OnErr, length};
 ghost use Rattle.abi_dyncast.specs.Casts.{room};
-ghost use Rattle.byte_machine.specs.invariants.States.{fixed_by, running_of, Keeps};
-ghost use Rattle.byte_machine.specs.invariants.Steps.{settled, with_outs, HasNext, RanNext};
+ghost use Rattle.byte_machine.specs.invariants.States.{fixed_by, running_of, KeepsRoomAndOuts};
+ghost use Rattle.byte_machine.specs.invariants.Steps.{settled_frames, with_outs, HasNext, RanNext};
 
 use crate::block::run_block;
 use crate::running::{Running, Setup};
@@ -15,9 +15,9 @@ use foundation::NoMemory;
 /// The frames that a block opened go over the one that opened them. Errors: want of memory.
 #[inline(always)]
 fn settle<M: Memory>(running: &mut Running<M>) -> Result<(), NoMemory>
-    ensures settles { IfOk result (λ _. running_of running.new ≡ settled (running_of running.old)) }
+    ensures settles { IfOk result (λ _. running_of running.new ≡ settled_frames (running_of running.old)) }
     ensures opened { IfOk result (λ _. length running.new.opened.items ≡ 0) }
-    ensures kept { Keeps running.old running.new }
+    ensures kept { KeepsRoomAndOuts running.old running.new }
 {
     let Some(next) = running.opened.pop() else {
         return Ok(());
@@ -40,7 +40,7 @@ fn run_next<M: Memory>(
     requires room { room running.old.work ≡ setup.now.parts }
     ensures ran { IfOk result (λ turn. RanNext (fixed_by setup.now) code.now (running_of running.old) (running_of running.new) turn) }
     ensures opened { IfOk result (λ _. length running.new.opened.items ≡ 0) }
-    ensures kept { Keeps running.old running.new }
+    ensures kept { KeepsRoomAndOuts running.old running.new }
 {
     let Some(block) = code.blocks.as_slice().get(running.top.block as usize) else {
         unreachable!();

@@ -3,7 +3,7 @@
 ghost use Rattle.std.specs.Prelude.{◌≡◌, None, true};
 ghost use Rattle.byte_machine.specs.Effects.{effect_of};
 ghost use Rattle.byte_machine.specs.invariants.OpKinds.{op_kind, moves_bits, OfValues};
-ghost use Rattle.byte_machine.specs.invariants.States.{CanDo, DidAs, Keeps};
+ghost use Rattle.byte_machine.specs.invariants.States.{CanDo, DidAs, KeepsRoomAndOuts};
 
 use crate::numbers::calculate;
 use crate::running::{Running, Setup};
@@ -16,7 +16,7 @@ fn run_bits<M: Memory>(_setup: &Setup, running: &mut Running<M>, op: &Op)
     requires kind { moves_bits op.now ≡ true }
     requires allowed { CanDo _setup.now (λ f s. effect_of f op.now s) running.old }
     ensures did { DidAs _setup.now (λ f s. effect_of f op.now s) running.old running.new None }
-    ensures kept { Keeps running.old running.new }
+    ensures kept { KeepsRoomAndOuts running.old running.new }
 {
     match op {
         Op::LoadBits {
@@ -70,7 +70,7 @@ pub fn run_value<M: Memory>(_setup: &Setup, running: &mut Running<M>, op: &Op)
     requires kind { op_kind op.now ≡ OfValues }
     requires allowed { CanDo _setup.now (λ f s. effect_of f op.now s) running.old }
     ensures did { DidAs _setup.now (λ f s. effect_of f op.now s) running.old running.new None }
-    ensures kept { Keeps running.old running.new }
+    ensures kept { KeepsRoomAndOuts running.old running.new }
 {
     match op {
         Op::Const { to, value } => running.put(*to, Some(*value)),

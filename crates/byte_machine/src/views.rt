@@ -2,10 +2,10 @@
 
 ghost use Rattle.std.specs.Prelude.{◌≡◌, ◌+◌, None, Some};
 ghost use Rattle.abi_dyncast.specs.Casts.{room};
-ghost use Rattle.byte_machine.specs.Running.{Casts, moved, passed, put, register, table_word, with_word};
+ghost use Rattle.byte_machine.specs.Running.{Casts, moved, passed, put_register, register, table_word, with_some_word};
 ghost use Rattle.byte_machine.specs.Effects.{effect_of, or_null};
 ghost use Rattle.byte_machine.specs.invariants.OpKinds.{op_kind, OfViews};
-ghost use Rattle.byte_machine.specs.invariants.States.{CanDo, DidAs, Keeps};
+ghost use Rattle.byte_machine.specs.invariants.States.{CanDo, DidAs, KeepsRoomAndOuts};
 
 use crate::running::{Running, Setup};
 use crate::words::{moved, table_word};
@@ -22,9 +22,9 @@ const INFO_WORD: u64 = 0xffff_ffff_ffff_fff8;
 /// Adds to an address the word of its table that stands so many bytes behind the address point. The address 0 and the unset state
 /// are passed on.
 pub fn add_word<M: Memory>(setup: &Setup, running: &mut Running<M>, to: u32, base: u32, bytes: u64)
-    requires { CanDo setup.now (λ f s. passed to s (register s base) (λ at. with_word (table_word f.image s.memory at bytes) (λ by. put to (Some (moved at by)) s))) running.old }
-    ensures did { DidAs setup.now (λ f s. passed to s (register s base) (λ at. with_word (table_word f.image s.memory at bytes) (λ by. put to (Some (moved at by)) s))) running.old running.new None }
-    ensures kept { Keeps running.old running.new }
+    requires { CanDo setup.now (λ f s. passed to s (register s base) (λ at. with_some_word (table_word f.image s.memory at bytes) (λ by. put_register to (Some (moved at by)) s))) running.old }
+    ensures did { DidAs setup.now (λ f s. passed to s (register s base) (λ at. with_some_word (table_word f.image s.memory at bytes) (λ by. put_register to (Some (moved at by)) s))) running.old running.new None }
+    ensures kept { KeepsRoomAndOuts running.old running.new }
 {
     let word = match running.register(base) {
         None => None,
@@ -57,10 +57,10 @@ fn put_cast<M: Memory>(
     target: u32,
     hint: i64,
 )
-    requires allowed { CanDo setup.now (λ f s. Casts at class target hint (λ answer. put to (Some (or_null answer)) s)) running.old }
+    requires allowed { CanDo setup.now (λ f s. Casts at class target hint (λ answer. put_register to (Some (or_null answer)) s)) running.old }
     requires room { room running.old.work ≡ setup.now.parts }
-    ensures did { DidAs setup.now (λ f s. Casts at class target hint (λ answer. put to (Some (or_null answer)) s)) running.old running.new None }
-    ensures kept { Keeps running.old running.new }
+    ensures did { DidAs setup.now (λ f s. Casts at class target hint (λ answer. put_register to (Some (or_null answer)) s)) running.old running.new None }
+    ensures kept { KeepsRoomAndOuts running.old running.new }
 {
     let mut reader = BaseReader::new(&setup.image);
     let found = cast_hinted(
@@ -81,7 +81,7 @@ pub fn run_view<M: Memory>(setup: &Setup, running: &mut Running<M>, op: &Op)
     requires allowed { CanDo setup.now (λ f s. effect_of f op.now s) running.old }
     requires room { room running.old.work ≡ setup.now.parts }
     ensures did { DidAs setup.now (λ f s. effect_of f op.now s) running.old running.new None }
-    ensures kept { Keeps running.old running.new }
+    ensures kept { KeepsRoomAndOuts running.old running.new }
 {
     match op {
         Op::TypeOf { to, base } => {

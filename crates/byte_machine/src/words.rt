@@ -3,7 +3,7 @@
 ghost use Rattle.std.specs.Prelude.{◌≡◌, ◌+◌};
 ghost use Rattle.byte_code.specs.Images.{word_at};
 ghost use Rattle.byte_machine.specs.Running.{moved, table_word};
-ghost use Rattle.byte_machine.specs.Plans.{word_bytes};
+ghost use Rattle.byte_machine.specs.Plans.{word_offset};
 
 use crate::heap::Heap;
 use byte_code::{ImageBytes, number_at};
@@ -18,7 +18,7 @@ pub fn moved(at: u64, by: u64) -> u64
 
 /// How many bytes behind an address point the word of this number stands.
 pub fn word_bytes(number: i32) -> u64
-    ensures { result ≡ word_bytes number }
+    ensures { result ≡ word_offset number }
 {
     (8 * number as i64).cast_unsigned()
 }

@@ -9,7 +9,7 @@ use Rattle.std.proofs.lemmas.Bool.{cases_lt}
 use Rattle.std.proofs.lemmas.List.Folds.{find-append}
 use Rattle.std.proofs.lemmas.Option.{slice_get_cases, slice_get_within}
 use Rattle.byte_memory.specs.declared.page.Page.{Page}
-use Rattle.byte_memory.specs.Bits.{is_among}
+use Rattle.byte_memory.specs.Bits.{is_among_places}
 use Rattle.byte_memory.specs.Pages.{numbered, page_bit, bits_of, users_of, claimed, AreFresh, AreAdded}
 use Rattle.byte_memory.proofs.Lists.{find-none, find-first}
 use Rattle.byte_memory.proofs.Tables.{AreOrdered}
@@ -30,7 +30,7 @@ find-none_fails p (y ∷ xs) k x e there = by_test (p y) refl k e there (λ k. f
     by_test false t (suc k) e there rest = rest k e there
 
 -- a fresh page of each of the numbers is found
-fresh-found : (fresh : List Page) (first n number : ℕ) → AreFresh fresh first n → is_among first n number ≡ true → (page : Page) × (k : ℕ) × (slice_get fresh k ≡ Some page) × (find (numbered number) fresh ≡ Some page)
+fresh-found : (fresh : List Page) (first n number : ℕ) → AreFresh fresh first n → is_among_places first n number ≡ true → (page : Page) × (k : ℕ) × (slice_get fresh k ≡ Some page) × (find (numbered number) fresh ≡ Some page)
 fresh-found fresh first n number new t = ⊎_elim found (λ past. absurd (grind (arith, nat_tests, past.0, new.count))) (slice_get_cases fresh (number - first)).1
   where
     found : (page : Page) × (number - first < length fresh) × (slice_get fresh (number - first) ≡ Some page) × (get_or fresh (number - first) page ≡ page) → (page : Page) × (k : ℕ) × (slice_get fresh k ≡ Some page) × (find (numbered number) fresh ≡ Some page)
@@ -40,7 +40,7 @@ fresh-found fresh first n number new t = ⊎_elim found (λ past. absurd (grind 
         (f.0, number - first, f.2, find-first (numbered number) fresh (number - first) f.0 f.2 pass (λ k y less there. let its = new.each k y there in grind (arith, nat_tests, its, less)))
 
 -- and no other
-fresh-missing : (fresh : List Page) (first n number : ℕ) → AreFresh fresh first n → is_among first n number ≡ false → find (numbered number) fresh ≡ None
+fresh-missing : (fresh : List Page) (first n number : ℕ) → AreFresh fresh first n → is_among_places first n number ≡ false → find (numbered number) fresh ≡ None
 fresh-missing fresh first n number new t = find-none (numbered number) fresh (λ k page there.
     let is = new.each k page there in
     let inside = slice_get_within fresh k page there in
@@ -63,26 +63,26 @@ module _ (pages fresh : List Page) (first n : ℕ) (up : AreOrdered pages) (new 
   or_none None = refl
   or_none (Some page) = refl
 
-  among : (number : ℕ) → is_among first n number ≡ true → (page : Page) × (k : ℕ) × (slice_get fresh k ≡ Some page) × (find (numbered number) (pages ++ fresh) ≡ Some page) × (find (numbered number) pages ≡ None)
+  among : (number : ℕ) → is_among_places first n number ≡ true → (page : Page) × (k : ℕ) × (slice_get fresh k ≡ Some page) × (find (numbered number) (pages ++ fresh) ≡ Some page) × (find (numbered number) pages ≡ None)
   among number t =
       let found = fresh-found fresh first n number new t in
       let none : find (numbered number) pages ≡ None = above number (grind (arith, nat_tests)) in
       let all : find (numbered number) (pages ++ fresh) ≡ Some found.0 = find-append (numbered number) pages fresh ∙ (ap (λ p. option_or p (find (numbered number) fresh)) none ∙ found.3) in
       (found.0, found.1, found.2, all, none)
 
-  beside : (number : ℕ) → is_among first n number ≡ false → find (numbered number) (pages ++ fresh) ≡ find (numbered number) pages
+  beside : (number : ℕ) → is_among_places first n number ≡ false → find (numbered number) (pages ++ fresh) ≡ find (numbered number) pages
   beside number t = find-append (numbered number) pages fresh ∙ (ap (option_or (find (numbered number) pages)) (fresh-missing fresh first n number new t) ∙ or_none (find (numbered number) pages))
 
   -- what fresh pages behind the others are
   pub AreAdded-append : AreAdded pages (pages ++ fresh) first n
   AreAdded-append = record {
     ordered = ordered-append;
-    users = λ number. users number (is_among first n number) refl;
-    kept = λ number. kept number (is_among first n number) refl;
-    bits = λ j place. bits place (is_among first n (place / 32768)) refl j;
+    users = λ number. users number (is_among_places first n number) refl;
+    kept = λ number. kept number (is_among_places first n number) refl;
+    bits = λ j place. bits place (is_among_places first n (place / 32768)) refl j;
   }
     where
-      users : (number : ℕ) (z : Bool) → is_among first n number ≡ z → users_of (find (numbered number) (pages ++ fresh)) ≡ users_of (find (numbered number) pages) + (if z then 1 else 0)
+      users : (number : ℕ) (z : Bool) → is_among_places first n number ≡ z → users_of (find (numbered number) (pages ++ fresh)) ≡ users_of (find (numbered number) pages) + (if z then 1 else 0)
       users number true t =
           let found = among number t in
           let one = new.users found.1 found.0 found.2 in
@@ -94,14 +94,14 @@ module _ (pages fresh : List Page) (first n : ℕ) (up : AreOrdered pages) (new 
       or_false true = refl
       or_false false = refl
 
-      kept : (number : ℕ) (z : Bool) → is_among first n number ≡ z → is_some (find (numbered number) (pages ++ fresh)) ≡ (is_some (find (numbered number) pages) || z)
+      kept : (number : ℕ) (z : Bool) → is_among_places first n number ≡ z → is_some (find (numbered number) (pages ++ fresh)) ≡ (is_some (find (numbered number) pages) || z)
       kept number true t =
           let found = among number t in
           let none : is_some (find (numbered number) pages) ≡ false = ap is_some found.4 in
           ap is_some found.3 ∙ ap (λ z. z || true) (sym none)
       kept number false t = ap is_some (beside number t) ∙ or_false (is_some (find (numbered number) pages))
 
-      bits : (place : ℕ) (z : Bool) → is_among first n (place / 32768) ≡ z → bits_of (pages ++ fresh) place ≡ bits_of pages place
+      bits : (place : ℕ) (z : Bool) → is_among_places first n (place / 32768) ≡ z → bits_of (pages ++ fresh) place ≡ bits_of pages place
       bits place true t =
           let found = among (place / 32768) t in
           let unset : page_bit (Some found.0) (place % 32768) ≡ None = ap (λ p. page_bit p (place % 32768)) (sym found.2) ∙ new.unset found.1 (place % 32768) in
@@ -130,18 +130,18 @@ AreAdded-claimed old mid new first n some added held up found = record {
   bits = λ j place. bits place (nat_eq (place / 32768) first) refl j;
 }
   where
-    here : (number : ℕ) → nat_eq number first ≡ true → (find (numbered number) new ≡ claimed (find (numbered number) mid)) × (is_among (first + 1) (n - 1) number ≡ false) × (is_among first n number ≡ true) × (is_some (find (numbered number) old) ≡ true)
+    here : (number : ℕ) → nat_eq number first ≡ true → (find (numbered number) new ≡ claimed (find (numbered number) mid)) × (is_among_places (first + 1) (n - 1) number ≡ false) × (is_among_places first n number ≡ true) × (is_some (find (numbered number) old) ≡ true)
     here number t =
         let e : number ≡ first = grind (arith, nat_tests) in
         (rw t at (found number), grind (arith, nat_tests), grind (arith, nat_tests), ap (λ k. is_some (find (numbered k) old)) e ∙ held)
 
-    there : (number : ℕ) → nat_eq number first ≡ false → (find (numbered number) new ≡ find (numbered number) mid) × (is_among (first + 1) (n - 1) number ≡ is_among first n number)
+    there : (number : ℕ) → nat_eq number first ≡ false → (find (numbered number) new ≡ find (numbered number) mid) × (is_among_places (first + 1) (n - 1) number ≡ is_among_places first n number)
     there number t = (rw t at (found number), grind (arith, nat_tests))
 
     mid_here : (number : ℕ) → nat_eq number first ≡ true → is_some (find (numbered number) mid) ≡ true
-    mid_here number t = let h = here number t in added.kept number ∙ ap (λ z. z || is_among (first + 1) (n - 1) number) h.3
+    mid_here number t = let h = here number t in added.kept number ∙ ap (λ z. z || is_among_places (first + 1) (n - 1) number) h.3
 
-    users : (number : ℕ) (z : Bool) → nat_eq number first ≡ z → users_of (find (numbered number) new) ≡ users_of (find (numbered number) old) + (if is_among first n number then 1 else 0)
+    users : (number : ℕ) (z : Bool) → nat_eq number first ≡ z → users_of (find (numbered number) new) ≡ users_of (find (numbered number) old) + (if is_among_places first n number then 1 else 0)
     users number true t =
         let h = here number t in
         let before : users_of (find (numbered number) mid) ≡ users_of (find (numbered number) old) + 0 = added.users number ∙ ap (λ z. users_of (find (numbered number) old) + (if z then 1 else 0)) h.1 in
@@ -151,10 +151,10 @@ AreAdded-claimed old mid new first n some added held up found = record {
         let h = there number t in
         ap users_of h.0 ∙ (added.users number ∙ ap (λ z. users_of (find (numbered number) old) + (if z then 1 else 0)) h.1)
 
-    kept : (number : ℕ) (z : Bool) → nat_eq number first ≡ z → is_some (find (numbered number) new) ≡ (is_some (find (numbered number) old) || is_among first n number)
+    kept : (number : ℕ) (z : Bool) → nat_eq number first ≡ z → is_some (find (numbered number) new) ≡ (is_some (find (numbered number) old) || is_among_places first n number)
     kept number true t =
         let h = here number t in
-        ap is_some h.0 ∙ (is_some-claimed (find (numbered number) mid) ∙ (mid_here number t ∙ ap (λ z. z || is_among first n number) (sym h.3)))
+        ap is_some h.0 ∙ (is_some-claimed (find (numbered number) mid) ∙ (mid_here number t ∙ ap (λ z. z || is_among_places first n number) (sym h.3)))
     kept number false t =
         let h = there number t in
         ap is_some h.0 ∙ (added.kept number ∙ ap (λ z. is_some (find (numbered number) old) || z) h.1)

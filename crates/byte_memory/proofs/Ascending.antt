@@ -6,7 +6,7 @@ use Rattle.std.specs.List.Sorted.{IsNonDecreasingBy, IsPartitionPoint}
 use Rattle.std.proofs.lemmas.Bool.Decides.{nat_tests}
 use Rattle.std.proofs.lemmas.Bool.{cases_lt}
 use Rattle.std.proofs.lemmas.Option.{slice_get-get_or, slice_get_within, get_or_from_slice_get}
-use Rattle.byte_memory.specs.Regions.{IsAscendingBy, IsCount}
+use Rattle.byte_memory.specs.Regions.{IsAscendingBy, CountsStarts}
 use Rattle.byte_memory.proofs.Lists.{slice_get-push_cases, is_false, find-none, find-first}
 
 -- an item that passes the test has the address
@@ -14,7 +14,7 @@ abbrev pub HasAddress : {X : Type 0} → (X → ℕ) → (X → ℕ) → List X 
 HasAddress {X} start size xs at p = (k : ℕ) (x : X) → slice_get xs k ≡ Some x → p x ≡ true → (start x ≤ at) × (at < start x + size x)
 
 -- fail item starts at most there, so none is found
-pub find-empty : {X : Type 0} (start size : X → ℕ) (xs : List X) (at : ℕ) (p : X → Bool) → HasAddress start size xs at p → IsCount start xs at 0 → find p xs ≡ None
+pub find-empty : {X : Type 0} (start size : X → ℕ) (xs : List X) (at : ℕ) (p : X → Bool) → HasAddress start size xs at p → CountsStarts start xs at 0 → find p xs ≡ None
 find-empty start size xs at p has count =
     find-none p xs (λ k x here. is_false (p x) (λ pass. let low = (has k x here pass).0 in let high = count.above k x (omega arith) here in omega arith))
 
@@ -28,7 +28,7 @@ find-last start size xs at p i x up has here pass =
     omega arith))
 
 -- where the last item that starts at most there fails, none is found
-pub find-fails : {X : Type 0} (start size : X → ℕ) (xs : List X) (at : ℕ) (p : X → Bool) (i : ℕ) (x : X) → IsAscendingBy start size xs → HasAddress start size xs at p → IsCount start xs at (i + 1) → slice_get xs i ≡ Some x → p x ≡ false → find p xs ≡ None
+pub find-fails : {X : Type 0} (start size : X → ℕ) (xs : List X) (at : ℕ) (p : X → Bool) (i : ℕ) (x : X) → IsAscendingBy start size xs → HasAddress start size xs at p → CountsStarts start xs at (i + 1) → slice_get xs i ≡ Some x → p x ≡ false → find p xs ≡ None
 find-fails {X} start size xs at p i x up has count here fail =
     find-none p xs (λ k y there. is_false (p y) (λ pass. ⊎_elim (λ before. earlier k y there pass before) (λ after. later k y there pass after) (cases_lt k i)))
   where
@@ -76,7 +76,7 @@ IsAscendingBy-apart start size xs i j x y up here there other =
     (cases_lt i j)
 
 -- what a binary search by the starts answers
-pub partition-count : {X : Type 0} (start : X → ℕ) (xs : List X) (at count : ℕ) → IsPartitionPoint (λ x. nat_le (start x) at ≡ true) (λ x. nat_le (start x) at ≡ false) xs count → count ≤ length xs → IsCount start xs at count
+pub partition-count : {X : Type 0} (start : X → ℕ) (xs : List X) (at count : ℕ) → IsPartitionPoint (λ x. nat_le (start x) at ≡ true) (λ x. nat_le (start x) at ≡ false) xs count → count ≤ length xs → CountsStarts start xs at count
 partition-count {X} start xs at count point inside = record {
   below = λ k x less here.
       let test : nat_le (start x) at ≡ true = subst (λ (y : X). nat_le (start y) at ≡ true) (get_or_from_slice_get xs k x x here) (point.0 k x (omega arith) less) in

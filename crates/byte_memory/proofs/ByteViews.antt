@@ -7,10 +7,10 @@ use Rattle.std.proofs.lemmas.Nat.{pow-add}
 use Rattle.std.proofs.Math.Nat.{pow-succ'}
 use Rattle.byte_memory.specs.declared.memory.MemoryFault.{MemoryFault}
 use Rattle.byte_memory.specs.declared.memory.MemoryFault.TheVariants.{Unset, Closed, Range, NoMemory}
-use Rattle.byte_memory.specs.Bits.{has_bit, with_low, number_from, stored, is_among}
-use Rattle.byte_memory.specs.Bytes.{with_low_byte, number_from_bytes, stored_bytes, cleared_bytes, copied_bytes}
+use Rattle.byte_memory.specs.Bits.{has_bit, with_low, number_from, stored, is_among_places}
+use Rattle.byte_memory.specs.Bytes.{with_low_byte, number_from_bytes, stored_bytes, cleared_bytes, with_bytes_copied}
 use Rattle.byte_memory.specs.Regions.{fault_at}
-use Rattle.byte_memory.specs.Store.{Store, byte_at, answer, set_of, load_of, load_bits_of, store_of, copy_of, open_of, close_of}
+use Rattle.byte_memory.specs.Store.{Store, byte_at, answer, set_of, load_of, load_bits_of, store_of, copied_store, open_of, close_of}
 use Rattle.byte_memory.proofs.BitLists.{has_bit-number, low_bits}
 use Rattle.byte_memory.proofs.BitNumbers.{number_from-same}
 use Rattle.byte_memory.proofs.Numbers.{stored_bytes-inside, stored_bytes-outside}
@@ -86,7 +86,7 @@ byte_at-unset memory a unset = ap (λ b. with_low b (number_from memory.bit (8 *
 number_from-stored : (m : ℕ) (bit : ℕ → Option Bool) (at n value j : ℕ) → j + m ≤ n → number_from (stored bit at n value) (at + j) m ≡ Some (value / 2 ^ j % 2 ^ m)
 number_from-stored zero bit at n value j within = let e : 0 ≡ value / 2 ^ j % 1 = omega arith in ap Some e
 number_from-stored (suc m) bit at n value j within =
-    let inside : is_among at n (at + j) ≡ true = grind (arith, nat_tests) in
+    let inside : is_among_places at n (at + j) ≡ true = grind (arith, nat_tests) in
     let back : (at + j) - at ≡ j = omega arith in
     let first : stored bit at n value (at + j) ≡ Some (has_bit value j) = rw (inside, back) refl in
     let there : (at + j) + 1 ≡ at + (j + 1) = omega arith in
@@ -106,7 +106,7 @@ pub byte_at-store : (memory : Store) (at n value : ℕ) → byte_at (store_of me
 byte_at-store memory at n value = λ i a. pointwise a i
   where
     outside : (a : ℕ) → (a < at) ⊎ (at + n ≤ a) → byte_at (store_of memory at n value) a ≡ stored_bytes (byte_at memory) at n value a
-    outside a out = byte_at-same (store_of memory at n value) memory a a (λ k less. let test : is_among (8 * at) (8 * n) (8 * a + k) ≡ false = ⊎_elim (λ l. grind (arith, nat_tests)) (λ r. grind (arith, nat_tests)) out in rw test refl)
+    outside a out = byte_at-same (store_of memory at n value) memory a a (λ k less. let test : is_among_places (8 * at) (8 * n) (8 * a + k) ≡ false = ⊎_elim (λ l. grind (arith, nat_tests)) (λ r. grind (arith, nat_tests)) out in rw test refl)
         ∙ sym (stored_bytes-outside n (byte_at memory) at value a out)
 
     inside : (a : ℕ) → at ≤ a → a < at + n → byte_at (store_of memory at n value) a ≡ stored_bytes (byte_at memory) at n value a
@@ -118,18 +118,18 @@ byte_at-store memory at n value = λ i a. pointwise a i
     pointwise a = ⊎_elim (λ l. outside a (inl l)) (λ more. ⊎_elim (inside a more) (λ r. outside a (inr r)) (cases_lt a (at + n))) (cases_lt a at)
 
 -- the bytes after a copy
-pub byte_at-copy : (memory : Store) (from to n : ℕ) → byte_at (copy_of memory from to n) ≡ copied_bytes (byte_at memory) from to n
+pub byte_at-copy : (memory : Store) (from to n : ℕ) → byte_at (copied_store memory from to n) ≡ with_bytes_copied (byte_at memory) from to n
 byte_at-copy memory from to n = λ i a. pointwise a i
   where
-    by_test : (a : ℕ) (z : Bool) → (nat_le to a && nat_lt a (to + n)) ≡ z → byte_at (copy_of memory from to n) a ≡ (if z then byte_at memory (from + (a - to)) else byte_at memory a)
-    by_test a true t = byte_at-same (copy_of memory from to n) memory a (from + (a - to)) (λ k less.
-        let test : is_among (8 * to) (8 * n) (8 * a + k) ≡ true = grind (arith, nat_tests) in
+    by_test : (a : ℕ) (z : Bool) → (nat_le to a && nat_lt a (to + n)) ≡ z → byte_at (copied_store memory from to n) a ≡ (if z then byte_at memory (from + (a - to)) else byte_at memory a)
+    by_test a true t = byte_at-same (copied_store memory from to n) memory a (from + (a - to)) (λ k less.
+        let test : is_among_places (8 * to) (8 * n) (8 * a + k) ≡ true = grind (arith, nat_tests) in
         let more : to ≤ a = grind (arith, nat_tests) in
         let there : 8 * from + ((8 * a + k) - 8 * to) ≡ 8 * (from + (a - to)) + k = omega arith in
         rw test (ap memory.bit there))
-    by_test a false t = byte_at-same (copy_of memory from to n) memory a a (λ k less. let test : is_among (8 * to) (8 * n) (8 * a + k) ≡ false = grind (arith, nat_tests) in rw test refl)
+    by_test a false t = byte_at-same (copied_store memory from to n) memory a a (λ k less. let test : is_among_places (8 * to) (8 * n) (8 * a + k) ≡ false = grind (arith, nat_tests) in rw test refl)
 
-    pointwise : (a : ℕ) → byte_at (copy_of memory from to n) a ≡ copied_bytes (byte_at memory) from to n a
+    pointwise : (a : ℕ) → byte_at (copied_store memory from to n) a ≡ with_bytes_copied (byte_at memory) from to n a
     pointwise a = by_test a (nat_le to a && nat_lt a (to + n)) refl
 
 -- the bytes after a region was opened
@@ -145,8 +145,8 @@ byte_at-close memory at size = λ i a. pointwise a i
     none a unset = byte_at-unset (close_of memory at size) a unset
 
     by_test : (a : ℕ) (z : Bool) → (nat_le at a && nat_lt a (at + size)) ≡ z → byte_at (close_of memory at size) a ≡ (if z then None else byte_at memory a)
-    by_test a true t = none a (let test : is_among (8 * at) (8 * size) (8 * a) ≡ true = grind (arith, nat_tests) in rw test refl)
-    by_test a false t = byte_at-same (close_of memory at size) memory a a (λ k less. let test : is_among (8 * at) (8 * size) (8 * a + k) ≡ false = grind (arith, nat_tests) in rw test refl)
+    by_test a true t = none a (let test : is_among_places (8 * at) (8 * size) (8 * a) ≡ true = grind (arith, nat_tests) in rw test refl)
+    by_test a false t = byte_at-same (close_of memory at size) memory a a (λ k less. let test : is_among_places (8 * at) (8 * size) (8 * a + k) ≡ false = grind (arith, nat_tests) in rw test refl)
 
     pointwise : (a : ℕ) → byte_at (close_of memory at size) a ≡ cleared_bytes (byte_at memory) at size a
     pointwise a = by_test a (nat_le at a && nat_lt a (at + size)) refl

@@ -7,24 +7,24 @@ use Rattle.std.proofs.lemmas.Option.{slice_get_past}
 use Rattle.std.proofs.lemmas.Nat.Bits.{bit_at-zero}
 use Rattle.byte_memory.specs.declared.cells.Cell.{Cell}
 use Rattle.byte_memory.specs.declared.cells.Word.{Word}
-use Rattle.byte_memory.specs.Bits.{has_bit, cleared, is_among}
+use Rattle.byte_memory.specs.Bits.{has_bit, cleared, is_among_places}
 use Rattle.byte_memory.specs.Words.{masked, cell_bit, bits_in, with_word}
 use Rattle.byte_memory.proofs.Lists.{slice_get-set}
 
 -- the bits after a cell was changed
 pub bits_in-set : (cells : List Cell) (at : ℕ) (cell : Cell) (place : ℕ) → at < length cells →
-    bits_in (set cells at cell) place ≡ (if is_among (8 * at) 8 place then masked cell.value cell.set (place - 8 * at) else bits_in cells place)
+    bits_in (set cells at cell) place ≡ (if is_among_places (8 * at) 8 place then masked cell.value cell.set (place - 8 * at) else bits_in cells place)
 bits_in-set cells at cell place inside = ap (λ c. cell_bit c (place % 8)) (slice_get-set cells at (place / 8) cell (nat_eq (place / 8) at) refl inside) ∙ by_test (nat_eq (place / 8) at) refl
   where
-    by_test : (z : Bool) → nat_eq (place / 8) at ≡ z → cell_bit (if z then Some cell else slice_get cells (place / 8)) (place % 8) ≡ (if is_among (8 * at) 8 place then masked cell.value cell.set (place - 8 * at) else bits_in cells place)
+    by_test : (z : Bool) → nat_eq (place / 8) at ≡ z → cell_bit (if z then Some cell else slice_get cells (place / 8)) (place % 8) ≡ (if is_among_places (8 * at) 8 place then masked cell.value cell.set (place - 8 * at) else bits_in cells place)
     by_test true e =
         let number : place / 8 ≡ at = grind (arith, nat_tests) in
-        let test : is_among (8 * at) 8 place ≡ true = grind (arith, nat_tests) in
+        let test : is_among_places (8 * at) 8 place ≡ true = grind (arith, nat_tests) in
         let within : place % 8 ≡ place - 8 * at = omega arith in
         rw (test, within) refl
     by_test false e =
         let number : place / 8 ≢ at = λ same. grind (arith, nat_tests) in
-        let test : is_among (8 * at) 8 place ≡ false = grind (arith, nat_tests) in
+        let test : is_among_places (8 * at) 8 place ≡ false = grind (arith, nat_tests) in
         rw test refl
 
 -- no cell written
@@ -32,31 +32,31 @@ pub write-none : (bits : ℕ → Option Bool) (at : ℕ) (word : Word) (n : ℕ)
 write-none bits at word n e = λ k place. pointwise place k
   where
     pointwise : (place : ℕ) → bits place ≡ with_word bits at n word place
-    pointwise place = let test : is_among (8 * at) (8 * n) place ≡ false = grind (arith, nat_tests) in rw test refl
+    pointwise place = let test : is_among_places (8 * at) (8 * n) place ≡ false = grind (arith, nat_tests) in rw test refl
 
 -- one more cell unset
 pub cleared-more : (cells : List Cell) (bits : ℕ → Option Bool) (at i : ℕ) → at + i < length cells → bits_in cells ≡ cleared bits (8 * at) (8 * i) →
     bits_in (set cells (at + i) (record { value = 0; set = 0 })) ≡ cleared bits (8 * at) (8 * (i + 1))
 cleared-more cells bits at i inside e = λ k place. pointwise place k
   where
-    by_test : (place : ℕ) (z z' : Bool) → is_among (8 * (at + i)) 8 place ≡ z → is_among (8 * at) (8 * i) place ≡ z' →
+    by_test : (place : ℕ) (z z' : Bool) → is_among_places (8 * (at + i)) 8 place ≡ z → is_among_places (8 * at) (8 * i) place ≡ z' →
         (if z then masked 0 0 (place - 8 * (at + i)) else (if z' then None else bits place)) ≡ cleared bits (8 * at) (8 * (i + 1)) place
     by_test place true z' t t' =
-        let test : is_among (8 * at) (8 * (i + 1)) place ≡ true = grind (arith, nat_tests) in
+        let test : is_among_places (8 * at) (8 * (i + 1)) place ≡ true = grind (arith, nat_tests) in
         let none : has_bit 0 (place - 8 * (at + i)) ≡ false = ap (λ x. nat_eq x 1) (bit_at-zero (place - 8 * (at + i))) in
         rw (test, none) refl
-    by_test place false true t t' = let test : is_among (8 * at) (8 * (i + 1)) place ≡ true = grind (arith, nat_tests) in rw test refl
-    by_test place false false t t' = let test : is_among (8 * at) (8 * (i + 1)) place ≡ false = grind (arith, nat_tests) in rw test refl
+    by_test place false true t t' = let test : is_among_places (8 * at) (8 * (i + 1)) place ≡ true = grind (arith, nat_tests) in rw test refl
+    by_test place false false t t' = let test : is_among_places (8 * at) (8 * (i + 1)) place ≡ false = grind (arith, nat_tests) in rw test refl
 
     pointwise : (place : ℕ) → bits_in (set cells (at + i) (record { value = 0; set = 0 })) place ≡ cleared bits (8 * at) (8 * (i + 1)) place
-    pointwise place = bits_in-set cells (at + i) (record { value = 0; set = 0 }) place inside ∙ (ap (λ f. if is_among (8 * (at + i)) 8 place then masked 0 0 (place - 8 * (at + i)) else f place) e ∙ by_test place (is_among (8 * (at + i)) 8 place) (is_among (8 * at) (8 * i) place) refl refl)
+    pointwise place = bits_in-set cells (at + i) (record { value = 0; set = 0 }) place inside ∙ (ap (λ f. if is_among_places (8 * (at + i)) 8 place then masked 0 0 (place - 8 * (at + i)) else f place) e ∙ by_test place (is_among_places (8 * (at + i)) 8 place) (is_among_places (8 * at) (8 * i) place) refl refl)
 
 -- no cell unset
 pub cleared-none : (bits : ℕ → Option Bool) (at : ℕ) → bits ≡ cleared bits (8 * at) (8 * 0)
 cleared-none bits at = λ k place. pointwise place k
   where
     pointwise : (place : ℕ) → bits place ≡ cleared bits (8 * at) (8 * 0) place
-    pointwise place = let test : is_among (8 * at) (8 * 0) place ≡ false = grind (arith, nat_tests) in rw test refl
+    pointwise place = let test : is_among_places (8 * at) (8 * 0) place ≡ false = grind (arith, nat_tests) in rw test refl
 
 -- unset cells add no bit
 pub bits_in-unset_after : (cells : List Cell) (n : ℕ) → bits_in (cells ++ replicate n (record { value = 0; set = 0 })) ≡ bits_in cells

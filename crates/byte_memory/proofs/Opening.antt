@@ -10,8 +10,8 @@ use Rattle.std.proofs.lemmas.List.Sums.{sum_by-append}
 use Rattle.std.proofs.lemmas.Option.{slice_get_within, get_or_from_slice_get}
 use Rattle.byte_memory.specs.declared.memory.Region.{Region}
 use Rattle.byte_memory.specs.declared.page.Page.{Page}
-use Rattle.byte_memory.specs.Bits.{is_among}
-use Rattle.byte_memory.specs.Regions.{fault_at, fault_in, holds, rounded, IsAscending}
+use Rattle.byte_memory.specs.Bits.{is_among_places}
+use Rattle.byte_memory.specs.Regions.{fault_at, fault_in, holds_bytes, rounded, IsAscending}
 use Rattle.byte_memory.specs.Pages.{meets, numbered, users_of, reached_bits, next_start, start_after, AreAdded}
 use Rattle.byte_memory.proofs.Lists.{counted, counted_one, counted_none, count_by-cons, count_by-found}
 use Rattle.byte_memory.proofs.Reachable.{ends_below_next}
@@ -45,27 +45,27 @@ count-push p rs r =
 
 -- bytes that could not be reached and are in a new region have no set bit
 pub reached-push : (rs : List Region) (r : Region) (bit : ℕ → Option Bool) → ((place : ℕ) → 8 * r.start ≤ place → bit place ≡ None) → reached_bits (rs ++ r ∷ []) bit ≡ reached_bits rs bit
-reached-push rs r bit unset = λ j place. by_found place (find (holds (place / 8) 1) rs) refl j
+reached-push rs r bit unset = λ j place. by_found place (find (holds_bytes (place / 8) 1) rs) refl j
   where
     none_if : (place : ℕ) (z : Bool) → bit place ≡ None → (if z then bit place else None) ≡ None
     none_if place true e = e
     none_if place false e = refl
 
-    by_found : (place : ℕ) (found : Option Region) → find (holds (place / 8) 1) rs ≡ found → reached_bits (rs ++ r ∷ []) bit place ≡ reached_bits rs bit place
+    by_found : (place : ℕ) (found : Option Region) → find (holds_bytes (place / 8) 1) rs ≡ found → reached_bits (rs ++ r ∷ []) bit place ≡ reached_bits rs bit place
     by_found place (Some q) e =
-        let new : find (holds (place / 8) 1) (rs ++ r ∷ []) ≡ Some q = find-append (holds (place / 8) 1) rs (r ∷ []) ∙ ap (λ f. option_or f (find (holds (place / 8) 1) (r ∷ []))) e in
+        let new : find (holds_bytes (place / 8) 1) (rs ++ r ∷ []) ≡ Some q = find-append (holds_bytes (place / 8) 1) rs (r ∷ []) ∙ ap (λ f. option_or f (find (holds_bytes (place / 8) 1) (r ∷ []))) e in
         ap (λ f. if is_none (fault_in (place / 8) f) then bit place else None) (new ∙ sym e)
-    by_found place None e = by_test (holds (place / 8) 1 r) refl
+    by_found place None e = by_test (holds_bytes (place / 8) 1 r) refl
       where
-        new : find (holds (place / 8) 1) (rs ++ r ∷ []) ≡ cond (holds (place / 8) 1 r) (Some r) None
-        new = find-append (holds (place / 8) 1) rs (r ∷ []) ∙ ap (λ f. option_or f (find (holds (place / 8) 1) (r ∷ []))) e
+        new : find (holds_bytes (place / 8) 1) (rs ++ r ∷ []) ≡ cond (holds_bytes (place / 8) 1 r) (Some r) None
+        new = find-append (holds_bytes (place / 8) 1) rs (r ∷ []) ∙ ap (λ f. option_or f (find (holds_bytes (place / 8) 1) (r ∷ []))) e
 
-        by_test : (z : Bool) → holds (place / 8) 1 r ≡ z → reached_bits (rs ++ r ∷ []) bit place ≡ reached_bits rs bit place
+        by_test : (z : Bool) → holds_bytes (place / 8) 1 r ≡ z → reached_bits (rs ++ r ∷ []) bit place ≡ reached_bits rs bit place
         by_test true t =
             let past : 8 * r.start ≤ place = grind (arith, nat_tests) in
             none_if place (is_none (fault_at (rs ++ r ∷ []) (place / 8) 1)) (unset place past) ∙ sym (none_if place (is_none (fault_at rs (place / 8) 1)) (unset place past))
         by_test false t =
-            let none : find (holds (place / 8) 1) (rs ++ r ∷ []) ≡ None = new ∙ ap (λ z. cond z (Some r) None) t in
+            let none : find (holds_bytes (place / 8) 1) (rs ++ r ∷ []) ≡ None = new ∙ ap (λ z. cond z (Some r) None) t in
             ap (λ f. if is_none (fault_in (place / 8) f) then bit place else None) (none ∙ sym e)
 
 -- counts and pages after an open
@@ -73,11 +73,11 @@ module _ (rs : List Region) (pages pages' : List Page) (r : Region) (is_open : r
     (added : AreAdded pages pages' (r.start / 4096) ((r.start + r.size - 1) / 4096 + 1 - r.start / 4096)) where
   pub open-users : ((number : ℕ) → users_of (find (numbered number) pages) ≡ count_by (meets number) rs) → (number : ℕ) → users_of (find (numbered number) pages') ≡ count_by (meets number) (rs ++ r ∷ [])
   open-users users number =
-      let one : counted (meets number) r ≡ (if is_among (r.start / 4096) ((r.start + r.size - 1) / 4096 + 1 - r.start / 4096) number then 1 else 0) = ap (λ z. cond z 1 0) (meets_among number r is_open some) in
+      let one : counted (meets number) r ≡ (if is_among_places (r.start / 4096) ((r.start + r.size - 1) / 4096 + 1 - r.start / 4096) number then 1 else 0) = ap (λ z. cond z 1 0) (meets_among number r is_open some) in
       omega (arith, one, added.users number, users number, count-push (meets number) rs r)
 
   pub open-kept : ((number : ℕ) → is_some (find (numbered number) pages) ≡ nat_lt 0 (count_by (meets number) rs)) → (number : ℕ) → is_some (find (numbered number) pages') ≡ nat_lt 0 (count_by (meets number) (rs ++ r ∷ []))
-  open-kept kept number = added.kept number ∙ (ap (λ z. z || is_among (r.start / 4096) ((r.start + r.size - 1) / 4096 + 1 - r.start / 4096) number) (kept number)
+  open-kept kept number = added.kept number ∙ (ap (λ z. z || is_among_places (r.start / 4096) ((r.start + r.size - 1) / 4096 + 1 - r.start / 4096) number) (kept number)
       ∙ (ap (λ z. nat_lt 0 (count_by (meets number) rs) || z) (sym (meets_among number r is_open some)) ∙ by_test (meets number r) refl))
     where
       or_true : (z : Bool) → (z || true) ≡ true

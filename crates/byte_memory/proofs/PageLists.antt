@@ -5,7 +5,7 @@ use Rattle.std.specs.List.{slice_get, find, list_any}
 use Rattle.std.proofs.lemmas.Bool.Decides.{nat_tests}
 use Rattle.byte_memory.specs.declared.memory.Region.{Region}
 use Rattle.byte_memory.specs.declared.page.Page.{Page}
-use Rattle.byte_memory.specs.Pages.{meets, numbered, ArePages}
+use Rattle.byte_memory.specs.Pages.{meets, numbered, ArePageNumbers}
 use Rattle.byte_memory.proofs.Lists.{counted_one, counted_none, count_by-cons}
 use Rattle.byte_memory.proofs.Tables.{AreOrdered}
 
@@ -38,7 +38,7 @@ any-counted p (r ∷ rs) = by_test (p r) refl (any-counted p rs)
         rw (same, t) rest
 
 -- the pages that are kept are those that meet an open region
-pub ArePages-kept : (rs : List Region) (pages : List Page) → AreOrdered pages → ((number : ℕ) → is_some (find (numbered number) pages) ≡ nat_lt 0 (count_by (meets number) rs)) → ArePages rs (numbers_of pages)
+pub ArePages-kept : (rs : List Region) (pages : List Page) → AreOrdered pages → ((number : ℕ) → is_some (find (numbered number) pages) ≡ nat_lt 0 (count_by (meets number) rs)) → ArePageNumbers rs (numbers_of pages)
 ArePages-kept rs pages up kept = record {
   ascending = λ i j x y less first second.
       let p = numbers_at pages i x first in

@@ -10,9 +10,9 @@ use Rattle.std.specs.Option.{option_map}
 use Rattle.byte_memory.specs.declared.memory.Region.{Region}
 use Rattle.byte_memory.specs.declared.cells.Word.{Word}
 use Rattle.byte_memory.specs.declared.page.Page.{Page}
-use Rattle.byte_memory.specs.Bits.{is_among}
+use Rattle.byte_memory.specs.Bits.{is_among_places}
 use Rattle.byte_memory.specs.Words.{with_word}
-use Rattle.byte_memory.specs.Regions.{fault_at, fault_in, holds, shut, rounded, IsAscending}
+use Rattle.byte_memory.specs.Regions.{fault_at, fault_in, holds_bytes, shut, rounded, IsAscending}
 use Rattle.byte_memory.specs.Pages.{meets, numbered, reached_bits, next_start, start_after}
 use Rattle.byte_memory.proofs.Lists.{count_by-some}
 use Rattle.byte_memory.proofs.Reached.{fault_at-inside, shut_same}
@@ -20,14 +20,14 @@ use Rattle.byte_memory.proofs.Reached.{fault_at-inside, shut_same}
 -- bytes that can be reached lie in one open region
 pub fault_at-found : (rs : List Region) (at n : ℕ) → fault_at rs at n ≡ None → (k : ℕ) × (r : Region) × (slice_get rs k ≡ Some r) × (r.is_open ≡ true) × (r.start ≤ at) × (at + n ≤ r.start + r.size)
 fault_at-found [] at n e = cc
-fault_at-found (q ∷ rs) at n e = by_test (holds at n q) refl (fault_at-found rs at n) e
+fault_at-found (q ∷ rs) at n e = by_test (holds_bytes at n q) refl (fault_at-found rs at n) e
   where
     opened : (z : Bool) → q.is_open ≡ z → fault_in at (Some q) ≡ None → q.is_open ≡ true
     opened true o e = o
     opened false o e = let closed = rw o at e in cc
 
-    by_test : (z : Bool) → holds at n q ≡ z → (fault_at rs at n ≡ None → (k : ℕ) × (r : Region) × (slice_get rs k ≡ Some r) × (r.is_open ≡ true) × (r.start ≤ at) × (at + n ≤ r.start + r.size)) →
-        fault_in at (cond z (Some q) (find (holds at n) rs)) ≡ None → (k : ℕ) × (r : Region) × (slice_get (q ∷ rs) k ≡ Some r) × (r.is_open ≡ true) × (r.start ≤ at) × (at + n ≤ r.start + r.size)
+    by_test : (z : Bool) → holds_bytes at n q ≡ z → (fault_at rs at n ≡ None → (k : ℕ) × (r : Region) × (slice_get rs k ≡ Some r) × (r.is_open ≡ true) × (r.start ≤ at) × (at + n ≤ r.start + r.size)) →
+        fault_in at (cond z (Some q) (find (holds_bytes at n) rs)) ≡ None → (k : ℕ) × (r : Region) × (slice_get (q ∷ rs) k ≡ Some r) × (r.is_open ≡ true) × (r.start ≤ at) × (at + n ≤ r.start + r.size)
     by_test true t rest e = (0, q, refl, opened q.is_open refl e, grind (arith, nat_tests), grind (arith, nat_tests))
     by_test false t rest e = let found = rest e in (suc found.0, found.1, found.2, found.3, found.4, found.5)
 
@@ -58,9 +58,9 @@ reached_bits-at rs bit at n place up reach inside =
 
 -- a word written to them is seen
 pub reached_bits-with_word : (rs : List Region) (bit : ℕ → Option Bool) (at n : ℕ) (word : Word) → IsAscending rs → fault_at rs at n ≡ None → reached_bits rs (with_word bit at n word) ≡ with_word (reached_bits rs bit) at n word
-reached_bits-with_word rs bit at n word up reach = λ j place. by_test place (is_among (8 * at) (8 * n) place) refl j
+reached_bits-with_word rs bit at n word up reach = λ j place. by_test place (is_among_places (8 * at) (8 * n) place) refl j
   where
-    by_test : (place : ℕ) (z : Bool) → is_among (8 * at) (8 * n) place ≡ z → reached_bits rs (with_word bit at n word) place ≡ with_word (reached_bits rs bit) at n word place
+    by_test : (place : ℕ) (z : Bool) → is_among_places (8 * at) (8 * n) place ≡ z → reached_bits rs (with_word bit at n word) place ≡ with_word (reached_bits rs bit) at n word place
     by_test place true t =
         let low : at ≤ place / 8 = grind (arith, nat_tests) in
         let high : place / 8 < at + n = grind (arith, nat_tests) in
@@ -106,7 +106,7 @@ pub unset-written : (rs : List Region) (bit bit' : ℕ → Option Bool) (at n : 
     ((place : ℕ) → 8 * next_start rs ≤ place → bit place ≡ None) → (place : ℕ) → 8 * next_start rs ≤ place → bit' place ≡ None
 unset-written rs bit bit' at n word up reach e unset place past =
     let ends = reached_below_next rs at n up reach in
-    let test : is_among (8 * at) (8 * n) place ≡ false = grind (arith, nat_tests, ends) in
+    let test : is_among_places (8 * at) (8 * n) place ≡ false = grind (arith, nat_tests, ends) in
     ap (λ f. f place) e ∙ rw test (unset place past)
 
 -- a close moves no region, so the next one starts where it would have

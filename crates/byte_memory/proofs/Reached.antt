@@ -7,7 +7,7 @@ use Rattle.std.proofs.lemmas.List.Sums.{sum_by-cons}
 use Rattle.std.proofs.lemmas.Option.{slice_get_within, get_or_from_slice_get}
 use Rattle.byte_memory.specs.declared.memory.Region.{Region}
 use Rattle.byte_memory.specs.declared.memory.MemoryFault.TheVariants.{Unset, Closed}
-use Rattle.byte_memory.specs.Regions.{fault_at, fault_in, holds, starts, shut, total_of, rounded, IsAscending}
+use Rattle.byte_memory.specs.Regions.{fault_at, fault_in, holds_bytes, starts, shut, total_of, rounded, IsAscending}
 use Rattle.byte_memory.proofs.Ascending.{HasAddress, IsAscendingBy-apart, find-last}
 
 -- what can be reached lies below the end
@@ -16,9 +16,9 @@ reached [] at n len ends h = cc
 reached (r ∷ rs) at n len ends h =
     let here : r.start + r.size ≤ len = All-head (λ r. r.start + r.size ≤ len) r rs ends in
     let there : fault_at rs at n ≡ None → at + n ≤ len = reached rs at n len (All-tail (λ r. r.start + r.size ≤ len) r rs ends) in
-    reached_at r rs at n len (holds at n r) refl here there h
+    reached_at r rs at n len (holds_bytes at n r) refl here there h
   where
-    reached_at : (r : Region) (rs : List Region) (at n len : ℕ) (b : Bool) → holds at n r ≡ b → r.start + r.size ≤ len → (fault_at rs at n ≡ None → at + n ≤ len) → fault_in at (cond b (Some r) (find (holds at n) rs)) ≡ None → at + n ≤ len
+    reached_at : (r : Region) (rs : List Region) (at n len : ℕ) (b : Bool) → holds_bytes at n r ≡ b → r.start + r.size ≤ len → (fault_at rs at n ≡ None → at + n ≤ len) → fault_in at (cond b (Some r) (find (holds_bytes at n) rs)) ≡ None → at + n ≤ len
     reached_at r rs at n len true e here there h = grind (arith, nat_tests)
     reached_at r rs at n len false e here there h = there h
 
@@ -50,7 +50,7 @@ found_ends (q ∷ rs) at len r all e =
     found_at q rs at len r false z here there e = there e
 
 -- bytes that a region holds have their address in it
-pub holds-address : (regions : List Region) (at n : ℕ) → 0 < n → HasAddress (λ r. r.start) (λ r. r.size) regions at (holds at n)
+pub holds-address : (regions : List Region) (at n : ℕ) → 0 < n → HasAddress (λ r. r.start) (λ r. r.size) regions at (holds_bytes at n)
 holds-address regions at n some k r here pass = (grind (arith, nat_tests), grind (arith, nat_tests))
 
 -- a region has the address at which it starts
@@ -119,12 +119,12 @@ found_starts (q ∷ rs) at r e = found_at (nat_eq q.start at) refl (found_starts
 -- bytes inside an open region can be reached
 pub fault_at-inside : (rs : List Region) (k : ℕ) (r : Region) (at n : ℕ) → IsAscending rs → slice_get rs k ≡ Some r → r.is_open ≡ true → 0 < n → r.start ≤ at → at + n ≤ r.start + r.size → fault_at rs at n ≡ None
 fault_at-inside rs k r at n up here is_open some low high =
-    let pass : holds at n r ≡ true = grind (arith, nat_tests) in
-    rw (find-last (λ (q : Region). q.start) (λ q. q.size) rs at (holds at n) k r up (holds-address rs at n some) here pass, is_open) refl
+    let pass : holds_bytes at n r ≡ true = grind (arith, nat_tests) in
+    rw (find-last (λ (q : Region). q.start) (λ q. q.size) rs at (holds_bytes at n) k r up (holds-address rs at n some) here pass, is_open) refl
 
 -- bytes that can't be reached are not said to be unset
 pub fault_at-reached : (rs : List Region) (at n a : ℕ) → fault_at rs at n ≡ Some (Unset a) → ⊥
-fault_at-reached rs at n a e = by_case (find (holds at n) rs) e
+fault_at-reached rs at n a e = by_case (find (holds_bytes at n) rs) e
   where
     by_open : (z : Bool) → (if z then None else Some (Closed at)) ≡ Some (Unset a) → ⊥
     by_open true e = cc

@@ -9,7 +9,7 @@ use Rattle.std.proofs.lemmas.List.{length_push}
 use Rattle.std.proofs.lemmas.Option.{slice_get_within, get_or_from_slice_get}
 use Rattle.byte_memory.specs.declared.cells.Word.{Word}
 use Rattle.byte_memory.specs.declared.page.Page.{Page}
-use Rattle.byte_memory.specs.Bits.{has_bit, is_among}
+use Rattle.byte_memory.specs.Bits.{has_bit, is_among_places}
 use Rattle.byte_memory.specs.Words.{word_bit, bits_in, with_word}
 use Rattle.byte_memory.specs.Regions.{IsAscendingBy}
 use Rattle.byte_memory.specs.Pages.{numbered, page_bit, bits_of, users_of, released, AreUsedAs, AreFresh}
@@ -109,25 +109,25 @@ pub bits_of-set : (pages : List Page) (at : ℕ) (old new : Page) (from n : ℕ)
     bits_of (set pages at new) ≡ with_word (bits_of pages) (4096 * old.number + from) n word
 bits_of-set pages at old new from n word up here found same inside e = λ j place. pointwise place j
   where
-    in_page : (place : ℕ) → place / 32768 ≡ old.number → (z : Bool) → is_among (8 * from) (8 * n) (place % 32768) ≡ z → page_bit (Some new) (place % 32768) ≡ with_word (bits_of pages) (4096 * old.number + from) n word place
+    in_page : (place : ℕ) → place / 32768 ≡ old.number → (z : Bool) → is_among_places (8 * from) (8 * n) (place % 32768) ≡ z → page_bit (Some new) (place % 32768) ≡ with_word (bits_of pages) (4096 * old.number + from) n word place
     in_page place number true t =
-        let test : is_among (8 * (4096 * old.number + from)) (8 * n) place ≡ true = grind (arith, nat_tests) in
+        let test : is_among_places (8 * (4096 * old.number + from)) (8 * n) place ≡ true = grind (arith, nat_tests) in
         let there : place % 32768 - 8 * from ≡ place - 8 * (4096 * old.number + from) = omega arith in
         let new_bit : bits_in new.cells.items (place % 32768) ≡ with_word (bits_in old.cells.items) from n word (place % 32768) = ap (λ f. f (place % 32768)) e in
         let written : bits_in new.cells.items (place % 32768) ≡ word_bit word (place % 32768 - 8 * from) = rw t at new_bit in
         rw test (written ∙ ap (word_bit word) there)
     in_page place number false t =
-        let test : is_among (8 * (4096 * old.number + from)) (8 * n) place ≡ false = grind (arith, nat_tests) in
+        let test : is_among_places (8 * (4096 * old.number + from)) (8 * n) place ≡ false = grind (arith, nat_tests) in
         let new_bit : bits_in new.cells.items (place % 32768) ≡ with_word (bits_in old.cells.items) from n word (place % 32768) = ap (λ f. f (place % 32768)) e in
         let kept : bits_in new.cells.items (place % 32768) ≡ bits_in old.cells.items (place % 32768) = rw t at new_bit in
         let before : bits_of pages place ≡ bits_in old.cells.items (place % 32768) = ap (λ q. page_bit (find (numbered q) pages) (place % 32768)) number ∙ ap (λ p. page_bit p (place % 32768)) found in
         rw test (kept ∙ sym before)
 
     by_test : (place : ℕ) (z : Bool) → nat_eq (place / 32768) old.number ≡ z → page_bit (if z then Some new else find (numbered (place / 32768)) pages) (place % 32768) ≡ with_word (bits_of pages) (4096 * old.number + from) n word place
-    by_test place true t = in_page place (grind (arith, nat_tests)) (is_among (8 * from) (8 * n) (place % 32768)) refl
+    by_test place true t = in_page place (grind (arith, nat_tests)) (is_among_places (8 * from) (8 * n) (place % 32768)) refl
     by_test place false t =
         let other : place / 32768 ≢ old.number = λ number. grind (arith, nat_tests) in
-        let test : is_among (8 * (4096 * old.number + from)) (8 * n) place ≡ false = grind (arith, nat_tests) in
+        let test : is_among_places (8 * (4096 * old.number + from)) (8 * n) place ≡ false = grind (arith, nat_tests) in
         rw test refl
 
     pointwise : (place : ℕ) → bits_of (set pages at new) place ≡ with_word (bits_of pages) (4096 * old.number + from) n word place
@@ -204,18 +204,18 @@ used-set pages at old new up here found same users number = by_test (nat_eq numb
     by_test false t e = rw e (refl, refl)
 
 -- one page less, or one user less, after one more page was released
-pub release-more : (first k other : ℕ) (old mid new : Option Page) → new ≡ (if nat_eq other (first + k) then released mid else mid) → mid ≡ (if is_among first k other then released old else old) → new ≡ (if is_among first (k + 1) other then released old else old)
-release-more first k other old mid new e f = by_test (nat_eq other (first + k)) (is_among first k other) refl refl (e ∙ ap (λ m. if nat_eq other (first + k) then released m else m) f)
+pub release-more : (first k other : ℕ) (old mid new : Option Page) → new ≡ (if nat_eq other (first + k) then released mid else mid) → mid ≡ (if is_among_places first k other then released old else old) → new ≡ (if is_among_places first (k + 1) other then released old else old)
+release-more first k other old mid new e f = by_test (nat_eq other (first + k)) (is_among_places first k other) refl refl (e ∙ ap (λ m. if nat_eq other (first + k) then released m else m) f)
   where
-    by_test : (z z' : Bool) → nat_eq other (first + k) ≡ z → is_among first k other ≡ z' → new ≡ (if z then released (if z' then released old else old) else (if z' then released old else old)) → new ≡ (if is_among first (k + 1) other then released old else old)
+    by_test : (z z' : Bool) → nat_eq other (first + k) ≡ z → is_among_places first k other ≡ z' → new ≡ (if z then released (if z' then released old else old) else (if z' then released old else old)) → new ≡ (if is_among_places first (k + 1) other then released old else old)
     by_test true true t t' g = absurd (grind (arith, nat_tests))
-    by_test true false t t' g = let test : is_among first (k + 1) other ≡ true = grind (arith, nat_tests) in rw test g
-    by_test false true t t' g = let test : is_among first (k + 1) other ≡ true = grind (arith, nat_tests) in rw test g
-    by_test false false t t' g = let test : is_among first (k + 1) other ≡ false = grind (arith, nat_tests) in rw test g
+    by_test true false t t' g = let test : is_among_places first (k + 1) other ≡ true = grind (arith, nat_tests) in rw test g
+    by_test false true t t' g = let test : is_among_places first (k + 1) other ≡ true = grind (arith, nat_tests) in rw test g
+    by_test false false t t' g = let test : is_among_places first (k + 1) other ≡ false = grind (arith, nat_tests) in rw test g
 
 -- no page released
-pub release-none : (first other : ℕ) (old : Option Page) → old ≡ (if is_among first 0 other then released old else old)
-release-none first other old = let test : is_among first 0 other ≡ false = grind (arith, nat_tests) in rw test refl
+pub release-none : (first other : ℕ) (old : Option Page) → old ≡ (if is_among_places first 0 other then released old else old)
+release-none first other old = let test : is_among_places first 0 other ≡ false = grind (arith, nat_tests) in rw test refl
 
 -- one more fresh page
 pub AreFresh-push : (pages : List Page) (first k : ℕ) (page : Page) → AreFresh pages first k → page.number ≡ first + k → page.users ≡ 1 → page.cells.items ≡ [] → AreFresh (pages ++ page ∷ []) first (k + 1)
@@ -255,15 +255,15 @@ released-more page more = let test : nat_lt page.users 2 ≡ false = grind (arit
 pub with_word-split : (bit bit' : ℕ → Option Bool) (at m n : ℕ) (value set : ℕ) → m ≤ n →
     bit' ≡ with_word (with_word bit at m (record { value = value; set = set })) (at + m) (n - m) (record { value = value / 2 ^ (8 * m); set = set / 2 ^ (8 * m) }) →
     bit' ≡ with_word bit at n (record { value = value; set = set })
-with_word-split bit bit' at m n value set less e = e ∙ (λ j place. by_test place (is_among (8 * (at + m)) (8 * (n - m)) place) (is_among (8 * at) (8 * m) place) refl refl j)
+with_word-split bit bit' at m n value set less e = e ∙ (λ j place. by_test place (is_among_places (8 * (at + m)) (8 * (n - m)) place) (is_among_places (8 * at) (8 * m) place) refl refl j)
   where
-    by_test : (place : ℕ) (z z' : Bool) → is_among (8 * (at + m)) (8 * (n - m)) place ≡ z → is_among (8 * at) (8 * m) place ≡ z' →
+    by_test : (place : ℕ) (z z' : Bool) → is_among_places (8 * (at + m)) (8 * (n - m)) place ≡ z → is_among_places (8 * at) (8 * m) place ≡ z' →
         with_word (with_word bit at m (record { value = value; set = set })) (at + m) (n - m) (record { value = value / 2 ^ (8 * m); set = set / 2 ^ (8 * m) }) place ≡ with_word bit at n (record { value = value; set = set }) place
     by_test place true z' t t' =
-        let test : is_among (8 * at) (8 * n) place ≡ true = grind (arith, nat_tests) in
+        let test : is_among_places (8 * at) (8 * n) place ≡ true = grind (arith, nat_tests) in
         let there : 8 * m + (place - 8 * (at + m)) ≡ place - 8 * at = grind (arith, nat_tests) in
         let v : has_bit (value / 2 ^ (8 * m)) (place - 8 * (at + m)) ≡ has_bit value (place - 8 * at) = has_bit-shifted value (8 * m) (place - 8 * (at + m)) ∙ ap (has_bit value) there in
         let s : has_bit (set / 2 ^ (8 * m)) (place - 8 * (at + m)) ≡ has_bit set (place - 8 * at) = has_bit-shifted set (8 * m) (place - 8 * (at + m)) ∙ ap (has_bit set) there in
         rw (t, test, v, s) refl
-    by_test place false true t t' = let test : is_among (8 * at) (8 * n) place ≡ true = grind (arith, nat_tests) in rw (t, t', test) refl
-    by_test place false false t t' = let test : is_among (8 * at) (8 * n) place ≡ false = grind (arith, nat_tests) in rw (t, t', test) refl
+    by_test place false true t t' = let test : is_among_places (8 * at) (8 * n) place ≡ true = grind (arith, nat_tests) in rw (t, t', test) refl
+    by_test place false false t t' = let test : is_among_places (8 * at) (8 * n) place ≡ false = grind (arith, nat_tests) in rw (t, t', test) refl

@@ -11,7 +11,7 @@ use Rattle.std.proofs.lemmas.Nat.Bits.{bit_at-zero}
 use Rattle.byteorder.specs.Endian.{little_from}
 use Rattle.byte_memory.specs.declared.cells.Cell.{Cell}
 use Rattle.byte_memory.specs.declared.cells.Word.{Word}
-use Rattle.byte_memory.specs.Bits.{has_bit, is_among}
+use Rattle.byte_memory.specs.Bits.{has_bit, is_among_places}
 use Rattle.byte_memory.specs.Words.{masked, word_bit, cell_bit, bits_in, with_word}
 use Rattle.byte_memory.proofs.BitLists.{has_bit-low, has_bit-high, has_bit-mod, has_bit-shifted}
 use Rattle.byte_memory.proofs.PageBits.{bytes_power}
@@ -172,21 +172,21 @@ written-more cells old at i value mask word inside before is_value is_mask = λ 
     after : ℕ → Option Bool
     after = bits_in (set cells (at + i) (record { value = value; set = mask }))
 
-    kept : (place : ℕ) → is_among (8 * (at + i)) 8 place ≡ false → after place ≡ with_word old at i word place
+    kept : (place : ℕ) → is_among_places (8 * (at + i)) 8 place ≡ false → after place ≡ with_word old at i word place
     kept place out = bits_in-set cells (at + i) (record { value = value; set = mask }) place inside ∙ rw out (ap (λ f. f place) before)
 
     below : (place : ℕ) → place < 8 * (at + i) → after place ≡ with_word old at (i + 1) word place
     below place less = kept place (grind (arith, nat_tests)) ∙ ap (λ test. if test then word_bit word (place - 8 * at) else old place) (same (cases_lt place (8 * at)))
       where
-        same : (place < 8 * at) ⊎ (8 * at ≤ place) → is_among (8 * at) (8 * i) place ≡ is_among (8 * at) (8 * (i + 1)) place
+        same : (place < 8 * at) ⊎ (8 * at ≤ place) → is_among_places (8 * at) (8 * i) place ≡ is_among_places (8 * at) (8 * (i + 1)) place
         same = ⊎_elim
-            (λ low. let one : is_among (8 * at) (8 * i) place ≡ false = grind (arith, nat_tests) in let two : is_among (8 * at) (8 * (i + 1)) place ≡ false = grind (arith, nat_tests) in one ∙ sym two)
-            (λ high. let one : is_among (8 * at) (8 * i) place ≡ true = grind (arith, nat_tests) in let two : is_among (8 * at) (8 * (i + 1)) place ≡ true = grind (arith, nat_tests) in one ∙ sym two)
+            (λ low. let one : is_among_places (8 * at) (8 * i) place ≡ false = grind (arith, nat_tests) in let two : is_among_places (8 * at) (8 * (i + 1)) place ≡ false = grind (arith, nat_tests) in one ∙ sym two)
+            (λ high. let one : is_among_places (8 * at) (8 * i) place ≡ true = grind (arith, nat_tests) in let two : is_among_places (8 * at) (8 * (i + 1)) place ≡ true = grind (arith, nat_tests) in one ∙ sym two)
 
     here : (place : ℕ) → 8 * (at + i) ≤ place → place < 8 * (at + i) + 8 → after place ≡ with_word old at (i + 1) word place
     here place more less =
-        let test : is_among (8 * (at + i)) 8 place ≡ true = grind (arith, nat_tests) in
-        let test' : is_among (8 * at) (8 * (i + 1)) place ≡ true = grind (arith, nat_tests) in
+        let test : is_among_places (8 * (at + i)) 8 place ≡ true = grind (arith, nat_tests) in
+        let test' : is_among_places (8 * at) (8 * (i + 1)) place ≡ true = grind (arith, nat_tests) in
         let there : 8 * i + (place - 8 * (at + i)) ≡ place - 8 * at = omega arith in
         let v : has_bit value (place - 8 * (at + i)) ≡ has_bit word.value (place - 8 * at) = ap (λ b. has_bit b (place - 8 * (at + i))) is_value ∙ (bit_of_byte i word.value (place - 8 * (at + i)) (omega arith) ∙ ap (has_bit word.value) there) in
         let m : has_bit mask (place - 8 * (at + i)) ≡ has_bit word.set (place - 8 * at) = ap (λ b. has_bit b (place - 8 * (at + i))) is_mask ∙ (bit_of_byte i word.set (place - 8 * (at + i)) (omega arith) ∙ ap (has_bit word.set) there) in
@@ -194,8 +194,8 @@ written-more cells old at i value mask word inside before is_value is_mask = λ 
 
     above : (place : ℕ) → 8 * (at + i) + 8 ≤ place → after place ≡ with_word old at (i + 1) word place
     above place more =
-        let test : is_among (8 * at) (8 * i) place ≡ false = grind (arith, nat_tests) in
-        let test' : is_among (8 * at) (8 * (i + 1)) place ≡ false = grind (arith, nat_tests) in
+        let test : is_among_places (8 * at) (8 * i) place ≡ false = grind (arith, nat_tests) in
+        let test' : is_among_places (8 * at) (8 * (i + 1)) place ≡ false = grind (arith, nat_tests) in
         kept place (grind (arith, nat_tests)) ∙ rw (test, test') refl
 
     pointwise : (place : ℕ) → after place ≡ with_word old at (i + 1) word place

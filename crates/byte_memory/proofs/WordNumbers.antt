@@ -7,7 +7,7 @@ use Rattle.std.proofs.lemmas.Bool.{cases_lt}
 use Rattle.std.proofs.lemmas.Nat.Bits.{bit_at-lt, bit_at_and, bit_at_or, bit_at_not, bit_at_ones, bit_at_ones_above, bit_at_above, bit_at_cat_low, bit_at_cat_high, ones_shr, bit_at-zero}
 use Rattle.std.proofs.lemmas.Nat.{div-add-mod', and_mask, shl_whole, pow_pos}
 use Rattle.std.proofs.Math.Nat.{pow-suc, mod-lt}
-use Rattle.byte_memory.specs.Bits.{has_bit, with_low, number_from, is_among}
+use Rattle.byte_memory.specs.Bits.{has_bit, with_low, number_from, is_among_places}
 use Rattle.byte_memory.specs.Words.{masked}
 use Rattle.byte_memory.proofs.BitLists.{has_bit-number, low_bits}
 
@@ -81,7 +81,7 @@ joined_new a b m f e one = omega arith
 -- what `replaced` gives, by its bits
 pub replaced_bit : (word first n from place : ℕ) → first + n ≤ 64 → place < 64 →
     has_bit (bit_or (bit_and word (18446744073709551615 - 18446744073709551615 / 2 ^ (64 - n) * 2 ^ first % 18446744073709551616)) (bit_and from (18446744073709551615 / 2 ^ (64 - n)) * 2 ^ first % 18446744073709551616)) place
-    ≡ (if is_among first n place then has_bit from (place - first) else has_bit word place)
+    ≡ (if is_among_places first n place then has_bit from (place - first) else has_bit word place)
 replaced_bit word first n from place fits inside =
     let short : n ≤ 64 = omega arith in
     let some = pow_pos n in
@@ -97,7 +97,7 @@ replaced_bit word first n from place fits inside =
     by_place word first n from place hole new (bit_at (bit_or (bit_and word (18446744073709551615 - hole)) new) place) hole_is new_is total
   where
     by_place : (word first n from place hole new all : ℕ) → hole ≡ (2 ^ n - 1) * 2 ^ first → new ≡ (from % 2 ^ n) * 2 ^ first → all ≡ max (min (bit_at word place) (1 - bit_at hole place)) (bit_at new place) →
-        nat_eq all 1 ≡ (if is_among first n place then has_bit from (place - first) else has_bit word place)
+        nat_eq all 1 ≡ (if is_among_places first n place then has_bit from (place - first) else has_bit word place)
     by_place word first n from place hole new all hole_is new_is total = ⊎_elim below_first (λ more. ⊎_elim (among more) above (cases_lt place (first + n))) (cases_lt place first)
       where
         hole_bit : bit_at hole place ≡ bit_at ((2 ^ n - 1) * 2 ^ first) place
@@ -106,20 +106,20 @@ replaced_bit word first n from place fits inside =
         new_bit : bit_at new place ≡ bit_at ((from % 2 ^ n) * 2 ^ first) place
         new_bit = ap (λ x. bit_at x place) new_is
 
-        left : is_among first n place ≡ false → bit_at hole place ≡ 0 → bit_at new place ≡ 0 → nat_eq all 1 ≡ (if is_among first n place then has_bit from (place - first) else has_bit word place)
+        left : is_among_places first n place ≡ false → bit_at hole place ≡ 0 → bit_at new place ≡ 0 → nat_eq all 1 ≡ (if is_among_places first n place then has_bit from (place - first) else has_bit word place)
         left out none none' = rw out (ap (λ x. nat_eq x 1) (joined all (bit_at word place) (bit_at hole place) (bit_at new place) total (bit_at-lt word place) none none'))
 
-        below_first : place < first → nat_eq all 1 ≡ (if is_among first n place then has_bit from (place - first) else has_bit word place)
+        below_first : place < first → nat_eq all 1 ≡ (if is_among_places first n place then has_bit from (place - first) else has_bit word place)
         below_first less = left (grind (arith, nat_tests)) (hole_bit ∙ shifted_low (2 ^ n - 1) first place less) (new_bit ∙ shifted_low (from % 2 ^ n) first place less)
 
-        among : first ≤ place → place < first + n → nat_eq all 1 ≡ (if is_among first n place then has_bit from (place - first) else has_bit word place)
+        among : first ≤ place → place < first + n → nat_eq all 1 ≡ (if is_among_places first n place then has_bit from (place - first) else has_bit word place)
         among more less =
-            let inside : is_among first n place ≡ true = grind (arith, nat_tests) in
+            let inside : is_among_places first n place ≡ true = grind (arith, nat_tests) in
             let one : bit_at hole place ≡ 1 = hole_bit ∙ (shifted_high (2 ^ n - 1) first place more ∙ bit_at_ones n (place - first) (omega arith)) in
             let bit : bit_at new place ≡ bit_at from (place - first) = new_bit ∙ (shifted_high (from % 2 ^ n) first place more ∙ low_inside from n (place - first) (omega arith)) in
             rw inside (ap (λ x. nat_eq x 1) (joined_new all (bit_at word place) (bit_at hole place) (bit_at new place) total one ∙ bit))
 
-        above : first + n ≤ place → nat_eq all 1 ≡ (if is_among first n place then has_bit from (place - first) else has_bit word place)
+        above : first + n ≤ place → nat_eq all 1 ≡ (if is_among_places first n place then has_bit from (place - first) else has_bit word place)
         above more =
             let past : first ≤ place = omega arith in
             left (grind (arith, nat_tests)) (hole_bit ∙ (shifted_high (2 ^ n - 1) first place past ∙ bit_at_ones_above n (place - first) (omega arith)))

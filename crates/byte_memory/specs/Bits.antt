@@ -17,20 +17,20 @@ number_from bit at zero = Some 0
 number_from bit at (suc n) = with_low (bit at) (number_from bit (at + 1) n)
 
 -- one of the n places from a place on
-abbrev pub is_among : ℕ → ℕ → ℕ → Bool
-is_among at n place = nat_le at place && nat_lt place (at + n)
+abbrev pub is_among_places : ℕ → ℕ → ℕ → Bool
+is_among_places at n place = nat_le at place && nat_lt place (at + n)
 
 -- the bits after the low n bits of a value were stored from one of them on
 abbrev pub stored : (ℕ → Option Bool) → ℕ → ℕ → ℕ → ℕ → Option Bool
-stored bit at n value place = if is_among at n place then Some (has_bit value (place - at)) else bit place
+stored bit at n value place = if is_among_places at n place then Some (has_bit value (place - at)) else bit place
 
 -- the bits after n of them were unset
 abbrev pub cleared : (ℕ → Option Bool) → ℕ → ℕ → ℕ → Option Bool
-cleared bit at n place = if is_among at n place then None else bit place
+cleared bit at n place = if is_among_places at n place then None else bit place
 
 -- the bits after n of them, set or unset, were copied from one place to another
-abbrev pub copied : (ℕ → Option Bool) → ℕ → ℕ → ℕ → ℕ → Option Bool
-copied bit from to n place = if is_among to n place then bit (from + (place - to)) else bit place
+abbrev pub with_bits_copied : (ℕ → Option Bool) → ℕ → ℕ → ℕ → ℕ → Option Bool
+with_bits_copied bit from to n place = if is_among_places to n place then bit (from + (place - to)) else bit place
 
 -- two ranges of n places are one, or have no place in common
 abbrev pub AreOneOrApart : ℕ → ℕ → ℕ → Type 0

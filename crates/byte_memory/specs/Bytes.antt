@@ -25,5 +25,5 @@ abbrev pub cleared_bytes : (ℕ → Option ℕ) → ℕ → ℕ → ℕ → Opti
 cleared_bytes byte at n a = if nat_le at a && nat_lt a (at + n) then None else byte a
 
 -- the bytes after n of them, set or unset, were copied from one address to another
-abbrev pub copied_bytes : (ℕ → Option ℕ) → ℕ → ℕ → ℕ → ℕ → Option ℕ
-copied_bytes byte from to n a = if nat_le to a && nat_lt a (to + n) then byte (from + (a - to)) else byte a
+abbrev pub with_bytes_copied : (ℕ → Option ℕ) → ℕ → ℕ → ℕ → ℕ → Option ℕ
+with_bytes_copied byte from to n a = if nat_le to a && nat_lt a (to + n) then byte (from + (a - to)) else byte a

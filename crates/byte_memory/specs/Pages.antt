@@ -4,14 +4,14 @@ use Rattle.byte_memory.specs.declared.memory.Region.{Region}
 use Rattle.byte_memory.specs.declared.page.Page.{Page}
 use Rattle.byte_memory.specs.Words.{bits_in}
 use Rattle.byte_memory.specs.Regions.{fault_at, rounded, IsAscendingBy}
-use Rattle.byte_memory.specs.Bits.{is_among}
+use Rattle.byte_memory.specs.Bits.{is_among_places}
 
 -- the region is open, and one of its bytes is in the page
 abbrev pub meets : ℕ → Region → Bool
 meets number region = region.is_open && (nat_lt region.start (4096 * (number + 1)) && nat_lt (4096 * number) (region.start + region.size))
 
 -- the numbers of the pages that meet an open region, each once, in ascending order
-pub record ArePages (regions : List Region) (numbers : List ℕ) : Type 0 where
+pub record ArePageNumbers (regions : List Region) (numbers : List ℕ) : Type 0 where
   pub ascending : (i j x y : ℕ) → i < j → slice_get numbers i ≡ Some x → slice_get numbers j ≡ Some y → x < y
   pub met : (number : ℕ) → list_any (nat_eq number) numbers ≡ list_any (meets number) regions
 
@@ -70,6 +70,6 @@ pub record AreFresh (pages : List Page) (first n : ℕ) : Type 0 where
 -- the pages after one region more meets each of n of them, from a number on: those that were not there are new, and no bit changes
 pub record AreAdded (old new : List Page) (first n : ℕ) : Type 0 where
   pub ordered : IsAscendingBy (λ page. page.number) (λ page. 1) new
-  pub users : (number : ℕ) → users_of (find (numbered number) new) ≡ users_of (find (numbered number) old) + (if is_among first n number then 1 else 0)
-  pub kept : (number : ℕ) → is_some (find (numbered number) new) ≡ (is_some (find (numbered number) old) || is_among first n number)
+  pub users : (number : ℕ) → users_of (find (numbered number) new) ≡ users_of (find (numbered number) old) + (if is_among_places first n number then 1 else 0)
+  pub kept : (number : ℕ) → is_some (find (numbered number) new) ≡ (is_some (find (numbered number) old) || is_among_places first n number)
   pub bits : bits_of new ≡ bits_of old

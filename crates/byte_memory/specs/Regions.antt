@@ -6,8 +6,8 @@ use Rattle.byte_memory.specs.declared.memory.MemoryFault.{MemoryFault}
 use Rattle.byte_memory.specs.declared.memory.MemoryFault.TheVariants.{Closed, Range}
 
 -- the n bytes from an address on all lie in the region
-abbrev pub holds : ℕ → ℕ → Region → Bool
-holds at n region = nat_le region.start at && nat_le (at + n) (region.start + region.size)
+abbrev pub holds_bytes : ℕ → ℕ → Region → Bool
+holds_bytes at n region = nat_le region.start at && nat_le (at + n) (region.start + region.size)
 
 -- the region starts there
 abbrev pub starts : ℕ → Region → Bool
@@ -20,7 +20,7 @@ fault_in at (Some region) = if region.is_open then None else Some (Closed at)
 
 -- why the n bytes from an address on can't be reached, if so
 abbrev pub fault_at : List Region → ℕ → ℕ → Option MemoryFault
-fault_at regions at n = fault_in at (find (holds at n) regions)
+fault_at regions at n = fault_in at (find (holds_bytes at n) regions)
 
 -- why n bytes can't be copied from one address to another, if so: the first reason is that of what is read
 abbrev pub copy_fault : List Region → ℕ → ℕ → ℕ → Option MemoryFault
@@ -51,6 +51,6 @@ abbrev pub IsAscending : List Region → Type 0
 IsAscending regions = IsAscendingBy (λ region. region.start) (λ region. region.size) regions
 
 -- so many items start there or below, and the later ones start above
-pub record IsCount {X : Type 0} (start : X → ℕ) (xs : List X) (at count : ℕ) : Type 0 where
+pub record CountsStarts {X : Type 0} (start : X → ℕ) (xs : List X) (at count : ℕ) : Type 0 where
   pub below : (k : ℕ) (x : X) → k < count → slice_get xs k ≡ Some x → start x ≤ at
   pub above : (k : ℕ) (x : X) → count ≤ k → slice_get xs k ≡ Some x → at < start x

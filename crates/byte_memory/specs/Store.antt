@@ -3,7 +3,7 @@ use Rattle.std.specs.List.{find}
 use Rattle.byte_memory.specs.declared.memory.Region.{Region}
 use Rattle.byte_memory.specs.declared.memory.MemoryFault.{MemoryFault}
 use Rattle.byte_memory.specs.declared.memory.MemoryFault.TheVariants.{Unset, Closed, Range, NoMemory}
-use Rattle.byte_memory.specs.Bits.{number_from, stored, cleared, copied}
+use Rattle.byte_memory.specs.Bits.{number_from, stored, cleared, with_bits_copied}
 use Rattle.byte_memory.specs.Regions.{fault_at, starts, shut}
 
 -- what a memory is, however it is kept: its regions, in the order in which they were opened, and its bits, None where one is unset; bit i of the byte at an address a has the place 8 * a + i
@@ -55,11 +55,11 @@ store_of memory at n value = record memory { bit = stored memory.bit (8 * at) (8
 
 -- the memory after so many bits were copied, from the same bit of both bytes on
 abbrev pub copy_bits_of : Store → ℕ → ℕ → ℕ → ℕ → Store
-copy_bits_of memory from to first bits = record memory { bit = copied memory.bit (8 * from + first) (8 * to + first) bits }
+copy_bits_of memory from to first bits = record memory { bit = with_bits_copied memory.bit (8 * from + first) (8 * to + first) bits }
 
 -- the memory after n bytes were copied
-abbrev pub copy_of : Store → ℕ → ℕ → ℕ → Store
-copy_of memory from to n = record memory { bit = copied memory.bit (8 * from) (8 * to) (8 * n) }
+abbrev pub copied_store : Store → ℕ → ℕ → ℕ → Store
+copied_store memory from to n = record memory { bit = with_bits_copied memory.bit (8 * from) (8 * to) (8 * n) }
 
 -- an address at which a new region of this size may be opened: each earlier region ends before it, and no bit from it on is set
 pub record IsRoom (memory : Store) (at size : ℕ) : Type 0 where

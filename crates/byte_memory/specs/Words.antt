@@ -1,7 +1,7 @@
 use Rattle.std.specs.Prelude.{ℕ, ◌-◌, ◌*◌, ◌/◌, ◌%◌, Bool, if◌then◌else◌, Option, Some, None, List, slice_get}
 use Rattle.byte_memory.specs.declared.cells.Cell.{Cell}
 use Rattle.byte_memory.specs.declared.cells.Word.{Word}
-use Rattle.byte_memory.specs.Bits.{has_bit, is_among}
+use Rattle.byte_memory.specs.Bits.{has_bit, is_among_places}
 
 -- a bit of a value, None where the mask of set bits lacks it
 abbrev pub masked : ℕ → ℕ → ℕ → Option Bool
@@ -22,4 +22,4 @@ bits_in cells place = cell_bit (slice_get cells (place / 8)) (place % 8)
 
 -- the bits after those of n cells, from a cell on, became those of a word
 abbrev pub with_word : (ℕ → Option Bool) → ℕ → ℕ → Word → ℕ → Option Bool
-with_word bit at n word place = if is_among (8 * at) (8 * n) place then word_bit word (place - 8 * at) else bit place
+with_word bit at n word place = if is_among_places (8 * at) (8 * n) place then word_bit word (place - 8 * at) else bit place

@@ -1,7 +1,7 @@
 //! Cells, one for each address, and the bits in them.
 
 ghost use Rattle.std.specs.Prelude.{◌≡◌, ℕ, ◌+◌, ◌-◌, ◌*◌, ◌<◌, ◌≤◌, ◌^◌, length, slice_get, Some, if◌then◌else◌, IfSome};
-ghost use Rattle.byte_memory.specs.Bits.{has_bit, number_from, cleared, is_among};
+ghost use Rattle.byte_memory.specs.Bits.{has_bit, number_from, cleared, is_among_places};
 ghost use Rattle.byte_memory.specs.Words.{word_bit, bits_in, with_word};
 
 use byteorder::{ByteOrder, LittleEndian};
@@ -34,7 +34,7 @@ pub fn all_set(value: u64) -> Word
 fn replaced(word: u64, first: u8, bits: u8, from: u64) -> u64
     requires some { 0 < bits }
     requires word { first + bits ≤ 64 }
-    ensures { (place : ℕ) → place < 64 → has_bit result place ≡ (if is_among first bits place then has_bit from (place - first) else has_bit word place) }
+    ensures { (place : ℕ) → place < 64 → has_bit result place ≡ (if is_among_places first bits place then has_bit from (place - first) else has_bit word place) }
 {
     let mask = u64::MAX >> (64 - bits);
     (word & !(mask << first)) | ((from & mask) << first)
@@ -44,7 +44,7 @@ fn replaced(word: u64, first: u8, bits: u8, from: u64) -> u64
 pub fn with_bits(word: Word, first: u8, bits: u8, from: Word) -> Word
     requires some { 0 < bits }
     requires word { first + bits ≤ 64 }
-    ensures { (place : ℕ) → place < 64 → word_bit result place ≡ (if is_among first bits place then word_bit from (place - first) else word_bit word place) }
+    ensures { (place : ℕ) → place < 64 → word_bit result place ≡ (if is_among_places first bits place then word_bit from (place - first) else word_bit word place) }
 {
     Word {
         value: replaced(word.value, first, bits, from.value),

@@ -4,7 +4,7 @@ ghost use Rattle.std.specs.Prelude.{◌≡◌, ◌+◌, ◌*◌, ◌/◌, ◌<�
 ghost use Rattle.byte_memory.specs.Bits.{AreOneOrApart};
 ghost use Rattle.byte_memory.specs.Regions.{fault_at, close_fault, copy_fault, total_of, rounded, IsAscending};
 ghost use Rattle.byte_memory.specs.Store.{Store, IsRoom, open_of, byte_at, byte_span, set_of};
-ghost use Rattle.byte_memory.specs.Store.{load_of, load_bits_of, store_of, store_bits_of, copy_of, copy_bits_of, Closes, IsChanged};
+ghost use Rattle.byte_memory.specs.Store.{load_of, load_bits_of, store_of, store_bits_of, copied_store, copy_bits_of, Closes, IsChanged};
 
 use thiserror::Error;
 
@@ -166,7 +166,7 @@ pub trait Memory {
         requires word { bytes ≤ 8 }
         requires apart { AreOneOrApart from to bytes }
         ensures { IsChanged result (copy_fault (meaning self.old).regions from to bytes)
-            (meaning self.old) (meaning self.new) (copy_of (meaning self.old) from to bytes) }
+            (meaning self.old) (meaning self.new) (copied_store (meaning self.old) from to bytes) }
     {
         self.copy_bits(from, to, 0, 8 * bytes)
     }

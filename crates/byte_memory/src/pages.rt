@@ -34,7 +34,7 @@ pub struct PageMemory {
 impl PageMemory {
     ghost use Rattle.std.specs.Prelude.{length, List};
     ghost use Rattle.byte_memory.specs.Store.{empty};
-    ghost use Rattle.byte_memory.specs.Pages.{ArePages};
+    ghost use Rattle.byte_memory.specs.Pages.{ArePageNumbers};
 
     /// A memory with no region. It takes no memory.
     pub fn new(alloc: Global) -> PageMemory
@@ -49,7 +49,7 @@ impl PageMemory {
 
     /// How many pages meet an open region.
     pub fn pages(&self) -> u64
-        ensures { (numbers : List ℕ) × ArePages (⟦<PageMemory as Memory>⟧.meaning self.now).regions numbers × (result ≡ length numbers) }
+        ensures { (numbers : List ℕ) × ArePageNumbers (⟦<PageMemory as Memory>⟧.meaning self.now).regions numbers × (result ≡ length numbers) }
     {
         self.pages.len() as u64
     }

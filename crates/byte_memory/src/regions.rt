@@ -3,13 +3,13 @@
 ghost use Rattle.std.specs.Prelude.{◌≡◌, ℕ, ◌+◌, ◌<◌, ◌≤◌, All, length, map, slice_get, nat_le, Some, None, MatchResult, MatchOption};
 ghost use Rattle.std.specs.List.{find};
 ghost use Rattle.byte_memory.specs.declared.memory.Region.{Region};
-ghost use Rattle.byte_memory.specs.Regions.{holds, starts, shut, fault_at, IsAscending, IsCount};
+ghost use Rattle.byte_memory.specs.Regions.{holds_bytes, starts, shut, fault_at, IsAscending, CountsStarts};
 
 use crate::memory::{MemoryFault, Region};
 
 /// Whether the n bytes from an address on all lie in the region.
 fn is_within(region: Region, at: u64, n: u64) -> bool
-    ensures { result ≡ holds at n region }
+    ensures { result ≡ holds_bytes at n region }
 {
     region.start <= at && at - region.start <= region.size && n <= region.size - (at - region.start)
 }
@@ -18,7 +18,7 @@ fn is_within(region: Region, at: u64, n: u64) -> bool
 fn count_up_to(regions: &[Region], at: u64) -> usize
     requires { IsAscending regions.now }
     ensures bound { result ≤ length regions.now }
-    ensures count { IsCount (λ region. region.start) regions.now at result }
+    ensures count { CountsStarts (λ region. region.start) regions.now at result }
 {
     regions.partition_point(
         |region: &Region| -> bool
@@ -31,7 +31,7 @@ fn count_up_to(regions: &[Region], at: u64) -> usize
 fn region_of(regions: &[Region], at: u64, n: u64) -> Option<Region>
     requires ascending { IsAscending regions.now }
     requires some { 0 < n }
-    ensures { result ≡ find (holds at n) regions.now }
+    ensures { result ≡ find (holds_bytes at n) regions.now }
 {
     let count = count_up_to(regions, at);
     if count == 0 {

@@ -3,9 +3,9 @@
 ghost use Rattle.std.specs.Prelude.{◌≡◌, ℕ, ◌+◌, ◌-◌, ◌*◌, ◌/◌, ◌<◌, ◌≤◌, ◌^◌, length, slice_get, nat_le, nat_eq, if◌then◌else◌, is_some, true, false, Some, None, IfOk, IfSome, MatchOption, MatchResult};
 ghost use Rattle.std.specs.List.{find};
 ghost use Rattle.byte_memory.specs.declared.page.Page.{Page};
-ghost use Rattle.byte_memory.specs.Bits.{is_among};
+ghost use Rattle.byte_memory.specs.Bits.{is_among_places};
 ghost use Rattle.byte_memory.specs.Words.{word_bit, with_word};
-ghost use Rattle.byte_memory.specs.Regions.{IsAscendingBy, IsCount};
+ghost use Rattle.byte_memory.specs.Regions.{IsAscendingBy, CountsStarts};
 ghost use Rattle.byte_memory.specs.Pages.{numbered, bits_of, users_of, claimed, released, AreFresh, AreAdded, AreUsedAs};
 
 use crate::cells::Word;
@@ -16,7 +16,7 @@ use std::alloc::{AllocError, Global};
 fn count_up_to(pages: &[Page], number: u64) -> usize
     requires { IsAscendingBy (λ page. page.number) (λ page. 1) pages.now }
     ensures bound { result ≤ length pages.now }
-    ensures count { IsCount (λ page. page.number) pages.now number result }
+    ensures count { CountsStarts (λ page. page.number) pages.now number result }
 {
     pages.partition_point(
         |page: &Page| -> bool
@@ -113,7 +113,7 @@ pub fn read_pages(pages: &[Page], at: u64, n: u8) -> Word
 pub fn read_rest(pages: &[Page], at: u64, n: u8, first: u8, bits: u8) -> Word
     requires ascending { IsAscendingBy (λ page. page.number) (λ page. 1) pages.now }
     requires short { n ≤ 8 }
-    ensures { (place : ℕ) → place < 8 * n → is_among first bits place ≡ false → word_bit result place ≡ bits_of pages.now (8 * at + place) }
+    ensures { (place : ℕ) → place < 8 * n → is_among_places first bits place ≡ false → word_bit result place ≡ bits_of pages.now (8 * at + place) }
 {
     if first == 0 && bits == 8 * n {
         return Word { value: 0, set: 0 };
@@ -262,7 +262,7 @@ pub fn release_pages(pages: &mut Vec<Page>, first: u64, n: u64)
     requires ascending { IsAscendingBy (λ page. page.number) (λ page. 1) pages.old.items }
     requires small { first + n < 2 ^ 63 }
     ensures ascending { IsAscendingBy (λ page. page.number) (λ page. 1) pages.new.items }
-    ensures released { (other : ℕ) → find (numbered other) pages.new.items ≡ (if is_among first n other then released (find (numbered other) pages.old.items) else find (numbered other) pages.old.items) }
+    ensures released { (other : ℕ) → find (numbered other) pages.new.items ≡ (if is_among_places first n other then released (find (numbered other) pages.old.items) else find (numbered other) pages.old.items) }
 {
     for k in 0..n {
         release_page(pages, first + k);

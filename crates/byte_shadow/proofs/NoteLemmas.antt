@@ -6,8 +6,8 @@ use Rattle.byte_code.specs.declared.op.Phase.TheVariants.{Raw}
 use Rattle.byte_shadow.specs.declared.shadow.Note.{Note}
 use Rattle.byte_shadow.specs.declared.shadow.Place.{Place}
 use Rattle.byte_shadow.specs.declared.shadow.Shadow.{Shadow}
-use Rattle.byte_shadow.specs.Shadows.{Notes, put_at, begun, phased, viewed}
-use Rattle.byte_shadow.specs.Meaning.{place, note_of, view_in, phase_of, owner_of, view_of, notes_of}
+use Rattle.byte_shadow.specs.Shadows.{Notes, put_at, noted_raw, phased, viewed}
+use Rattle.byte_shadow.specs.Meaning.{shadow_place, note_of, noted_view, note_phase, note_owner, view_pair, notes_of}
 use Rattle.byte_shadow.proofs.Changed.{one_pair}
 
 notes_alike : (n m : Notes) → ((a c : ℕ) → n.phase a c ≡ m.phase a c) → ((a c : ℕ) → n.owner a c ≡ m.owner a c) → ((a c : ℕ) → n.view a c ≡ m.view a c) → n ≡ m
@@ -33,13 +33,13 @@ unchanged {X} {Y} read old new at class x put same a c = ap read (put.each a c) 
     chosen true e = let pair = one_pair at class a c e in same ∙ (λ i. read (old (pair.0 i) (pair.1 i)))
     chosen false e = refl
 
-pub begun_notes : (old new : Shadow) (at class owner owner_class : ℕ) → IsPut (note_of old) (note_of new) at class (record { owner = owner; owner_class = owner_class; phase = Raw }) → new.views ≡ old.views → notes_of new ≡ begun (notes_of old) at class owner owner_class
+pub begun_notes : (old new : Shadow) (at class owner owner_class : ℕ) → IsPut (note_of old) (note_of new) at class (record { owner = owner; owner_class = owner_class; phase = Raw }) → new.views ≡ old.views → notes_of new ≡ noted_raw (notes_of old) at class owner owner_class
 unfolding notes_of
 begun_notes old new at class owner owner_class put views =
     let note : Note = record { owner = owner; owner_class = owner_class; phase = Raw } in
-    notes_alike (notes_of new) (begun (notes_of old) at class owner owner_class)
-    (changed phase_of (note_of old) (note_of new) at class note put)
-    (changed owner_of (note_of old) (note_of new) at class note put)
+    notes_alike (notes_of new) (noted_raw (notes_of old) at class owner owner_class)
+    (changed note_phase (note_of old) (note_of new) at class note put)
+    (changed note_owner (note_of old) (note_of new) at class note put)
     (λ a c. rw views refl)
 
 pub phased_notes : (old new : Shadow) (at class : ℕ) (before : Note) (phase : Phase) → note_of old at class ≡ Some before → IsPut (note_of old) (note_of new) at class (record before { phase = phase }) → new.views ≡ old.views → notes_of new ≡ phased (notes_of old) at class phase
@@ -47,14 +47,14 @@ unfolding notes_of
 phased_notes old new at class before phase there put views =
     let note : Note = record before { phase = phase } in
     notes_alike (notes_of new) (phased (notes_of old) at class phase)
-    (changed phase_of (note_of old) (note_of new) at class note put)
-    (unchanged owner_of (note_of old) (note_of new) at class note put (ap owner_of (sym there)))
+    (changed note_phase (note_of old) (note_of new) at class note put)
+    (unchanged note_owner (note_of old) (note_of new) at class note put (ap note_owner (sym there)))
     (λ a c. rw views refl)
 
-pub viewed_notes : (old new : Shadow) (owner owner_class at class : ℕ) → IsPut (view_in old) (view_in new) owner owner_class (place at class) → new.notes ≡ old.notes → notes_of new ≡ viewed (notes_of old) owner owner_class at class
+pub viewed_notes : (old new : Shadow) (owner owner_class at class : ℕ) → IsPut (noted_view old) (noted_view new) owner owner_class (shadow_place at class) → new.notes ≡ old.notes → notes_of new ≡ viewed (notes_of old) owner owner_class at class
 unfolding notes_of
 viewed_notes old new owner owner_class at class put notes =
     notes_alike (notes_of new) (viewed (notes_of old) owner owner_class at class)
     (λ a c. rw notes refl)
     (λ a c. rw notes refl)
-    (changed view_of (view_in old) (view_in new) owner owner_class (place at class) put)
+    (changed view_pair (noted_view old) (noted_view new) owner owner_class (shadow_place at class) put)

@@ -19,8 +19,8 @@ abbrev pub put_at : {X : Type 0} → (ℕ → ℕ → X) → ℕ → ℕ → X �
 put_at f at class x a c = if nat_eq at a && nat_eq class c then x else f a c
 
 -- a raw subobject of a complete object is noted
-abbrev pub begun : Notes → ℕ → ℕ → ℕ → ℕ → Notes
-begun n at class owner owner_class = record n { phase = put_at n.phase at class (Some Raw); owner = put_at n.owner at class (Some (owner, owner_class)) }
+abbrev pub noted_raw : Notes → ℕ → ℕ → ℕ → ℕ → Notes
+noted_raw n at class owner owner_class = record n { phase = put_at n.phase at class (Some Raw); owner = put_at n.owner at class (Some (owner, owner_class)) }
 
 -- a subobject is in another phase
 abbrev pub phased : Notes → ℕ → ℕ → Phase → Notes

@@ -1,8 +1,8 @@
 //! The notes, by address and class.
 
 ghost use Rattle.std.specs.Prelude.{◌≡◌, ◌≢◌, None, OnOk, OnErr};
-ghost use Rattle.byte_shadow.specs.Shadows.{no_notes, begun, phased, viewed, is_ready_phase, ready_at};
-ghost use Rattle.byte_shadow.specs.Meaning.{place, note_of, pair_of, phase_of, owner_of, view_of, notes_of};
+ghost use Rattle.byte_shadow.specs.Shadows.{no_notes, noted_raw, phased, viewed, is_ready_phase, ready_at};
+ghost use Rattle.byte_shadow.specs.Meaning.{shadow_place, note_of, place_pair, note_phase, note_owner, view_pair, notes_of};
 
 use byte_code::Phase;
 use foundation::NoMemory;
@@ -26,7 +26,7 @@ pub struct Note {
 }
 
 fn pair_of(place: Place) -> (u64, u32)
-    ensures { result ≡ pair_of place }
+    ensures { result ≡ place_pair place }
 {
     (place.at, place.class)
 }
@@ -78,7 +78,7 @@ impl Shadow {
         owner_class: u32,
     ) -> Result<(), NoMemory>
         requires { (notes_of self.old).phase at class ≡ None }
-        ensures ok { OnOk result (notes_of self.new ≡ begun (notes_of self.old) at class owner owner_class) }
+        ensures ok { OnOk result (notes_of self.new ≡ noted_raw (notes_of self.old) at class owner owner_class) }
         ensures err { OnErr result (notes_of self.new ≡ notes_of self.old) }
     {
         let note = Note {

@@ -12,12 +12,12 @@ use Rattle.cxx_program.specs.declared.program.TypedBody.{TypedBody}
 use Rattle.cxx_program.specs.declared.program.TypedInit.{TypedInit}
 use Rattle.path_plan.specs.Plans.{Form, InFull, AsBase}
 use Rattle.path_model.specs.Rules.{returns_value}
-use Rattle.path_model.specs.States.{bodies_of, init_of}
+use Rattle.path_model.specs.States.{plan_bodies, member_init}
 use Rattle.abi_slots.specs.Views.{is_dynamic_class}
-use Rattle.abi_slots.specs.Listing.{vbase_number, place_in}
+use Rattle.abi_slots.specs.Listing.{vbase_number, first_position}
 use Rattle.abi_slots.specs.Slots.{word_number}
-use Rattle.abi_vtt.specs.Blocks.{run, run_distance, item_number, block_distance, shared_distance}
-use Rattle.abi_vtt.specs.Vtts.{has_virtual, ends_in_primary}
+use Rattle.abi_vtt.specs.Blocks.{table_run, run_distance, item_number, block_distance, shared_distance}
+use Rattle.abi_vtt.specs.Vtts.{has_vtt, ends_in_primary}
 use Rattle.cxx_subobject.specs.Subobjects.{same_subobject}
 use Rattle.byte_code.specs.declared.op.Check.TheVariants.{Never}
 use Rattle.byte_code.specs.declared.op.Finish.TheVariants.{Check as CheckOp}
@@ -32,7 +32,7 @@ use Rattle.byte_code.specs.declared.op.PointSource.TheVariants.{Directory, Vtt}
 use Rattle.byte_code.specs.declared.op.Setting.{Setting}
 use Rattle.byte_code.specs.declared.op.BaseHand.{BaseHand}
 use Rattle.byte_code.specs.declared.op.Opening.{Opening}
-use Rattle.code_ops.specs.Setups.{Setup, places, Routine, MainCode, FunctionCode, PlanCode, body_in, spare_register, free_register}
+use Rattle.code_ops.specs.Setups.{Setup, places, Routine, MainCode, FunctionCode, PlanCode, body_of_routine, spare_register, free_register}
 use Rattle.code_ops.specs.declared.routines.Course.{Course}
 use Rattle.code_ops.specs.declared.routines.Course.TheVariants.{Constructs, Destroys, Deletes}
 use Rattle.code_ops.specs.Operands.{operand_ops, converted_ops, ops_of}
@@ -50,7 +50,7 @@ pub data Place : Type 0 where
   AtEvent : Course → Form → ClassId → List Item → Place
 
 abbrev pub items : Setup → Course → Form → ClassId → List Item
-items x course form c = items_of x.h (bodies_of x.program) course form c
+items x course form c = items_of x.h (plan_bodies x.program) course form c
 
 -- where a plan goes on: at the first statement of its body, or at its next own event
 abbrev pub next_place : Course → Form → ClassId → List Item → Place
@@ -62,10 +62,10 @@ next_place course form c (Inherits b ∷ left) = next_place course form c left
 next_place course form c (Holds way m d n ∷ left) = next_place course form c left
 
 -- where a routine begins
-abbrev pub first_place : Setup → Routine → Place
-first_place x MainCode = AtStatement MainCode 0
-first_place x (FunctionCode f) = AtStatement (FunctionCode f) 0
-first_place x (PlanCode course form c) = AtEvent course form c (items x course form c)
+abbrev pub routine_start : Setup → Routine → Place
+routine_start x MainCode = AtStatement MainCode 0
+routine_start x (FunctionCode f) = AtStatement (FunctionCode f) 0
+routine_start x (PlanCode course form c) = AtEvent course form c (items x course form c)
 
 -- own events of plans
 
@@ -75,14 +75,14 @@ whose_of AsBase = Handed
 
 -- the table of a subobject of class c: where c has no virtual base it is found in c's own group; where it has, in the group of the view to which the VTT leads, by a word, or behind the table to which the first word leads (Itanium C++ ABI 2.6.2)
 abbrev pub run_number : Setup → ClassId → Subobject → ℕ
-run_number x c i = place_in (same_subobject i) (run x.h (places x) c)
+run_number x c i = first_position (same_subobject i) (table_run x.h (places x) c)
 
 abbrev pub is_in_run : Setup → ClassId → Subobject → Bool
-is_in_run x c i = nat_lt (run_number x c i) (length (run x.h (places x) c))
+is_in_run x c i = nat_lt (run_number x c i) (length (table_run x.h (places x) c))
 
 abbrev pub point_source : Setup → Form → ClassId → Subobject → PointSource
 point_source x form c i =
-    if has_virtual x.h c then Vtt (whose_of form) c.0 (if is_in_run x c i then 0 else item_number x.h (places x) c i)
+    if has_vtt x.h c then Vtt (whose_of form) c.0 (if is_in_run x c i then 0 else item_number x.h (places x) c i)
     else Directory c.0
 
 abbrev pub point_distance : Setup → ClassId → Subobject → ℕ
@@ -115,15 +115,15 @@ back_then AsBase rest = ViewBack ∷ rest
 abbrev pub init_then : Setup → Course → Form → ClassId → ℕ → Option TypedInit → List Op → List Op
 init_then x course form c m None rest = rest
 init_then x course form c m (Some init) rest =
-    operand_ops (free_register (body_in x (PlanCode course form c)) 0) init.operand
-    ++ (ops_of (converted_ops x None init.conversion (free_register (body_in x (PlanCode course form c)) 1) (free_register (body_in x (PlanCode course form c)) 0))
-    ++ (store_op (leaf_width x c m) (free_register (body_in x (PlanCode course form c)) 1) 0 ((places x).member c m) ∷ rest))
+    operand_ops (free_register (body_of_routine x (PlanCode course form c)) 0) init.operand
+    ++ (ops_of (converted_ops x None init.conversion (free_register (body_of_routine x (PlanCode course form c)) 1) (free_register (body_of_routine x (PlanCode course form c)) 0))
+    ++ (store_op (leaf_width x c m) (free_register (body_of_routine x (PlanCode course form c)) 1) 0 ((places x).member c m) ∷ rest))
 
 -- the ops of an own event
 abbrev pub event_then : Setup → Course → Form → ClassId → Kind → List Op → List Op
 event_then x course form c AtBegin rest = Begin c.0 (whose_of form) ∷ SetPhase c.0 InBases ∷ SetView c.0 (whose_of form) ∷ rest
 event_then x course form c AtReady rest = pointers_then x form c (SetPhase c.0 ReadyBuilding ∷ rest)
-event_then x course form c (AtInit m) rest = init_then x course form c m (init_of x.program c m) rest
+event_then x course form c (AtInit m) rest = init_then x course form c m (member_init x.program c m) rest
 event_then x course form c AtBody rest = rest
 event_then x course form c AtDone rest = SetPhase c.0 Complete ∷ back_then form (Trace (Built c.0) ∷ rest)
 event_then x course form c AtEnding rest = pointers_then x form c (SetPhase c.0 ReadyEnding ∷ SetView c.0 (whose_of form) ∷ Trace (Ending c.0) ∷ rest)
@@ -142,7 +142,7 @@ base_course Deletes = Destroys
 
 -- what the frame of a base is handed: a sub-VTT where its class has a virtual base
 abbrev pub hand_to : Setup → Form → ClassId → ClassId → ℕ → BaseHand
-hand_to x form c b distance = record { owner = whose_of form; class = c.0; vtt = if has_virtual x.h b then Some distance else None }
+hand_to x form c b distance = record { owner = whose_of form; class = c.0; vtt = if has_vtt x.h b then Some distance else None }
 
 -- how the frames of an item are opened
 abbrev pub opening_of : Setup → (Routine → ℕ) → Course → Form → ClassId → Item → Opening
@@ -168,7 +168,7 @@ plan_return Deletes = ReturnOp None None
 -- the end of a block of a plan, by what is left behind its own event
 abbrev pub plan_tail : Setup → (Place → ℕ) → Course → Form → ClassId → List Item → List Op
 plan_tail x at course form c [] = plan_return course ∷ []
-plan_tail x at course form c (i ∷ left) = Jump (at (next_place course form c (i ∷ left))) ∷ openings_then x (λ r. at (first_place x r)) course form c (i ∷ left) []
+plan_tail x at course form c (i ∷ left) = Jump (at (next_place course form c (i ∷ left))) ∷ openings_then x (λ r. at (routine_start x r)) course form c (i ∷ left) []
 
 abbrev pub event_block : Setup → (Place → ℕ) → Course → Form → ClassId → Kind → List Item → List Op
 event_block x at course form c k left = event_then x course form c k (plan_tail x at course form c left)
@@ -192,4 +192,4 @@ abbrev pub statement_ops : Setup → (Place → ℕ) → Routine → TypedBody �
 statement_ops x at r body n statement =
     kind_front (block_in x body) (spare_register (Some body)) statement.kind
     ++ (check_ops (kind_used (block_in x body) statement.kind)
-    ++ kind_ops (block_in x body) (λ routine. at (first_place x routine)) r (λ m. at (AtStatement r m)) n statement.next statement.kind)
+    ++ kind_ops (block_in x body) (λ routine. at (routine_start x routine)) r (λ m. at (AtStatement r m)) n statement.next statement.kind)

@@ -9,7 +9,7 @@ use Rattle.cxx_hierarchy.specs.declared.records.FieldType.TheVariants.{Value, Ob
 use Rattle.cxx_hierarchy.specs.Classes.{Classes, bases_of, members_of}
 use Rattle.cxx_hierarchy.specs.Declarations.{elements_of}
 use Rattle.path_plan.specs.Places.{ObjectPart, base_part, shared_part, element}
-use Rattle.path_plan.specs.Phases.{Event, Begin, Ready, Init, Body, Done, Ending, Bases, End}
+use Rattle.path_plan.specs.Phases.{PartEvent, Begin, Ready, Init, Body, Done, Ending, Bases, End}
 use Rattle.path_plan.specs.Plans.{Bodies, Form, InFull, AsBase, virtual_order, upto, backwards}
 use Rattle.path_plan.specs.Pieces.{Piece, Own, Sub}
 use Rattle.code_ops.specs.declared.routines.Course.{Course}
@@ -27,7 +27,7 @@ pub data Item : Type 0 where
   Holds : (way : Way) (member : ℕ) (class : ClassId) (count : ℕ) → Item
 
 -- the event that happens to a part
-abbrev pub event_of : Kind → ObjectPart → Event
+abbrev pub event_of : Kind → ObjectPart → PartEvent
 event_of AtBegin p = Begin p
 event_of AtReady p = Ready p
 event_of (AtInit m) p = Init p m
@@ -54,9 +54,9 @@ pieces_of p (Shares v) = Sub AsBase v (shared_part p v) ∷ []
 pieces_of p (Inherits b) = Sub AsBase b.class (base_part p b) ∷ []
 pieces_of p (Holds way m d n) = map (λ i. Sub InFull d (element p m i d)) (indices way n)
 
-abbrev pub shared_items : Form → List ClassId → List Item
-shared_items AsBase order = []
-shared_items InFull order = map Shares order
+abbrev pub shared_base_items : Form → List ClassId → List Item
+shared_base_items AsBase order = []
+shared_base_items InFull order = map Shares order
 
 abbrev pub base_items : Base ClassId → List Item
 base_items b = if b.is_virtual then [] else Inherits b ∷ []
@@ -80,7 +80,7 @@ member_items is_set way m (Some member) = typed_items is_set way m (elements_of 
 -- the construction of a class, point by point
 abbrev pub built_items : Classes → Bodies → Form → ClassId → List Item
 built_items h bodies form c =
-    Does AtBegin ∷ (shared_items form (virtual_order h c)
+    Does AtBegin ∷ (shared_base_items form (virtual_order h c)
     ++ (flat_map base_items (bases_of h c)
     ++ (Does AtReady ∷ (flat_map (λ m. member_items (bodies.initializer c m) Forwards m (slice_get (members_of h c) m)) (upto (length (members_of h c)))
     ++ (body_items (bodies.constructor c) ++ Does AtDone ∷ [])))))
@@ -91,7 +91,7 @@ ended_items h bodies form c =
     Does AtEnding ∷ (body_items (bodies.destructor c)
     ++ (flat_map (λ m. member_items false Backwards m (slice_get (members_of h c) m)) (backwards (upto (length (members_of h c))))
     ++ (Does AtBases ∷ (flat_map base_items (backwards (bases_of h c))
-    ++ (shared_items form (backwards (virtual_order h c)) ++ Does AtEnd ∷ [])))))
+    ++ (shared_base_items form (backwards (virtual_order h c)) ++ Does AtEnd ∷ [])))))
 
 abbrev pub items_of : Classes → Bodies → Course → Form → ClassId → List Item
 items_of h bodies Constructs form c = built_items h bodies form c

@@ -12,14 +12,14 @@ use Rattle.cxx_program.specs.declared.program.TypedBody.{TypedBody}
 use Rattle.path_plan.specs.Plans.{Form}
 use Rattle.abi_slots.specs.declared.code_numbers.BlockKind.{BlockKind}
 use Rattle.abi_slots.specs.declared.code_numbers.CodeRow.{CodeRow}
-use Rattle.abi_slots.specs.CodeRows.{code_of, AreDistinct}
+use Rattle.abi_slots.specs.CodeRows.{code_of, AreDistinctRows}
 use Rattle.byte_code.specs.declared.code.Block.{Block}
 use Rattle.byte_code.specs.declared.code.Code.{Code}
-use Rattle.code_ops.specs.Routines.{has_body, IsRoutine, function_of, kind_of}
-use Rattle.code_ops.specs.Setups.{Setup, Routine, MainCode, PlanCode, body_in, locals_in}
+use Rattle.code_ops.specs.Routines.{has_body, IsRoutine, function_of_routine, routine_kind}
+use Rattle.code_ops.specs.Setups.{Setup, Routine, MainCode, PlanCode, body_of_routine, locals_in}
 use Rattle.code_ops.specs.declared.routines.Course.{Course}
 use Rattle.code_blocks.specs.Items.{Kind, AtBegin, AtReady, AtInit, AtBody, AtDone, AtEnding, AtBases, AtEnd, Item, Does, Shares, Inherits, Holds}
-use Rattle.code_blocks.specs.Blocks.{Place, AtStatement, AtEvent, items, first_place, statement_ops, closing_ops, event_block}
+use Rattle.code_blocks.specs.Blocks.{Place, AtStatement, AtEvent, items, routine_start, statement_ops, closing_ops, event_block}
 
 abbrev pub statement_block : Setup → (Place → ℕ) → Routine → TypedBody → ℕ → Option TypedStatement → Option Block
 statement_block x at r body n None = if nat_eq n (length body.statements) then Some (record { ops = closing_ops x at r; line = body.close_line }) else None
@@ -30,26 +30,26 @@ body_block x at r n None = None
 body_block x at r n (Some body) = statement_block x at r body n (slice_get body.statements n)
 
 -- the body of a plan has blocks of its own, and so has the end of a constructor's
-abbrev pub is_own : Bool → Kind → Bool
-is_own has_body AtBegin = true
-is_own has_body AtReady = true
-is_own has_body (AtInit m) = true
-is_own has_body AtBody = false
-is_own has_body AtDone = not has_body
-is_own has_body AtEnding = true
-is_own has_body AtBases = true
-is_own has_body AtEnd = true
+abbrev pub has_own_block : Bool → Kind → Bool
+has_own_block has_body AtBegin = true
+has_own_block has_body AtReady = true
+has_own_block has_body (AtInit m) = true
+has_own_block has_body AtBody = false
+has_own_block has_body AtDone = not has_body
+has_own_block has_body AtEnding = true
+has_own_block has_body AtBases = true
+has_own_block has_body AtEnd = true
 
 abbrev pub own_block : Setup → (Place → ℕ) → Course → Form → ClassId → List Item → Option Block
 own_block x at course form c [] = None
-own_block x at course form c (Does k ∷ left) = if is_own (has_body (body_in x (PlanCode course form c))) k then Some (record { ops = event_block x at course form c k left; line = 0 }) else None
+own_block x at course form c (Does k ∷ left) = if has_own_block (has_body (body_of_routine x (PlanCode course form c))) k then Some (record { ops = event_block x at course form c k left; line = 0 }) else None
 own_block x at course form c (Shares v ∷ left) = None
 own_block x at course form c (Inherits b ∷ left) = None
 own_block x at course form c (Holds way m d n ∷ left) = None
 
 -- the block of a place, if it has one; `at` gives the number of each
 abbrev pub block_of : Setup → (Place → ℕ) → Place → Option Block
-block_of x at (AtStatement r n) = body_block x at r n (body_in x r)
+block_of x at (AtStatement r n) = body_block x at r n (body_of_routine x r)
 block_of x at (AtEvent course form c left) = own_block x at course form c left
 
 -- what is left of a plan is an end of it
@@ -58,9 +58,9 @@ pub record IsEnd (x : Setup) (course : Course) (form : Form) (c : ClassId) (left
   pub is : before ++ left ≡ items x course form c
 
 -- the place is one of a routine of the program
-abbrev pub IsPlace : Setup → Place → Type 0
-IsPlace x (AtStatement r n) = IsRoutine x r
-IsPlace x (AtEvent course form c left) = IsRoutine x (PlanCode course form c) × IsEnd x course form c left
+abbrev pub IsCodePlace : Setup → Place → Type 0
+IsCodePlace x (AtStatement r n) = IsRoutine x r
+IsCodePlace x (AtEvent course form c left) = IsRoutine x (PlanCode course form c) × IsEnd x course form c left
 
 -- registers
 
@@ -84,22 +84,22 @@ registers_for body arguments = locals_in body + 2 + (7 + 2 * arguments)
 
 -- a frame has registers for each routine, and for each of its statements
 pub record HasRegisters (x : Setup) (registers : ℕ) : Type 0 where
-  pub routine : (r : Routine) → IsRoutine x r → registers_for (body_in x r) 0 ≤ registers
-  pub statement : (r : Routine) (body : TypedBody) (n : ℕ) (s : TypedStatement) → IsRoutine x r → body_in x r ≡ Some body → slice_get body.statements n ≡ Some s → registers_for (Some body) (argument_count s.kind) ≤ registers
+  pub routine : (r : Routine) → IsRoutine x r → registers_for (body_of_routine x r) 0 ≤ registers
+  pub statement : (r : Routine) (body : TypedBody) (n : ℕ) (s : TypedStatement) → IsRoutine x r → body_of_routine x r ≡ Some body → slice_get body.statements n ≡ Some s → registers_for (Some body) (argument_count s.kind) ≤ registers
 
 -- where `main` begins, or 0 without it
-abbrev pub start_of : (Place → ℕ) → Option TypedBody → ℕ
-start_of at None = 0
-start_of at (Some body) = at (AtStatement MainCode 0)
+abbrev pub main_start : (Place → ℕ) → Option TypedBody → ℕ
+main_start at None = 0
+main_start at (Some body) = at (AtStatement MainCode 0)
 
 -- the code has the block of each place at its number, and the numbers of the functions are those of the places at which they begin; no two functions begin at one block
 pub record IsLowered (x : Setup) (code : Code) (numbers : List CodeRow) : Type 0 where
   pub at : Place → ℕ
-  pub each : (p : Place) (b : Block) → IsPlace x p → block_of x at p ≡ Some b → slice_get code.blocks (at p) ≡ Some b
-  pub start : code.start ≡ start_of at x.program.main
+  pub each : (p : Place) (b : Block) → IsCodePlace x p → block_of x at p ≡ Some b → slice_get code.blocks (at p) ≡ Some b
+  pub start : code.start ≡ main_start at x.program.main
   pub globals : code.globals ≡ length x.program.globals
   pub registers : HasRegisters x code.registers
-  pub numbered : (r : Routine) (f : FunctionId) → IsRoutine x r → function_of x r ≡ Some f → code_of numbers f (kind_of r) ≡ Some (at (first_place x r))
-  pub known : (f : FunctionId) (kind : BlockKind) (n : ℕ) → code_of numbers f kind ≡ Some n → (r : Routine) × IsRoutine x r × (function_of x r ≡ Some f) × (kind_of r ≡ kind)
-  pub rows : AreDistinct numbers
-  pub apart : (r q : Routine) → IsRoutine x r → IsRoutine x q → at (first_place x r) ≡ at (first_place x q) → r ≡ q
+  pub numbered : (r : Routine) (f : FunctionId) → IsRoutine x r → function_of_routine x r ≡ Some f → code_of numbers f (routine_kind r) ≡ Some (at (routine_start x r))
+  pub known : (f : FunctionId) (kind : BlockKind) (n : ℕ) → code_of numbers f kind ≡ Some n → (r : Routine) × IsRoutine x r × (function_of_routine x r ≡ Some f) × (routine_kind r ≡ kind)
+  pub rows : AreDistinctRows numbers
+  pub apart : (r q : Routine) → IsRoutine x r → IsRoutine x q → at (routine_start x r) ≡ at (routine_start x q) → r ≡ q

@@ -4,9 +4,9 @@ ghost use Rattle.std.specs.Prelude.{◌≡◌, ◌<◌, ◌≤◌, ◌+◌, ◌�
 ghost use Rattle.std.specs.List.{flat_map};
 ghost use Rattle.cxx_hierarchy.specs.Classes.{bases_of, members_of};
 ghost use Rattle.path_plan.specs.Plans.{InFull, backwards, upto, virtual_order};
-ghost use Rattle.path_model.specs.States.{bodies_of, init_of, is_init};
-ghost use Rattle.code_blocks.specs.Items.{Backwards as BackwardsWay, Forwards as ForwardsWay, shared_items, base_items, body_items, member_items, built_items, ended_items, items_of};
-ghost use Rattle.code_blocks.specs.invariants.ItemCodes.{form_of, item_codes, in_turn, from_the_end, ArePlans};
+ghost use Rattle.path_model.specs.States.{plan_bodies, member_init, is_init};
+ghost use Rattle.code_blocks.specs.Items.{Backwards as BackwardsWay, Forwards as ForwardsWay, shared_base_items, base_items, body_items, member_items, built_items, ended_items, items_of};
+ghost use Rattle.code_blocks.specs.invariants.ItemCodes.{coded_form, item_codes, items_in_turn, from_the_end, ArePlans};
 
 use code_ops::routines::Course;
 use cxx_hierarchy::{Base, ClassId, FieldType, Hierarchy, Member};
@@ -68,7 +68,7 @@ pub struct Plans<'a> {
 
 /// Puts the virtual bases of a complete object behind other items.
 fn push_shared(list: &mut ItemList, form: Form, order: &[ClassId]) -> Result<(), NoMemory>
-    ensures { OnOk result (list.new ≡ list.old ++ item_codes (shared_items (form_of form) order.now)) }
+    ensures { OnOk result (list.new ≡ list.old ++ item_codes (shared_base_items (coded_form form) order.now)) }
 {
     match form {
         Form::AsBase => {}
@@ -79,7 +79,7 @@ fn push_shared(list: &mut ItemList, form: Form, order: &[ClassId]) -> Result<(),
 
 /// Puts virtual bases behind other items.
 fn push_each(list: &mut ItemList, order: &[ClassId]) -> Result<(), NoMemory>
-    ensures { OnOk result (list.new ≡ list.old ++ item_codes (shared_items InFull order.now)) }
+    ensures { OnOk result (list.new ≡ list.old ++ item_codes (shared_base_items InFull order.now)) }
 {
     for v in order {
         list.push(Item::Shares(*v))?;
@@ -89,7 +89,7 @@ fn push_each(list: &mut ItemList, order: &[ClassId]) -> Result<(), NoMemory>
 
 /// Puts virtual bases behind other items, the last one first.
 fn push_each_back(list: &mut ItemList, order: &[ClassId]) -> Result<(), NoMemory>
-    ensures { OnOk result (list.new ≡ list.old ++ item_codes (shared_items InFull (backwards order.now))) }
+    ensures { OnOk result (list.new ≡ list.old ++ item_codes (shared_base_items InFull (backwards order.now))) }
 {
     match order {
         [] => {}
@@ -103,7 +103,7 @@ fn push_each_back(list: &mut ItemList, order: &[ClassId]) -> Result<(), NoMemory
 
 /// Puts the virtual bases of a complete object behind other items, the last one first.
 fn push_shared_back(list: &mut ItemList, form: Form, order: &[ClassId]) -> Result<(), NoMemory>
-    ensures { OnOk result (list.new ≡ list.old ++ item_codes (shared_items (form_of form) (backwards order.now))) }
+    ensures { OnOk result (list.new ≡ list.old ++ item_codes (shared_base_items (coded_form form) (backwards order.now))) }
 {
     match form {
         Form::AsBase => {}
@@ -181,7 +181,7 @@ fn push_members(
 ) -> Result<(), NoMemory>
     requires plans { ArePlans plans.now.h.now plans.now.program.now plans.now.index.now plans.now.orders.now }
     requires few { m + length members.now ≤ 1024 }
-    ensures { OnOk result (list.new ≡ list.old ++ item_codes (in_turn (λ k. member_items (is_init (init_of plans.now.program.now c k)) ForwardsWay k) m members.now)) }
+    ensures { OnOk result (list.new ≡ list.old ++ item_codes (items_in_turn (λ k. member_items (is_init (member_init plans.now.program.now c k)) ForwardsWay k) m members.now)) }
 {
     match members {
         [] => {}
@@ -228,7 +228,7 @@ impl Plans<'_> {
     fn push_all_members(&self, list: &mut ItemList, c: ClassId) -> Result<(), NoMemory>
         requires plans { ArePlans self.now.h.now self.now.program.now self.now.index.now self.now.orders.now }
         requires known { c.0 < length self.now.h.now }
-        ensures { OnOk result (list.new ≡ list.old ++ item_codes (flat_map (λ m. member_items (is_init (init_of self.now.program.now c m)) ForwardsWay m (slice_get (members_of self.now.h.now c) m)) (upto (length (members_of self.now.h.now c))))) }
+        ensures { OnOk result (list.new ≡ list.old ++ item_codes (flat_map (λ m. member_items (is_init (member_init self.now.program.now c m)) ForwardsWay m (slice_get (members_of self.now.h.now c) m)) (upto (length (members_of self.now.h.now c))))) }
     {
         push_members(list, self, c, 0, self.h.class(c).members.as_slice())?;
         Ok(())
@@ -248,7 +248,7 @@ impl Plans<'_> {
     fn push_all_bases(&self, list: &mut ItemList, form: Form, c: ClassId) -> Result<(), NoMemory>
         requires plans { ArePlans self.now.h.now self.now.program.now self.now.index.now self.now.orders.now }
         requires known { c.0 < length self.now.h.now }
-        ensures { OnOk result (list.new ≡ list.old ++ item_codes (shared_items (form_of form) (virtual_order self.now.h.now c) ++ flat_map base_items (bases_of self.now.h.now c))) }
+        ensures { OnOk result (list.new ≡ list.old ++ item_codes (shared_base_items (coded_form form) (virtual_order self.now.h.now c) ++ flat_map base_items (bases_of self.now.h.now c))) }
     {
         push_shared(list, form, self.orders.virtual_bases(c))?;
         push_bases(list, self.h.class(c).bases.as_slice())?;
@@ -259,7 +259,7 @@ impl Plans<'_> {
     fn push_bases_end(&self, list: &mut ItemList, form: Form, c: ClassId) -> Result<(), NoMemory>
         requires plans { ArePlans self.now.h.now self.now.program.now self.now.index.now self.now.orders.now }
         requires known { c.0 < length self.now.h.now }
-        ensures { OnOk result (list.new ≡ list.old ++ item_codes (flat_map base_items (backwards (bases_of self.now.h.now c)) ++ shared_items (form_of form) (backwards (virtual_order self.now.h.now c)))) }
+        ensures { OnOk result (list.new ≡ list.old ++ item_codes (flat_map base_items (backwards (bases_of self.now.h.now c)) ++ shared_base_items (coded_form form) (backwards (virtual_order self.now.h.now c)))) }
     {
         push_bases_back(list, self.h.class(c).bases.as_slice())?;
         push_shared_back(list, form, self.orders.virtual_bases(c))?;
@@ -270,7 +270,7 @@ impl Plans<'_> {
     fn built(&self, form: Form, c: ClassId) -> Result<ItemList, NoMemory>
         requires plans { ArePlans self.now.h.now self.now.program.now self.now.index.now self.now.orders.now }
         requires known { c.0 < length self.now.h.now }
-        ensures { IfOk result (λ list. list ≡ item_codes (built_items self.now.h.now (bodies_of self.now.program.now) (form_of form) c)) }
+        ensures { IfOk result (λ list. list ≡ item_codes (built_items self.now.h.now (plan_bodies self.now.program.now) (coded_form form) c)) }
     {
         let mut list = Sequence::new(self.alloc);
         list.push(Item::Does(Kind::AtBegin))?;
@@ -286,7 +286,7 @@ impl Plans<'_> {
     fn ended(&self, form: Form, c: ClassId) -> Result<ItemList, NoMemory>
         requires plans { ArePlans self.now.h.now self.now.program.now self.now.index.now self.now.orders.now }
         requires known { c.0 < length self.now.h.now }
-        ensures { IfOk result (λ list. list ≡ item_codes (ended_items self.now.h.now (bodies_of self.now.program.now) (form_of form) c)) }
+        ensures { IfOk result (λ list. list ≡ item_codes (ended_items self.now.h.now (plan_bodies self.now.program.now) (coded_form form) c)) }
     {
         let mut list = Sequence::new(self.alloc);
         list.push(Item::Does(Kind::AtEnding))?;
@@ -304,7 +304,7 @@ impl Plans<'_> {
     pub fn items(&self, course: Course, form: Form, c: ClassId) -> Result<ItemList, NoMemory>
         requires plans { ArePlans self.now.h.now self.now.program.now self.now.index.now self.now.orders.now }
         requires known { c.0 < length self.now.h.now }
-        ensures { IfOk result (λ list. list ≡ item_codes (items_of self.now.h.now (bodies_of self.now.program.now) course (form_of form) c)) }
+        ensures { IfOk result (λ list. list ≡ item_codes (items_of self.now.h.now (plan_bodies self.now.program.now) course (coded_form form) c)) }
     {
         match course {
             Course::Constructs => self.built(form, c),

@@ -29,8 +29,8 @@ abbrev pub free : Block → ℕ → ℕ
 free b n = b.free + n
 
 -- the class that an operand points to; what no typed program has is the first class
-abbrev pub class_at : Block → TypedOperand → ClassId
-class_at b operand = class_or_first (operand_class b.scope operand)
+abbrev pub pointed_class : Block → TypedOperand → ClassId
+pointed_class b operand = class_or_first (operand_class b.scope operand)
 
 -- arguments: a value that is read into one register, and converted into another
 

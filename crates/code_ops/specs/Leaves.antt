@@ -16,13 +16,13 @@ use Rattle.code_ops.specs.Setups.{Setup, places, value_width}
 use Rattle.code_ops.specs.PlaceOps.{type_or_int, element_type_at}
 
 -- a value fills its bytes; in a bit-field it has so many bits, from a first one of the byte at its place on (Itanium C++ ABI 2.4)
-abbrev pub width_of_leaf : (first : ℕ) → Option ℕ → ValueType ClassId → LeafWidth
-width_of_leaf first None type = InBytes (value_width type)
-width_of_leaf first (Some n) type = InBits first (record { bits = n; signed = (value_width type).signed })
+abbrev pub filled_width : (first : ℕ) → Option ℕ → ValueType ClassId → LeafWidth
+filled_width first None type = InBytes (value_width type)
+filled_width first (Some n) type = InBits first (record { bits = n; signed = (value_width type).signed })
 
 -- how the elements of the member m of class d stand, where they are numbers or pointers
 abbrev pub leaf_width : Setup → ClassId → ℕ → LeafWidth
-leaf_width x d m = width_of_leaf ((places x).first d m) (width_of_member x.h d m) (type_or_int (element_type_at x.h d m))
+leaf_width x d m = filled_width ((places x).first d m) (width_of_member x.h d m) (type_or_int (element_type_at x.h d m))
 
 -- how the leaf stands that a place leads to
 abbrev pub place_leaf : Setup → TypedPlace → LeafWidth

@@ -14,7 +14,7 @@ use Rattle.cxx_program.specs.declared.statement.PassedMember.{PassedMember}
 use Rattle.cxx_program.specs.declared.statement.TypedPlace.{TypedPlace}
 use Rattle.cxx_program.specs.Typed.{Scope}
 use Rattle.path_model.specs.Uses.{is_shared}
-use Rattle.path_model.specs.Order.{first_base}
+use Rattle.path_model.specs.Order.{first_name_base}
 use Rattle.path_model.specs.Outs.{class_or_first}
 use Rattle.abi_sound.specs.Locations.{element_place}
 use Rattle.byte_code.specs.declared.op.Finish.{Finish}
@@ -54,20 +54,20 @@ passed_used x c offset (p ∷ passed) r =
 abbrev pub place_used : Setup → Scope → TypedPlace → ℕ → List Used
 place_used x e place r =
     arrow_used e r place.pointer place.class
-    ++ (views_if (is_shared (first_base place.passed place.base)) (operand_register r place.pointer) 0 place.class ++ passed_used x place.class 0 place.passed (operand_register r place.pointer))
+    ++ (views_if (is_shared (first_name_base place.passed place.base)) (operand_register r place.pointer) 0 place.class ++ passed_used x place.class 0 place.passed (operand_register r place.pointer))
 
 abbrev pub type_or_int : Option (ValueType ClassId) → ValueType ClassId
 type_or_int None = NumberType Int
 type_or_int (Some type) = type
 
 -- the type of the elements of a member, where they are numbers or pointers
-abbrev pub value_in : FieldType ClassId → Option (ValueType ClassId)
-value_in (ValueField type) = Some type
-value_in (Object c) = None
+abbrev pub element_value_type : FieldType ClassId → Option (ValueType ClassId)
+element_value_type (ValueField type) = Some type
+element_value_type (Object c) = None
 
 abbrev pub element_type : Option (Member ClassId) → Option (ValueType ClassId)
 element_type None = None
-element_type (Some member) = value_in member.ty
+element_type (Some member) = element_value_type member.ty
 
 abbrev pub element_type_at : Classes → ClassId → ℕ → Option (ValueType ClassId)
 element_type_at h c m = element_type (slice_get (members_of h c) m)

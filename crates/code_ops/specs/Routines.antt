@@ -12,7 +12,7 @@ use Rattle.abi_slots.specs.declared.code_numbers.CodeRow.{CodeRow}
 use Rattle.abi_slots.specs.CodeRows.{code_of}
 use Rattle.code_ops.specs.declared.routines.Course.{Course}
 use Rattle.code_ops.specs.declared.routines.Course.TheVariants.{Constructs, Destroys, Deletes}
-use Rattle.code_ops.specs.Setups.{Setup, Routine, MainCode, FunctionCode, PlanCode, body_in}
+use Rattle.code_ops.specs.Setups.{Setup, Routine, MainCode, FunctionCode, PlanCode, body_of_routine}
 
 abbrev pub has_body : Option TypedBody → Bool
 has_body None = false
@@ -26,8 +26,8 @@ IsCourse Deletes form = form ≡ InFull
 
 -- the routine is one of the program
 abbrev pub IsRoutine : Setup → Routine → Type 0
-IsRoutine x MainCode = has_body (body_in x MainCode) ≡ true
-IsRoutine x (FunctionCode f) = has_body (body_in x (FunctionCode f)) ≡ true
+IsRoutine x MainCode = has_body (body_of_routine x MainCode) ≡ true
+IsRoutine x (FunctionCode f) = has_body (body_of_routine x (FunctionCode f)) ≡ true
 IsRoutine x (PlanCode course form c) = (c.0 < length x.h) × IsCourse course form
 
 -- numbers of functions: a constructor has the index after its class's destructor
@@ -40,10 +40,10 @@ plan_function h Constructs c = constructor_of h c
 plan_function h Destroys c = destructor_of h c
 plan_function h Deletes c = destructor_of h c
 
-abbrev pub function_of : Setup → Routine → Option FunctionId
-function_of x MainCode = None
-function_of x (FunctionCode f) = Some f
-function_of x (PlanCode course form c) = Some (plan_function x.h course c)
+abbrev pub function_of_routine : Setup → Routine → Option FunctionId
+function_of_routine x MainCode = None
+function_of_routine x (FunctionCode f) = Some f
+function_of_routine x (PlanCode course form c) = Some (plan_function x.h course c)
 
 abbrev pub plan_kind : Course → Form → BlockKind
 plan_kind Constructs InFull = BuildComplete
@@ -52,10 +52,10 @@ plan_kind Destroys InFull = EndComplete
 plan_kind Destroys AsBase = EndBase
 plan_kind Deletes form = EndDeleting
 
-abbrev pub kind_of : Routine → BlockKind
-kind_of MainCode = Plain
-kind_of (FunctionCode f) = Plain
-kind_of (PlanCode course form c) = plan_kind course form
+abbrev pub routine_kind : Routine → BlockKind
+routine_kind MainCode = Plain
+routine_kind (FunctionCode f) = Plain
+routine_kind (PlanCode course form c) = plan_kind course form
 
 -- the block at which a function's code begins, by the numbers of all code; what has no number begins at the first block
 abbrev pub number_or_first : Option ℕ → ℕ
@@ -68,4 +68,4 @@ start_of_function numbers kind (Some f) = number_or_first (code_of numbers f kin
 
 -- the block at which a routine begins: `main` begins at the first one
 abbrev pub start_by : Setup → List CodeRow → Routine → ℕ
-start_by x numbers r = start_of_function numbers (kind_of r) (function_of x r)
+start_by x numbers r = start_of_function numbers (routine_kind r) (function_of_routine x r)

@@ -14,7 +14,7 @@ use Rattle.cxx_program.specs.declared.program.TypedProgram.{TypedProgram}
 use Rattle.path_plan.specs.Plans.{Form}
 use Rattle.code_ops.specs.declared.routines.Course.{Course}
 use Rattle.code_ops.specs.declared.routines.Course.TheVariants.{Constructs, Destroys, Deletes}
-use Rattle.path_model.specs.States.{body_of}
+use Rattle.path_model.specs.States.{owned_body}
 use Rattle.abi_sound.specs.Places.{Places, places_of}
 use Rattle.abi_sound.specs.declared.class_layout.ClassLayout.{ClassLayout}
 use Rattle.byte_code.specs.declared.width.Width.{Width}
@@ -46,14 +46,14 @@ plan_owner Constructs c = Constructor c
 plan_owner Destroys c = Destructor c
 plan_owner Deletes c = Destructor c
 
-abbrev pub owner_of : Routine → Owner
-owner_of MainCode = Main
-owner_of (FunctionCode f) = Function f
-owner_of (PlanCode course form c) = plan_owner course c
+abbrev pub routine_owner : Routine → Owner
+routine_owner MainCode = Main
+routine_owner (FunctionCode f) = Function f
+routine_owner (PlanCode course form c) = plan_owner course c
 
 -- the body of a routine, if one is declared
-abbrev pub body_in : Setup → Routine → Option TypedBody
-body_in x r = body_of x.program (owner_of r)
+abbrev pub body_of_routine : Setup → Routine → Option TypedBody
+body_of_routine x r = owned_body x.program (routine_owner r)
 
 -- registers: `this` is the first, then come the locals, one that nothing writes, and those that are free for the ops of a block
 

@@ -5,7 +5,7 @@ ghost use Rattle.cxx_hierarchy.specs.Classes.{width_of_member};
 ghost use Rattle.cxx_hierarchy.specs.Hierarchies.{IsHierarchy};
 ghost use Rattle.abi_sound.specs.Places.{places_of};
 ghost use Rattle.code_ops.specs.PlaceOps.{type_or_int, element_type_at};
-ghost use Rattle.code_ops.specs.Leaves.{width_of_leaf, leaf_width, place_leaf, set_check, load_op, store_op, copy_op};
+ghost use Rattle.code_ops.specs.Leaves.{filled_width, leaf_width, place_leaf, set_check, load_op, store_op, copy_op};
 ghost use Rattle.code_ops.specs.invariants.Sites.{site_setup, IsLaidSite};
 
 use crate::operands::class_or_first;
@@ -29,7 +29,7 @@ fn width_of_member(h: &Hierarchy, d: ClassId, m: u32) -> Option<u32>
 pub fn leaf_width<L: SoundLayout>(layout: &L, h: &Hierarchy, d: ClassId, m: u32) -> LeafWidth
     requires laid { L.lays_out layout.now h.now }
     requires keeps { IsHierarchy h.now }
-    ensures { result ≡ width_of_leaf ((places_of h.now (L.rows layout.now)).first d m) (width_of_member h.now d m) (type_or_int (element_type_at h.now d m)) }
+    ensures { result ≡ filled_width ((places_of h.now (L.rows layout.now)).first d m) (width_of_member h.now d m) (type_or_int (element_type_at h.now d m)) }
 {
     let width = value_width(element_type(h, d, m));
     match width_of_member(h, d, m) {

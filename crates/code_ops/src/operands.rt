@@ -9,7 +9,7 @@ ghost use Rattle.byte_code.specs.Numbers.{word_of};
 ghost use Rattle.path_model.specs.Outs.{class_or_first};
 ghost use Rattle.code_ops.specs.Setups.{local_register};
 ghost use Rattle.code_ops.specs.Operands.{operand_ops, operand_register, base_ops, converted_ops, assign_op, ops_of};
-ghost use Rattle.code_ops.specs.invariants.Fits.{FitsVariable, FitsOperand, FitsBase, FitsConversion, most_locals};
+ghost use Rattle.code_ops.specs.invariants.Fits.{FitsVariable, FitsOperand, FitsBase, FitsConversion, most_local_registers};
 ghost use Rattle.code_ops.specs.invariants.Sites.{site_setup, site_places, IsSiteAt, IsLaidSite};
 
 use crate::sites::Site;
@@ -31,7 +31,7 @@ fn word(z: i64) -> u64
 
 /// The register of a local.
 pub fn local_register(n: usize) -> u32
-    requires { n < most_locals }
+    requires { n < most_local_registers }
     ensures { result ≡ local_register n }
 {
     n as u32 + 1

@@ -10,7 +10,7 @@ ghost use Rattle.cxx_subobject.specs.Subobjects.{class_of};
 ghost use Rattle.abi_sound.specs.Places.{size_of_value};
 ghost use Rattle.abi_sound.specs.Locations.{size_of_type, stride_in};
 ghost use Rattle.path_model.specs.Outs.{class_or_first as class_or_first_of};
-ghost use Rattle.path_model.specs.Order.{first_base};
+ghost use Rattle.path_model.specs.Order.{first_name_base};
 ghost use Rattle.path_model.specs.Uses.{is_shared as is_shared_base};
 ghost use Rattle.code_ops.specs.Operands.{pointed as pointed_of};
 ghost use Rattle.code_ops.specs.PlaceOps.{element_distance, element_ops, path_ops, place_ops, passed_used, place_used, place_type, type_or_int, element_type_at};
@@ -210,7 +210,7 @@ fn push_passed_used<L: SoundLayout>(
 
 /// Whether the first step of a place is behind a virtual base.
 fn is_shared_first(place: &TypedPlace) -> bool
-    ensures { result ≡ is_shared_base (first_base place.now.passed place.now.base) }
+    ensures { result ≡ is_shared_base (first_name_base place.now.passed place.now.base) }
 {
     match place.passed.as_slice().first() {
         Some(p) => is_shared(&p.base),

@@ -7,12 +7,12 @@ use Rattle.cxx_subobject.specs.declared.Subobject.{Subobject}
 use Rattle.cxx_subobject.specs.Preorder.{preorder}
 use Rattle.cxx_program.specs.declared.program.TypedInit.{TypedInit}
 use Rattle.path_plan.specs.Plans.{Form, InFull, AsBase}
-use Rattle.path_model.specs.States.{init_of}
+use Rattle.path_model.specs.States.{member_init}
 use Rattle.byte_code.specs.declared.op.Op.{Op}
 use Rattle.byte_code.specs.declared.op.Op.TheVariants.{Open, SetTable, SetPhase, SetView, Trace}
 use Rattle.byte_code.specs.declared.op.Phase.TheVariants.{ReadyBuilding, Complete, ReadyEnding, Ended}
 use Rattle.byte_code.specs.declared.op.TraceKind.TheVariants.{Built, Ending}
-use Rattle.code_ops.specs.Setups.{Setup, Routine, PlanCode, places, body_in, free_register}
+use Rattle.code_ops.specs.Setups.{Setup, Routine, PlanCode, places, body_of_routine, free_register}
 use Rattle.code_ops.specs.Operands.{operand_ops, converted_ops, ops_of}
 use Rattle.code_ops.specs.declared.routines.Course.{Course}
 use Rattle.code_blocks.specs.declared.items.Kind.{Kind}
@@ -46,8 +46,8 @@ back_append AsBase rest = refl
 init_append : (x : Setup) (course : Course) (form : Form) (c : ClassId) (m : ℕ) (init : Option TypedInit) (rest : List Op) → init_then x course form c m init rest ≡ init_then x course form c m init [] ++ rest
 init_append x course form c m None rest = refl
 init_append x course form c m (Some init) rest =
-    let r = free_register (body_in x (PlanCode course form c)) 0 in
-    let s = free_register (body_in x (PlanCode course form c)) 1 in
+    let r = free_register (body_of_routine x (PlanCode course form c)) 0 in
+    let s = free_register (body_of_routine x (PlanCode course form c)) 1 in
     let front = operand_ops r init.operand in
     let middle = ops_of (converted_ops x None init.conversion s r) in
     let store = store_op (leaf_width x c m) s 0 ((places x).member c m) in
@@ -59,7 +59,7 @@ event_append x course form c AtBegin rest = refl
 event_append x course form c AtReady rest =
     let more = SetPhase c.0 ReadyBuilding ∷ [] in
     pointers_append x form c (SetPhase c.0 ReadyBuilding ∷ rest) ∙ sym (append_assoc (pointers_then x form c []) more rest) ∙ ap (λ (l : List Op). l ++ rest) (sym (pointers_append x form c more))
-event_append x course form c (AtInit m) rest = init_append x course form c m (init_of x.program c m) rest
+event_append x course form c (AtInit m) rest = init_append x course form c m (member_init x.program c m) rest
 event_append x course form c AtBody rest = refl
 event_append x course form c AtDone rest = ap (λ (l : List Op). SetPhase c.0 Complete ∷ l) (back_append form (Trace (Built c.0) ∷ rest) ∙ sym (append_assoc (back_then form []) (Trace (Built c.0) ∷ []) rest) ∙ ap (λ (l : List Op). l ++ rest) (sym (back_append form (Trace (Built c.0) ∷ []))))
 event_append x course form c AtEnding rest =

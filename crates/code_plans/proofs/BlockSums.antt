@@ -10,7 +10,7 @@ use Rattle.cxx_hierarchy.specs.Hierarchies.{IsHierarchy}
 use Rattle.cxx_subobject.specs.Subobjects.{whole_of, shared_base}
 use Rattle.cxx_subobject.specs.Preorder.{preorder}
 use Rattle.abi_sound.specs.Places.{Places}
-use Rattle.abi_vtt.specs.Vtts.{item, has_virtual, needs_word, words_of_bases, below, shared_items, items}
+use Rattle.abi_vtt.specs.Vtts.{item, has_vtt, needs_word, words_of_bases, extended_by, shared_items, vtt_items}
 use Rattle.abi_vtt.specs.Blocks.{block, block_length, lengths_of, lengths_before, built_classes, built_shared}
 use Rattle.abi_vtt.proofs.BlockLemmas.{opened, length_same, turn_length}
 use Rattle.abi_tables.specs.Counts.{vtt_words}
@@ -18,17 +18,17 @@ use Rattle.abi_tables.specs.Counts.{vtt_words}
 -- a block has the word of the view, the blocks of its bases, and the words of its base subobjects
 pub block_is : (h : Classes) → IsHierarchy h → (l : Places) (d : ClassId) → block_length h l d ≡ 1 + lengths_of h l (built_classes h d) + length (filter (needs_word h l) (preorder h d))
 block_is h keeps l d =
-    let bases = flat_map (λ b. block h l (below (whole_of d) b) b) (built_classes h d) in
+    let bases = flat_map (λ b. block h l (extended_by (whole_of d) b) b) (built_classes h d) in
     let all : block_length h l d ≡ suc (length (bases ++ words_of_bases h l (whole_of d) d)) = ap length (opened h keeps l (whole_of d) d) in
     let parts = length-append bases (words_of_bases h l (whole_of d) d) in
-    let first = turn_length h l (λ b. block h l (below (whole_of d) b) b) (λ b. length_same h keeps l (below (whole_of d) b) b) (built_classes h d) in
+    let first = turn_length h l (λ b. block h l (extended_by (whole_of d) b) b) (λ b. length_same h keeps l (extended_by (whole_of d) b) b) (built_classes h d) in
     let last = length-map (filter (needs_word h l) (preorder h d)) (item (whole_of d)) in
     omega arith
 
 -- a VTT has the block of its class and those of its virtual bases
-pub vtt_is : (h : Classes) → IsHierarchy h → (l : Places) (c : ClassId) → has_virtual h c ≡ true → vtt_words h l c ≡ block_length h l c + lengths_of h l (built_shared h c)
+pub vtt_is : (h : Classes) → IsHierarchy h → (l : Places) (c : ClassId) → has_vtt h c ≡ true → vtt_words h l c ≡ block_length h l c + lengths_of h l (built_shared h c)
 vtt_is h keeps l c has =
-    let all : vtt_words h l c ≡ length (items h l c) = ap (λ b. if b then length (items h l c) else 0) has in
+    let all : vtt_words h l c ≡ length (vtt_items h l c) = ap (λ b. if b then length (vtt_items h l c) else 0) has in
     let parts = length-append (block h l (whole_of c) c) (flat_map (shared_items h l) (built_shared h c)) in
     let more = turn_length h l (shared_items h l) (λ v. length_same h keeps l (shared_base v) v) (built_shared h c) in
     omega arith

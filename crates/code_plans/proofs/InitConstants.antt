@@ -18,10 +18,10 @@ use Rattle.cxx_program.specs.declared.program.TypedBody.{TypedBody}
 use Rattle.cxx_program.specs.declared.program.TypedInit.{TypedInit}
 use Rattle.cxx_program.specs.declared.program.TypedProgram.{TypedProgram}
 use Rattle.cxx_program.specs.Typed.{IsTypedProgram, IsTypedInit, IsKept, whole, in_bits, IsArgument, a_value, a_null, HasType, of_variable, of_this, of_number, Converts, to_number, to_same, to_base, AreInitsOf, no_scope, variable_type}
-use Rattle.path_model.specs.States.{init_of, inits_in, body_of, same_owner}
+use Rattle.path_model.specs.States.{member_init, inits_in, owned_body, same_owner}
 use Rattle.abi_slots.proofs.Lists.{Item, found_passes, item_none}
 use Rattle.code_ops.proofs.BitFields.{width_fits}
-use Rattle.code_plans.specs.invariants.Constants.{IsNumber, IsPlain, IsConstant}
+use Rattle.code_plans.specs.invariants.Constants.{IsNumberOperand, IsPlain, IsConstant}
 
 abbrev IsNumberType : ValueType ClassId → Type 0
 IsNumberType (NumberType t) = Unit {0}
@@ -31,7 +31,7 @@ no_variable : (x : Variable) (t : ValueType ClassId) → variable_type no_scope 
 no_variable (Global n) t e = cc
 no_variable (Local n) t e = cc
 
-constant_operand : (o : TypedOperand) (s : ValueType ClassId) → HasType no_scope o s → IsNumber o × IsNumberType s
+constant_operand : (o : TypedOperand) (s : ValueType ClassId) → HasType no_scope o s → IsNumberOperand o × IsNumberType s
 constant_operand _ _ (of_variable x t e) = absurd (no_variable x t e)
 constant_operand _ _ (of_this c e) = absurd (cc)
 constant_operand _ _ (of_number z t range) = (tt, tt)
@@ -41,11 +41,11 @@ plain h _ _ _ (to_number s t) number = tt
 plain h _ _ _ (to_same t) number = tt
 plain h _ _ _ (to_base c d i proper) number = number
 
-argument_constant : (h : Classes) (a : Argument) (t : ValueType ClassId) → IsArgument h no_scope a t → IsNumber a.operand × IsPlain a.conversion
+argument_constant : (h : Classes) (a : Argument) (t : ValueType ClassId) → IsArgument h no_scope a t → IsNumberOperand a.operand × IsPlain a.conversion
 argument_constant h _ _ (a_value a s t has converts) = let r = constant_operand a.operand s has in (r.0, plain h s a.conversion t converts r.1)
 argument_constant h _ _ (a_null d) = (tt, tt)
 
-kept_constant : (h : Classes) (width : Option ℕ) (a : Argument) (t : ValueType ClassId) → ((n : ℕ) → width ≡ Some n → n ≤ 64) → IsKept h no_scope width a t → IsNumber a.operand × IsPlain a.conversion
+kept_constant : (h : Classes) (width : Option ℕ) (a : Argument) (t : ValueType ClassId) → ((n : ℕ) → width ≡ Some n → n ≤ 64) → IsKept h no_scope width a t → IsNumberOperand a.operand × IsPlain a.conversion
 kept_constant h _ _ _ fits (whole a t is) = argument_constant h a t is
 kept_constant h _ _ _ fits (in_bits a n s t has is) = ((constant_operand a.operand (NumberType s) has).0, subst IsPlain (sym is) (fits n refl))
 
@@ -60,10 +60,10 @@ owned_constant h keeps (Function f) inits init none item = absurd (item_none ini
 owned_constant h keeps (Constructor c) inits init are item = typed_constant h keeps c init (are.each init (contains_at inits item.index init item.there))
 owned_constant h keeps (Destructor c) inits init none item = absurd (item_none init (subst (λ (xs : List TypedInit). Item xs init) none item))
 
-pub init_constant : (h : Classes) → IsHierarchy h → (program : TypedProgram) → IsTypedProgram h program → (c : ClassId) (m : ℕ) (init : TypedInit) → Some init ≡ init_of program c m → IsConstant init
-init_constant h keeps program typed c m init is = by_body (body_of program (Constructor c)) refl
+pub init_constant : (h : Classes) → IsHierarchy h → (program : TypedProgram) → IsTypedProgram h program → (c : ClassId) (m : ℕ) (init : TypedInit) → Some init ≡ member_init program c m → IsConstant init
+init_constant h keeps program typed c m init is = by_body (owned_body program (Constructor c)) refl
   where
-    by_body : (o : Option TypedBody) → body_of program (Constructor c) ≡ o → IsConstant init
+    by_body : (o : Option TypedBody) → owned_body program (Constructor c) ≡ o → IsConstant init
     by_body None e = absurd (let none : Some init ≡ None = is ∙ ap (λ b. find (λ (init : TypedInit). nat_eq init.member m) (inits_in b)) e in cc)
     by_body (Some body) e =
         let there = found_passes (λ (b : TypedBody). same_owner b.owner (Constructor c)) program.bodies body e in

@@ -17,14 +17,14 @@ use Rattle.cxx_subobject.proofs.PathLemmas.{base_before, virtual_below}
 use Rattle.cxx_program.specs.declared.program.Owner.{Owner}
 use Rattle.cxx_program.specs.declared.program.TypedBody.{TypedBody}
 use Rattle.cxx_program.specs.declared.program.TypedProgram.{TypedProgram}
-use Rattle.path_model.specs.States.{body_of}
+use Rattle.path_model.specs.States.{owned_body}
 use Rattle.abi_sound.specs.declared.class_layout.ClassLayout.{ClassLayout}
 use Rattle.abi_sound.specs.Places.{places_of}
 use Rattle.abi_sound.specs.Sound.{IsSoundLayout}
 use Rattle.abi_sound.proofs.PlaceLemmas.{place_at_inner}
 use Rattle.abi_tables.proofs.ViewLemmas.{listed_base}
 use Rattle.code_ops.specs.Setups.{locals_in}
-use Rattle.code_ops.specs.invariants.Fits.{most_locals}
+use Rattle.code_ops.specs.invariants.Fits.{most_local_registers}
 use Rattle.code_plans.specs.PlanSites.{HasFewLocals}
 
 -- bases
@@ -87,6 +87,6 @@ element_fits h rows sound c d m i known element a f size e g k = numbers_fit a (
 
 -- registers
 
-pub few_locals : (program : TypedProgram) → HasFewLocals program → (owner : Owner) (o : Option TypedBody) → o ≡ body_of program owner → locals_in o < 2 ^ 31
+pub few_locals : (program : TypedProgram) → HasFewLocals program → (owner : Owner) (o : Option TypedBody) → o ≡ owned_body program owner → locals_in o < 2 ^ 31
 few_locals program few owner None e = omega arith
-few_locals program few owner (Some body) e = let less : length body.locals < most_locals = few.each owner body (sym e) in omega arith
+few_locals program few owner (Some body) e = let less : length body.locals < most_local_registers = few.each owner body (sym e) in omega arith

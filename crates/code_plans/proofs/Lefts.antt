@@ -17,11 +17,11 @@ use Rattle.code_blocks.specs.declared.items.Item.{Item as ItemCode}
 use Rattle.code_blocks.specs.declared.items.Item.TheVariants.{Holds as HoldsCode}
 use Rattle.code_blocks.specs.declared.items.Way.{Way}
 use Rattle.code_blocks.specs.Items.{Item, Does, Shares, Inherits, Holds}
-use Rattle.code_blocks.specs.Blocks.{Place, first_place, next_place, base_course, opening_of, openings_then, plan_tail}
+use Rattle.code_blocks.specs.Blocks.{Place, routine_start, next_place, base_course, opening_of, openings_then, plan_tail}
 use Rattle.code_blocks.specs.Lowered.{IsEnd}
 use Rattle.code_blocks.specs.invariants.ItemCodes.{item_code, item_codes}
 use Rattle.code_plans.specs.Tails.{AreLeft, StartsBy}
-use Rattle.code_plans.specs.invariants.Parts.{IsPartOf, is_event_code}
+use Rattle.code_plans.specs.invariants.Parts.{IsItemOfClass, is_event_code}
 use Rattle.code_plans.proofs.Appends.{openings_append}
 use Rattle.code_plans.proofs.Known.{base_known, virtual_known, member_known}
 use Rattle.code_plans.proofs.PartItems.{AreParts, parts_behind, plan_parts}
@@ -52,7 +52,7 @@ parts_same h c (x ∷ xs) [] e are = absurd (cc)
 parts_same h c (x ∷ xs) (y ∷ ys) e are =
     let first : item_code x ≡ item_code y = cc in
     let more : item_codes xs ≡ item_codes ys = cc in
-    (subst (IsPartOf h c) first are.0, parts_same h c xs ys more are.1)
+    (subst (IsItemOfClass h c) first are.0, parts_same h c xs ys more are.1)
 
 -- the items of what is left are parts
 left_parts : (x : Setup) → IsHierarchy x.h → (course : Course) (form : Form) (c : ClassId) (codes : List ItemCode) (left : List Item) → AreLeft x course form c codes → codes ≡ item_codes left → AreParts x.h c left
@@ -71,12 +71,12 @@ module _ (x : Setup) (course : Course) (form : Form) (c : ClassId) where
         end = record { before = end.before ++ i ∷ []; is = append_assoc end.before (i ∷ []) left ∙ end.is };
       }
 
-  pub part_first : IsHierarchy x.h → (codes : List ItemCode) (d : ItemCode) → 1 ≤ length codes → AreLeft x course form c codes → IsPartOf x.h c (get_or codes 0 d)
+  pub part_first : IsHierarchy x.h → (codes : List ItemCode) (d : ItemCode) → 1 ≤ length codes → AreLeft x course form c codes → IsItemOfClass x.h c (get_or codes 0 d)
   part_first keeps codes d some are = go are.left are.is (left_parts x keeps course form c codes are.left are are.is)
     where
-      go : (left : List Item) → codes ≡ item_codes left → AreParts x.h c left → IsPartOf x.h c (get_or codes 0 d)
+      go : (left : List Item) → codes ≡ item_codes left → AreParts x.h c left → IsItemOfClass x.h c (get_or codes 0 d)
       go [] is parts = absurd (let none : length codes ≡ 0 = ap length is in omega arith)
-      go (i ∷ left) is parts = subst (IsPartOf x.h c) (sym (ap (λ (cs : List ItemCode). get_or cs 0 d) is)) parts.0
+      go (i ∷ left) is parts = subst (IsItemOfClass x.h c) (sym (ap (λ (cs : List ItemCode). get_or cs 0 d) is)) parts.0
 
   module _ (at : Routine → ℕ) (codes : List ItemCode) (d : ItemCode) (some : 1 ≤ length codes) where
     -- an own event stands first, and nothing is opened
@@ -129,9 +129,9 @@ with_block x course form c i n = opening_of x (λ r. n) course form c i
 
 module _ (x : Setup) (keeps : IsHierarchy x.h) (course : Course) (form : Form) (c : ClassId) (known : c.0 < length x.h) (at : Place → ℕ) (numbers : List CodeRow) (starts : StartsBy x at numbers) where
   abbrev places_at : Routine → ℕ
-  places_at r = at (first_place x r)
+  places_at r = at (routine_start x r)
 
-  one_same : (i : Item) → IsPartOf x.h c (item_code i) → opening_of x places_at course form c i ≡ opening_of x (start_by x numbers) course form c i
+  one_same : (i : Item) → IsItemOfClass x.h c (item_code i) → opening_of x places_at course form c i ≡ opening_of x (start_by x numbers) course form c i
   one_same (Does k) part = refl
   one_same (Shares v) part = ap (with_block x course form c (Shares v)) (starts.each (PlanCode (base_course course) AsBase v) (virtual_known x.h keeps c v known part, course_fits course AsBase))
   one_same (Inherits b) part = ap (with_block x course form c (Inherits b)) (starts.each (PlanCode (base_course course) AsBase b.class) (base_known x.h keeps c b.class known part, course_fits course AsBase))

@@ -18,20 +18,20 @@ use Rattle.cxx_subobject.proofs.TreeLemmas.{edge}
 use Rattle.path_plan.specs.Plans.{Bodies, Form, InFull, AsBase, upto, backwards, virtual_order}
 use Rattle.path_plan.proofs.Order.{order_virtual}
 use Rattle.path_plan.proofs.Members.{has_backwards}
-use Rattle.path_model.specs.States.{bodies_of}
+use Rattle.path_model.specs.States.{plan_bodies}
 use Rattle.code_ops.specs.Setups.{Setup}
 use Rattle.code_ops.specs.declared.routines.Course.{Course}
 use Rattle.code_ops.specs.declared.routines.Course.TheVariants.{Constructs, Destroys, Deletes}
 use Rattle.code_blocks.specs.declared.items.Way.{Way}
 use Rattle.code_blocks.specs.declared.items.Way.TheVariants.{Forwards, Backwards}
-use Rattle.code_blocks.specs.Items.{Item, Inherits, first_index, shared_items, base_items, init_items, body_items, typed_items, member_items, built_items, ended_items}
+use Rattle.code_blocks.specs.Items.{Item, Inherits, first_index, shared_base_items, base_items, init_items, body_items, typed_items, member_items, built_items, ended_items}
 use Rattle.code_blocks.specs.Blocks.{items}
 use Rattle.code_blocks.specs.invariants.ItemCodes.{item_code}
-use Rattle.code_plans.specs.invariants.Parts.{IsPartOf}
+use Rattle.code_plans.specs.invariants.Parts.{IsItemOfClass}
 
 abbrev pub AreParts : Classes → ClassId → List Item → Type 0
 AreParts h c [] = Unit {0}
-AreParts h c (i ∷ left) = IsPartOf h c (item_code i) × AreParts h c left
+AreParts h c (i ∷ left) = IsItemOfClass h c (item_code i) × AreParts h c left
 
 parts_append : (h : Classes) (c : ClassId) (xs ys : List Item) → AreParts h c xs → AreParts h c ys → AreParts h c (xs ++ ys)
 parts_append h c [] ys are more = more
@@ -41,7 +41,7 @@ pub parts_behind : (h : Classes) (c : ClassId) (xs ys : List Item) → AreParts 
 parts_behind h c [] ys are = are
 parts_behind h c (i ∷ xs) ys are = parts_behind h c xs ys are.1
 
-shared_parts : (h : Classes) (c : ClassId) (form : Form) (order : List ClassId) → ((v : ClassId) → Has order v → HasVirtualBase h c v) → AreParts h c (shared_items form order)
+shared_parts : (h : Classes) (c : ClassId) (form : Form) (order : List ClassId) → ((v : ClassId) → Has order v → HasVirtualBase h c v) → AreParts h c (shared_base_items form order)
 shared_parts h c AsBase order each = tt
 shared_parts h c InFull [] each = tt
 shared_parts h c InFull (v ∷ order) each = (each v (inl refl), shared_parts h c InFull order (λ u has. each u (inr has)))
@@ -90,7 +90,7 @@ built_parts : (h : Classes) → IsHierarchy h → (bodies : Bodies) (form : Form
 built_parts h keeps bodies form c =
     let members = flat_map (λ m. member_items (bodies.initializer c m) Forwards m (slice_get (members_of h c) m)) (upto (length (members_of h c))) in (
       tt,
-      parts_append h c (shared_items form (virtual_order h c)) _ (shared_parts h c form (virtual_order h c) (λ v has. order_virtual h keeps c v has))
+      parts_append h c (shared_base_items form (virtual_order h c)) _ (shared_parts h c form (virtual_order h c) (λ v has. order_virtual h keeps c v has))
           (parts_append h c (flat_map base_items (bases_of h c)) _ (base_parts h c (bases_of h c) (λ b has. contains_from_has (bases_of h c) b has)) (
             tt,
             parts_append h c members _ (members_parts h keeps c (bodies.initializer c) Forwards (upto (length (members_of h c))))
@@ -106,12 +106,12 @@ ended_parts h keeps bodies form c =
           (parts_append h c members _ (members_parts h keeps c (λ m. false) Backwards (backwards (upto (length (members_of h c))))) (
             tt,
             parts_append h c (flat_map base_items (backwards (bases_of h c))) _ (base_parts h c (backwards (bases_of h c)) (λ b has. contains_from_has (bases_of h c) b (has_backwards (bases_of h c) b has)))
-                (parts_append h c (shared_items form (backwards (virtual_order h c))) _ (shared_parts h c form (backwards (virtual_order h c)) (λ v has. order_virtual h keeps c v (has_backwards (virtual_order h c) v has))) (tt, tt)),
+                (parts_append h c (shared_base_items form (backwards (virtual_order h c))) _ (shared_parts h c form (backwards (virtual_order h c)) (λ v has. order_virtual h keeps c v (has_backwards (virtual_order h c) v has))) (tt, tt)),
           )),
     )
 
 -- the items of a plan
 pub plan_parts : (x : Setup) → IsHierarchy x.h → (course : Course) (form : Form) (c : ClassId) → AreParts x.h c (items x course form c)
-plan_parts x keeps Constructs form c = built_parts x.h keeps (bodies_of x.program) form c
-plan_parts x keeps Destroys form c = ended_parts x.h keeps (bodies_of x.program) form c
-plan_parts x keeps Deletes form c = ended_parts x.h keeps (bodies_of x.program) form c
+plan_parts x keeps Constructs form c = built_parts x.h keeps (plan_bodies x.program) form c
+plan_parts x keeps Destroys form c = ended_parts x.h keeps (plan_bodies x.program) form c
+plan_parts x keeps Deletes form c = ended_parts x.h keeps (plan_bodies x.program) form c

@@ -13,7 +13,7 @@ use Rattle.byte_code.specs.declared.op.Op.TheVariants.{SetTable, SetPhase, SetVi
 use Rattle.byte_code.specs.declared.op.Phase.TheVariants.{ReadyBuilding, ReadyEnding}
 use Rattle.byte_code.specs.declared.op.Setting.{Setting}
 use Rattle.byte_code.specs.declared.op.TraceKind.TheVariants.{Ending}
-use Rattle.code_ops.specs.Setups.{Setup, PlanCode, places, body_in, locals_in, free_register}
+use Rattle.code_ops.specs.Setups.{Setup, PlanCode, places, body_of_routine, locals_in, free_register}
 use Rattle.code_ops.specs.Operands.{operand_ops, converted_ops, ops_of}
 use Rattle.code_ops.specs.declared.routines.Course.{Course}
 use Rattle.code_ops.specs.declared.widths.LeafWidth.{LeafWidth}
@@ -75,12 +75,12 @@ block_put x at course form c k left old mid new first put =
     put ∙ ap (λ (l : List Op). l ++ tail) first ∙ append_assoc old (event_then x course form c k []) tail ∙ ap (λ (l : List Op). old ++ l) (sym (event_append x course form c k tail))
 
 -- a constant is read, converted and stored
-pub constant_put : (x : Setup) (course : Course) (form : Form) (c : ClassId) (m : ℕ) (init : TypedInit) (value place : ℕ) (leaf : LeafWidth) (op : Op) (old a b new : List Op) → value ≡ free_register (body_in x (PlanCode course form c)) 0 → a ≡ old ++ operand_ops value init.operand
+pub constant_put : (x : Setup) (course : Course) (form : Form) (c : ClassId) (m : ℕ) (init : TypedInit) (value place : ℕ) (leaf : LeafWidth) (op : Op) (old a b new : List Op) → value ≡ free_register (body_of_routine x (PlanCode course form c)) 0 → a ≡ old ++ operand_ops value init.operand
     → b ≡ a ++ ops_of (converted_ops x None init.conversion (value + 1) value) → place ≡ (places x).member c m → leaf ≡ leaf_width x c m → op ≡ store_op leaf (value + 1) 0 place → new ≡ b ++ op ∷ [] → new ≡ old ++ init_then x course form c m (Some init) []
 constant_put x course form c m init value place leaf op old a b new register read convert at stands is store =
-    let first = free_register (body_in x (PlanCode course form c)) 0 in
-    let second = free_register (body_in x (PlanCode course form c)) 1 in
-    let count = locals_in (body_in x (PlanCode course form c)) in
+    let first = free_register (body_of_routine x (PlanCode course form c)) 0 in
+    let second = free_register (body_of_routine x (PlanCode course form c)) 1 in
+    let count = locals_in (body_of_routine x (PlanCode course form c)) in
     let next : value + 1 ≡ second = omega arith in
     let front = operand_ops value init.operand in
     let middle = ops_of (converted_ops x None init.conversion (value + 1) value) in

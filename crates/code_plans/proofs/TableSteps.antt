@@ -4,7 +4,7 @@ use Rattle.std.specs.Prelude.{slice_get, min}
 use Rattle.foundation.proofs.Places.{get_pushed, length_pushed}
 use Rattle.cxx_hierarchy.specs.Classes.{Classes}
 use Rattle.abi_sound.specs.Places.{Places}
-use Rattle.abi_vtt.specs.Vtts.{has_virtual}
+use Rattle.abi_vtt.specs.Vtts.{has_vtt}
 use Rattle.abi_vtt.specs.Blocks.{block_length}
 use Rattle.abi_tables.specs.Counts.{most_words}
 use Rattle.code_plans.specs.ClassTables.{AreBlocks}
@@ -15,11 +15,11 @@ none_blocks h l blocks e = record {
   each = λ n m there has. absurd (let nothing : List ℕ = [] in let at : slice_get nothing n ≡ Some m = subst (λ (xs : List ℕ). slice_get xs n ≡ Some m) e there in cc);
 }
 
-pub one_more_block : (h : Classes) (l : Places) (n : ℕ) (blocks new : List ℕ) (block : ℕ) → n < length h → length blocks ≡ n → new ≡ blocks ++ block ∷ [] → (has_virtual h (record { 0 = n }) ≡ true → block ≡ block_length h l (record { 0 = n })) → AreBlocks h l blocks → AreBlocks h l new
+pub one_more_block : (h : Classes) (l : Places) (n : ℕ) (blocks new : List ℕ) (block : ℕ) → n < length h → length blocks ≡ n → new ≡ blocks ++ block ∷ [] → (has_vtt h (record { 0 = n }) ≡ true → block ≡ block_length h l (record { 0 = n })) → AreBlocks h l blocks → AreBlocks h l new
 one_more_block h l n blocks new block lt size is own are = record {
   few = let more : length new ≡ length blocks + 1 = ap length is ∙ length_pushed blocks block in omega arith;
   each = λ k m there has. ⊎_elim (λ before. are.each k m before has)
-      (λ last. let at : k ≡ n = last.0 ∙ size in last.1 ∙ own (subst (λ (i : ℕ). has_virtual h (record { 0 = i }) ≡ true) at has) ∙ ap (λ (i : ℕ). block_length h l (record { 0 = i })) (sym at))
+      (λ last. let at : k ≡ n = last.0 ∙ size in last.1 ∙ own (subst (λ (i : ℕ). has_vtt h (record { 0 = i }) ≡ true) at has) ∙ ap (λ (i : ℕ). block_length h l (record { 0 = i })) (sym at))
       (get_pushed blocks block k m (subst (λ (xs : List ℕ). slice_get xs k ≡ Some m) is there));
 }
 

@@ -6,24 +6,24 @@ use Rattle.cxx_program.specs.declared.program.Owner.{Owner}
 use Rattle.cxx_program.specs.declared.program.TypedBody.{TypedBody}
 use Rattle.cxx_program.specs.declared.program.TypedProgram.{TypedProgram}
 use Rattle.cxx_program.specs.Typed.{IsTypedProgram}
-use Rattle.path_model.specs.States.{body_of}
+use Rattle.path_model.specs.States.{owned_body}
 use Rattle.path_bodies.specs.declared.index.BodyIndex.{BodyIndex}
 use Rattle.path_bodies.specs.Places.{IsIndexOf}
 use Rattle.abi_slots.specs.declared.slots.Slots.{Slots}
 use Rattle.abi_slots.specs.Slots.{AreSlots}
-use Rattle.abi_tables.specs.Counts.{all_words, most_words}
+use Rattle.abi_tables.specs.Counts.{words_of_all_classes, most_words}
 use Rattle.abi_sound.specs.declared.class_layout.ClassLayout.{ClassLayout}
 use Rattle.abi_sound.specs.Places.{Places, places_of}
 use Rattle.code_ops.specs.Setups.{Routine, Setup, places, setup}
 use Rattle.code_ops.specs.Routines.{start_by}
-use Rattle.code_ops.specs.invariants.Fits.{most_locals}
+use Rattle.code_ops.specs.invariants.Fits.{most_local_registers}
 use Rattle.code_plans.specs.declared.class_tables.ClassTables.{ClassTables}
 use Rattle.code_plans.specs.declared.plan_sites.PlanSite.{PlanSite}
-use Rattle.code_plans.specs.ClassTables.{AreClassTables}
+use Rattle.code_plans.specs.ClassTables.{AreKeptTables}
 
 -- no body has so many locals that a register has no number
 pub record HasFewLocals (program : TypedProgram) : Type 0 where
-  pub each : (owner : Owner) (body : TypedBody) → body_of program owner ≡ Some body → length body.locals < most_locals
+  pub each : (owner : Owner) (body : TypedBody) → owned_body program owner ≡ Some body → length body.locals < most_local_registers
 
 -- what is kept is kept of this program, and its tables are within the limit on words
 pub record IsPlanSite (x : Setup) (slots : Slots) (index : BodyIndex) (tables : ClassTables) : Type 0 where
@@ -32,8 +32,8 @@ pub record IsPlanSite (x : Setup) (slots : Slots) (index : BodyIndex) (tables : 
   pub typed : IsTypedProgram x.h x.program
   pub is_index : IsIndexOf x.program index
   pub few_locals : HasFewLocals x.program
-  pub few_words : all_words x.h (places x) ≤ most_words
-  pub are_tables : AreClassTables x.h (places x) tables
+  pub few_words : words_of_all_classes x.h (places x) ≤ most_words
+  pub are_tables : AreKeptTables x.h (places x) tables
 
 -- the classes, the rows of the layout and the program of a site
 abbrev pub plan_setup : {L : Type 0} → (L → List ClassLayout) → PlanSite L → Setup

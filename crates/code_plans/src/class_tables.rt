@@ -2,9 +2,9 @@
 
 ghost use Rattle.std.specs.Prelude.{◌≡◌, ◌≤◌, ◌<◌, true, IfOk, length};
 ghost use Rattle.abi_sound.specs.Places.{places_of};
-ghost use Rattle.abi_vtt.specs.Vtts.{has_virtual};
+ghost use Rattle.abi_vtt.specs.Vtts.{has_vtt};
 ghost use Rattle.abi_vtt.specs.Blocks.{block_length};
-ghost use Rattle.abi_tables.specs.Counts.{all_words, most_words, vtt_words};
+ghost use Rattle.abi_tables.specs.Counts.{words_of_all_classes, most_words, vtt_words};
 ghost use Rattle.code_plans.specs.ClassTables.{AreBlocks};
 
 use crate::lengths::shared_sum;
@@ -40,7 +40,7 @@ fn block_len<L: SoundLayout>(
     requires blocks { AreBlocks h.now (places_of h.now (L.rows layout.now)) blocks.now }
     requires words { words ≡ vtt_words h.now (places_of h.now (L.rows layout.now)) c }
     requires few { words ≤ most_words }
-    ensures { has_virtual h.now c ≡ true → result ≡ block_length h.now (places_of h.now (L.rows layout.now)) c }
+    ensures { has_vtt h.now c ≡ true → result ≡ block_length h.now (places_of h.now (L.rows layout.now)) c }
 {
     h.keeps();
     if !has_virtual(h, layout, c) {
@@ -59,7 +59,7 @@ fn block_lens<L: SoundLayout>(
     layout: &L,
 ) -> Result<Vec<u32>, NoMemory>
     requires layout { L.lays_out layout.now h.now }
-    requires few { all_words h.now (places_of h.now (L.rows layout.now)) ≤ most_words }
+    requires few { words_of_all_classes h.now (places_of h.now (L.rows layout.now)) ≤ most_words }
     ensures size { IfOk result (λ blocks. length blocks.items ≡ length h.now) }
     ensures blocks { IfOk result (λ blocks. AreBlocks h.now (places_of h.now (L.rows layout.now)) blocks.items) }
 {
@@ -74,7 +74,7 @@ fn block_lens<L: SoundLayout>(
 }
 
 impl ClassTables {
-    ghost use Rattle.code_plans.specs.ClassTables.{AreClassTables};
+    ghost use Rattle.code_plans.specs.ClassTables.{AreKeptTables};
 
     /// The tables of the classes of a hierarchy, over a layout.
     ///
@@ -85,8 +85,8 @@ impl ClassTables {
         layout: &L,
     ) -> Result<ClassTables, NoMemory>
         requires layout { L.lays_out layout.now h.now }
-        requires few { all_words h.now (places_of h.now (L.rows layout.now)) ≤ most_words }
-        ensures { IfOk result (AreClassTables h.now (places_of h.now (L.rows layout.now))) }
+        requires few { words_of_all_classes h.now (places_of h.now (L.rows layout.now)) ≤ most_words }
+        ensures { IfOk result (AreKeptTables h.now (places_of h.now (L.rows layout.now))) }
     {
         let dynamic = dynamic_flags(alloc, h)?;
         let lone = lone_flags(alloc, h, layout, &dynamic)?;

@@ -3,16 +3,16 @@
 ghost use Rattle.std.specs.Prelude.{◌≡◌, ◌<◌, ◌+◌, ◌^◌, ◌++◌, ◌∷◌, [], List, None, OnOk, Some, length};
 ghost use Rattle.std.specs.Option.{option_copied};
 ghost use Rattle.path_bodies.specs.Places.{IsIndexOf};
-ghost use Rattle.path_model.specs.States.{init_of};
+ghost use Rattle.path_model.specs.States.{member_init};
 ghost use Rattle.path_plan.specs.Plans.{Form as FormOf};
 ghost use Rattle.byte_code.specs.declared.op.Op.TheVariants.{Begin, SetPhase, SetView, Trace};
 ghost use Rattle.byte_code.specs.declared.op.Phase.TheVariants.{InBases, ReadyEnding};
 ghost use Rattle.byte_code.specs.declared.op.TraceKind.TheVariants.{Ending};
-ghost use Rattle.code_ops.specs.Setups.{PlanCode, Setup, body_in, free_register, locals_in, plan_owner, setup};
+ghost use Rattle.code_ops.specs.Setups.{PlanCode, Setup, body_of_routine, free_register, locals_in, plan_owner, setup};
 ghost use Rattle.code_ops.specs.Operands.{converted_ops, ops_of};
 ghost use Rattle.abi_sound.specs.declared.class_layout.ClassLayout.{ClassLayout};
 ghost use Rattle.code_blocks.specs.Blocks.{back_then, event_then, init_then, whose_of};
-ghost use Rattle.code_blocks.specs.invariants.ItemCodes.{form_of};
+ghost use Rattle.code_blocks.specs.invariants.ItemCodes.{coded_form};
 ghost use Rattle.code_plans.specs.PlanSites.{HasFewLocals, IsLaidPlanSite, plan_setup};
 ghost use Rattle.code_plans.specs.Settings.{ArePointers};
 ghost use Rattle.code_plans.specs.invariants.Constants.{IsConstant, IsPlain};
@@ -55,7 +55,7 @@ fn local_count(body: Option<&TypedBody>) -> usize
 fn free<L>(site: &PlanSite<L>, plan: ClassPlan) -> u32
     requires index { IsIndexOf site.now.program.now site.now.index.now }
     requires few { HasFewLocals site.now.program.now }
-    ensures is { (rows : List ClassLayout) (form : FormOf) → result ≡ free_register (body_in (setup site.now.h.now rows site.now.program.now) (PlanCode plan.course form plan.class)) 0 }
+    ensures is { (rows : List ClassLayout) (form : FormOf) → result ≡ free_register (body_of_routine (setup site.now.h.now rows site.now.program.now) (PlanCode plan.course form plan.class)) 0 }
     ensures small { result < 2 ^ 31 + 2 }
 {
     let body = site
@@ -135,7 +135,7 @@ fn push_init<L: SoundLayout>(
 ) -> Result<(), NoMemory>
     requires site { IsLaidPlanSite L.lays_out L.rows site.now }
     requires known { plan.class.0 < length site.now.h.now }
-    ensures { OnOk result ((form : FormOf) → ops.new ≡ ops.old ++ init_then (plan_setup L.rows site.now) plan.course form plan.class m (init_of site.now.program.now plan.class m) []) }
+    ensures { OnOk result ((form : FormOf) → ops.new ≡ ops.old ++ init_then (plan_setup L.rows site.now) plan.course form plan.class m (member_init site.now.program.now plan.class m) []) }
 {
     match site.index.initializer(site.program, plan.class, m) {
         None => {}
@@ -148,7 +148,7 @@ fn push_init<L: SoundLayout>(
 ///
 /// Errors: want of memory.
 fn push_back(ops: &mut OpList, form: Form) -> Result<(), NoMemory>
-    ensures { OnOk result (ops.new ≡ ops.old ++ back_then (form_of form) []) }
+    ensures { OnOk result (ops.new ≡ ops.old ++ back_then (coded_form form) []) }
 {
     match form {
         Form::InFull => {}
@@ -171,7 +171,7 @@ fn push_phase(ops: &mut OpList, c: ClassId, phase: Phase) -> Result<(), NoMemory
 ///
 /// Errors: want of memory.
 fn push_begin(ops: &mut OpList, form: Form, c: ClassId) -> Result<(), NoMemory>
-    ensures { OnOk result (ops.new ≡ ops.old ++ Begin c.0 (whose_of (form_of form)) ∷ SetPhase c.0 InBases ∷ SetView c.0 (whose_of (form_of form)) ∷ []) }
+    ensures { OnOk result (ops.new ≡ ops.old ++ Begin c.0 (whose_of (coded_form form)) ∷ SetPhase c.0 InBases ∷ SetView c.0 (whose_of (coded_form form)) ∷ []) }
 {
     ops.push(Op::Begin {
         class: c.0,
@@ -189,7 +189,7 @@ fn push_begin(ops: &mut OpList, form: Form, c: ClassId) -> Result<(), NoMemory>
 ///
 /// Errors: want of memory.
 fn push_ending(ops: &mut OpList, form: Form, c: ClassId) -> Result<(), NoMemory>
-    ensures { OnOk result (ops.new ≡ ops.old ++ SetPhase c.0 ReadyEnding ∷ SetView c.0 (whose_of (form_of form)) ∷ Trace (Ending c.0) ∷ []) }
+    ensures { OnOk result (ops.new ≡ ops.old ++ SetPhase c.0 ReadyEnding ∷ SetView c.0 (whose_of (coded_form form)) ∷ Trace (Ending c.0) ∷ []) }
 {
     push_phase(ops, c, Phase::ReadyEnding)?;
     ops.push(Op::SetView {
@@ -213,7 +213,7 @@ pub fn push_event<L: SoundLayout>(
     requires site { IsLaidPlanSite L.lays_out L.rows site.now }
     requires pointers { ArePointers (plan_setup L.rows site.now) plan.class pointers.now }
     requires known { plan.class.0 < length site.now.h.now }
-    ensures { OnOk result (ops.new ≡ ops.old ++ event_then (plan_setup L.rows site.now) plan.course (form_of plan.form) plan.class kind []) }
+    ensures { OnOk result (ops.new ≡ ops.old ++ event_then (plan_setup L.rows site.now) plan.course (coded_form plan.form) plan.class kind []) }
 {
     match kind {
         Kind::AtBegin => push_begin(ops, plan.form, plan.class)?,

@@ -3,9 +3,9 @@
 ghost use Rattle.std.specs.Prelude.{◌≡◌, ◌<◌, false, true, if◌then◌else◌, None, Some, length};
 ghost use Rattle.cxx_hierarchy.specs.VirtualBases.{HasVirtualBase, IsDirectBase};
 ghost use Rattle.abi_vtt.specs.Blocks.{block_distance, shared_distance as shared_distance_of};
-ghost use Rattle.abi_vtt.specs.Vtts.{has_virtual};
+ghost use Rattle.abi_vtt.specs.Vtts.{has_vtt};
 ghost use Rattle.code_blocks.specs.Blocks.{whose_of};
-ghost use Rattle.code_blocks.specs.invariants.ItemCodes.{form_of};
+ghost use Rattle.code_blocks.specs.invariants.ItemCodes.{coded_form};
 ghost use Rattle.code_plans.specs.PlanSites.{IsLaidPlanSite, plan_places};
 
 use crate::lengths::{base_before, length_at, shared_before};
@@ -18,7 +18,7 @@ use cxx_hierarchy::ClassId;
 
 /// Whose complete object a plan works in.
 pub(crate) fn whose(form: Form) -> Whose
-    ensures { result ≡ whose_of (form_of form) }
+    ensures { result ≡ whose_of (coded_form form) }
 {
     match form {
         Form::InFull => Whose::Itself,
@@ -31,7 +31,7 @@ fn base_distance<L: SoundLayout>(site: &PlanSite<L>, c: ClassId, b: ClassId) -> 
     requires site { IsLaidPlanSite L.lays_out L.rows site.now }
     requires known { c.0 < length site.now.h.now }
     requires base { IsDirectBase site.now.h.now c false b }
-    ensures { has_virtual site.now.h.now b ≡ true → result ≡ block_distance site.now.h.now (plan_places L.rows site.now) c b }
+    ensures { has_vtt site.now.h.now b ≡ true → result ≡ block_distance site.now.h.now (plan_places L.rows site.now) c b }
 {
     site.h.keeps();
     let bases = site.h.class(c).bases.as_slice();
@@ -43,7 +43,7 @@ fn shared_distance<L: SoundLayout>(site: &PlanSite<L>, c: ClassId, v: ClassId) -
     requires site { IsLaidPlanSite L.lays_out L.rows site.now }
     requires known { c.0 < length site.now.h.now }
     requires base { HasVirtualBase site.now.h.now c v }
-    ensures { has_virtual site.now.h.now v ≡ true → result ≡ shared_distance_of site.now.h.now (plan_places L.rows site.now) c v }
+    ensures { has_vtt site.now.h.now v ≡ true → result ≡ shared_distance_of site.now.h.now (plan_places L.rows site.now) c v }
 {
     site.h.keeps();
     let blocks = site.tables.blocks.as_slice();
@@ -57,7 +57,7 @@ pub(crate) fn base_vtt<L: SoundLayout>(site: &PlanSite<L>, c: ClassId, b: ClassI
     requires site { IsLaidPlanSite L.lays_out L.rows site.now }
     requires known { c.0 < length site.now.h.now }
     requires base { IsDirectBase site.now.h.now c false b }
-    ensures { result ≡ (if has_virtual site.now.h.now b then Some (block_distance site.now.h.now (plan_places L.rows site.now) c b) else None) }
+    ensures { result ≡ (if has_vtt site.now.h.now b then Some (block_distance site.now.h.now (plan_places L.rows site.now) c b) else None) }
 {
     site.h.keeps();
     if has_virtual(site.h, site.layout, b) {
@@ -72,7 +72,7 @@ pub(crate) fn shared_vtt<L: SoundLayout>(site: &PlanSite<L>, c: ClassId, v: Clas
     requires site { IsLaidPlanSite L.lays_out L.rows site.now }
     requires known { c.0 < length site.now.h.now }
     requires base { HasVirtualBase site.now.h.now c v }
-    ensures { result ≡ (if has_virtual site.now.h.now v then Some (shared_distance_of site.now.h.now (plan_places L.rows site.now) c v) else None) }
+    ensures { result ≡ (if has_vtt site.now.h.now v then Some (shared_distance_of site.now.h.now (plan_places L.rows site.now) c v) else None) }
 {
     site.h.keeps();
     if has_virtual(site.h, site.layout, v) {

@@ -5,10 +5,10 @@ ghost use Rattle.cxx_hierarchy.specs.declared.records.ClassId.{ClassId};
 ghost use Rattle.cxx_hierarchy.specs.declared.records.Base.{Base};
 ghost use Rattle.abi_sound.specs.Places.{places_of};
 ghost use Rattle.abi_slots.specs.Rows.{class_of_base};
-ghost use Rattle.abi_vtt.specs.Vtts.{has_virtual, is_built_base};
+ghost use Rattle.abi_vtt.specs.Vtts.{has_vtt, is_built_base};
 ghost use Rattle.abi_vtt.specs.Blocks.{lengths_before, lengths_of};
 ghost use Rattle.code_plans.specs.ClassTables.{AreBlocks};
-ghost use Rattle.code_plans.specs.invariants.Walks.{cut};
+ghost use Rattle.code_plans.specs.invariants.Walks.{capped_count};
 
 use abi_sound::SoundLayout;
 use abi_tables::has_virtual;
@@ -34,7 +34,7 @@ pub(crate) fn shared_sum<L: SoundLayout>(
     requires layout { L.lays_out layout.now h.now }
     requires blocks { AreBlocks h.now (places_of h.now (L.rows layout.now)) blocks.now }
     requires known { All (λ (d : ClassId). d.0 < length blocks.now) classes.now }
-    ensures { result ≡ cut (lengths_of h.now (places_of h.now (L.rows layout.now)) (filter (has_virtual h.now) classes.now)) }
+    ensures { result ≡ capped_count (lengths_of h.now (places_of h.now (L.rows layout.now)) (filter (has_vtt h.now) classes.now)) }
 {
     match classes {
         [] => 0,
@@ -60,7 +60,7 @@ pub(crate) fn shared_before<L: SoundLayout>(
     requires layout { L.lays_out layout.now h.now }
     requires blocks { AreBlocks h.now (places_of h.now (L.rows layout.now)) blocks.now }
     requires known { All (λ (d : ClassId). d.0 < length blocks.now) classes.now }
-    ensures { result ≡ cut (lengths_before h.now (places_of h.now (L.rows layout.now)) v (filter (has_virtual h.now) classes.now)) }
+    ensures { result ≡ capped_count (lengths_before h.now (places_of h.now (L.rows layout.now)) v (filter (has_vtt h.now) classes.now)) }
 {
     match classes {
         [] => 0,
@@ -96,7 +96,7 @@ pub(crate) fn base_sum<L: SoundLayout>(
     requires layout { L.lays_out layout.now h.now }
     requires blocks { AreBlocks h.now (places_of h.now (L.rows layout.now)) blocks.now }
     requires known { All (λ (base : Base ClassId). base.class.0 < length blocks.now) bases.now }
-    ensures { result ≡ cut (lengths_of h.now (places_of h.now (L.rows layout.now)) (map class_of_base (filter (is_built_base h.now) bases.now))) }
+    ensures { result ≡ capped_count (lengths_of h.now (places_of h.now (L.rows layout.now)) (map class_of_base (filter (is_built_base h.now) bases.now))) }
 {
     match bases {
         [] => 0,
@@ -122,7 +122,7 @@ pub(crate) fn base_before<L: SoundLayout>(
     requires layout { L.lays_out layout.now h.now }
     requires blocks { AreBlocks h.now (places_of h.now (L.rows layout.now)) blocks.now }
     requires known { All (λ (base : Base ClassId). base.class.0 < length blocks.now) bases.now }
-    ensures { result ≡ cut (lengths_before h.now (places_of h.now (L.rows layout.now)) b (map class_of_base (filter (is_built_base h.now) bases.now))) }
+    ensures { result ≡ capped_count (lengths_before h.now (places_of h.now (L.rows layout.now)) b (map class_of_base (filter (is_built_base h.now) bases.now))) }
 {
     match bases {
         [] => 0,

@@ -5,7 +5,7 @@
 //! over the subobjects of the class, and kept for all its plans (`ClassPointers`). Where no base has a virtual pointer of its
 //! own, no subobject is listed. What all classes need is kept once for the program (`ClassTables`).
 //!
-//! It owns when those tables are those of a class (`AreClassTables`, `ArePointers`), what a site is (`IsPlanSite`) and when
+//! It owns when those tables are those of a class (`AreKeptTables`, `ArePointers`), what a site is (`IsPlanSite`) and when
 //! items are an end of a plan (`AreLeft`). The layer above may rely on `push_event`, `push_tail` and `push_block`, which put
 //! the ops of the definitions behind others, and on `event_append`: what follows an event's ops stands behind them.
 #![tactic(auto)]

@@ -8,10 +8,10 @@ ghost use Rattle.byte_code.specs.declared.op.PointSource.TheVariants.{Directory,
 ghost use Rattle.path_plan.specs.Plans.{AsBase, InFull};
 ghost use Rattle.abi_slots.specs.Listing.{vbase_number};
 ghost use Rattle.abi_slots.specs.Slots.{word_number};
-ghost use Rattle.abi_vtt.specs.Vtts.{has_virtual};
+ghost use Rattle.abi_vtt.specs.Vtts.{has_vtt};
 ghost use Rattle.code_blocks.specs.Blocks.{point_distance, setting_by};
 ghost use Rattle.code_plans.specs.PlanSites.{IsLaidPlanSite, IsPlanSiteAt, plan_places, plan_setup};
-ghost use Rattle.code_plans.specs.invariants.Walks.{number_of};
+ghost use Rattle.code_plans.specs.invariants.Walks.{vtt_word_number};
 
 use crate::plan_sites::PlanSite;
 use crate::walks::Point;
@@ -27,7 +27,7 @@ use foundation::NoMemory;
 fn source<L: SoundLayout>(site: &PlanSite<L>, c: ClassId, owner: Whose, number: u32) -> PointSource
     requires layout { L.lays_out site.now.layout.now site.now.h.now }
     requires known { c.0 < length site.now.h.now }
-    ensures { result ≡ (if has_virtual site.now.h.now c then Vtt owner c.0 number else Directory c.0) }
+    ensures { result ≡ (if has_vtt site.now.h.now c then Vtt owner c.0 number else Directory c.0) }
 {
     if has_virtual(site.h, site.layout, c) {
         PointSource::Vtt {
@@ -51,7 +51,7 @@ pub(crate) fn full_setting<L: SoundLayout>(
     requires known { c.0 < length site.now.h.now }
     requires valid { IsSubobject site.now.h.now c s.now }
     requires distance { point.distance ≡ point_distance (plan_setup L.rows site.now) c s.now }
-    requires number { has_virtual site.now.h.now c ≡ true → point.number ≡ number_of (plan_setup L.rows site.now) c s.now }
+    requires number { has_vtt site.now.h.now c ≡ true → point.number ≡ vtt_word_number (plan_setup L.rows site.now) c s.now }
     ensures { result ≡ setting_by (plan_setup L.rows site.now) InFull c s.now s.now.root }
 {
     Setting {
@@ -105,7 +105,7 @@ pub(crate) fn base_setting<L: SoundLayout>(
     requires known { c.0 < length site.now.h.now }
     requires valid { IsSubobject site.now.h.now c s.now }
     requires distance { point.distance ≡ point_distance (plan_setup L.rows site.now) c s.now }
-    requires number { has_virtual site.now.h.now c ≡ true → point.number ≡ number_of (plan_setup L.rows site.now) c s.now }
+    requires number { has_vtt site.now.h.now c ≡ true → point.number ≡ vtt_word_number (plan_setup L.rows site.now) c s.now }
     ensures { IfOk result (λ setting. setting ≡ setting_by (plan_setup L.rows site.now) AsBase c s.now s.now.root) }
 {
     let source = source(site, c, Whose::Handed, point.number);

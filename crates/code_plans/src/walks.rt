@@ -6,10 +6,10 @@ ghost use Rattle.cxx_subobject.specs.declared.Subobject.{Subobject};
 ghost use Rattle.cxx_subobject.specs.Subobjects.{class_of};
 ghost use Rattle.abi_slots.specs.Limits.{most_offsets};
 ghost use Rattle.abi_vtt.specs.Blocks.{before_by_class, words_by_class};
-ghost use Rattle.abi_vtt.specs.Vtts.{has_virtual};
+ghost use Rattle.abi_vtt.specs.Vtts.{has_vtt};
 ghost use Rattle.code_blocks.specs.Blocks.{is_set_apart, point_distance};
 ghost use Rattle.code_plans.specs.PlanSites.{IsLaidPlanSite, IsPlanSiteAt, plan_places, plan_setup};
-ghost use Rattle.code_plans.specs.invariants.Walks.{IsAtPart, IsPast, cut, first_or, number_of};
+ghost use Rattle.code_plans.specs.invariants.Walks.{IsAtPart, IsPast, capped_count, first_words_or, vtt_word_number};
 
 use crate::lengths::base_sum;
 use crate::parts::needs_word;
@@ -72,7 +72,7 @@ fn table_words<L: SoundLayout>(site: &PlanSite<L>, d: ClassId) -> u32
 
 /// The words before the first address point, where a table with so many words before its own comes next.
 fn first_or(first: Option<u32>, before: u32) -> u32
-    ensures { result ≡ first_or first before }
+    ensures { result ≡ first_words_or first before }
 {
     match first {
         None => before,
@@ -82,7 +82,7 @@ fn first_or(first: Option<u32>, before: u32) -> u32
 
 /// The number of the word behind this one, where the subobject needs one.
 fn item_after(item: u32, needs: bool) -> u32
-    ensures { result ≡ cut (item + (if needs then 1 else 0)) }
+    ensures { result ≡ capped_count (item + (if needs then 1 else 0)) }
 {
     if needs { item.saturating_add(1) } else { item }
 }
@@ -117,7 +117,7 @@ pub(crate) fn passed<L: SoundLayout>(
 
 /// How many bytes behind the first address point of a group the next table's stands.
 fn distance(walk: &Walk, before: u32) -> u64
-    ensures { result ≡ 8 * (walk.now.words + before - first_or walk.now.first before) }
+    ensures { result ≡ 8 * (walk.now.words + before - first_words_or walk.now.first before) }
 {
     let first = first_or(walk.first, before) as u64;
     8 * (walk.words as u64 + before as u64).saturating_sub(first)
@@ -138,7 +138,7 @@ pub(crate) fn point_of<L: SoundLayout>(
     requires at { IsAtPart site.now.h.now (plan_places L.rows site.now) c s.now walk.now }
     requires apart { is_set_apart (plan_setup L.rows site.now) s.now ≡ true }
     ensures distance { result.distance ≡ point_distance (plan_setup L.rows site.now) c s.now }
-    ensures number { has_virtual site.now.h.now c ≡ true → result.number ≡ number_of (plan_setup L.rows site.now) c s.now }
+    ensures number { has_vtt site.now.h.now c ≡ true → result.number ≡ vtt_word_number (plan_setup L.rows site.now) c s.now }
 {
     match s.root {
         Root::Whole => Point {

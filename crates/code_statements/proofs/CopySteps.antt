@@ -26,17 +26,17 @@ use Rattle.byte_code.specs.declared.op.Op.TheVariants.{Does}
 use Rattle.code_ops.specs.Operands.{operand_register, base_ops, ops_of}
 use Rattle.code_ops.specs.Arguments.{Block, free}
 use Rattle.code_statements.specs.CopyOps.{copy_ops, subobject_copies, own_copies, object_copies, typed_copies}
-use Rattle.code_statements.specs.invariants.Pushes.{AddsOwn, AddsBases, AddsMember, AddsObject}
+use Rattle.code_statements.specs.invariants.Pushes.{CopiesOwn, CopiesBases, CopiesMember, CopiesWholeObject}
 use Rattle.code_statements.proofs.Pushed.{items_flat}
 
 -- the leaves of an object of class d, as the definition counts classes
-pub object_copied : (x : Setup) (sides : Sides) (d : ClassId) (at : ℕ) (mid new : List Op) → AddsObject x sides d at mid new → (n : ℕ) → d.0 < n → new ≡ mid ++ object_copies x sides n d at
+pub object_copied : (x : Setup) (sides : Sides) (d : ClassId) (at : ℕ) (mid new : List Op) → CopiesWholeObject x sides d at mid new → (n : ℕ) → d.0 < n → new ≡ mid ++ object_copies x sides n d at
 object_copied x sides d at mid new more zero low = absurd (omega arith)
 object_copied x sides d at mid new more (suc n) low = more.adds n (omega arith)
 
 -- the elements of a member that are numbers or pointers
 pub values_whole : (x : Setup) (sides : Sides) (b : ClassId) (leaf : LeafWidth) (type : ValueType ClassId) (member : Member ClassId) (start : ℕ) (old new : List Op) → member.ty ≡ Value type → new ≡ old ++ map (λ i. copy_op leaf sides.to sides.from (start + i * size_of_type (places x) member.ty)) (upto (elements_of member.count))
-    → AddsMember x sides b leaf member start old new
+    → CopiesMember x sides b leaf member start old new
 values_whole x sides b leaf type member start old new is added = record {
   adds = λ n low.
       let at : ℕ → ℕ = λ i. start + i * size_of_type (places x) member.ty in
@@ -44,7 +44,7 @@ values_whole x sides b leaf type member start old new is added = record {
 }
 
 pub bases_next : (x : Setup) → IsHierarchy x.h → (sides : Sides) (d b : ClassId) (offset start : ℕ) (list : List Subobject) (j : ℕ) (s : Subobject) (old mid new : List Op) → j < length list → s ≡ get_or list j s → IsSubobject x.h d s → class_of s ≡ Some b → start ≡ offset + (places x).place d s
-    → AddsBases x sides d offset (take j list) old mid → AddsOwn x sides b start mid new → AddsBases x sides d offset (take (j + 1) list) old new
+    → CopiesBases x sides d offset (take j list) old mid → CopiesOwn x sides b start mid new → CopiesBases x sides d offset (take (j + 1) list) old new
 bases_next x keeps sides d b offset start list j s old mid new less at valid class is before more = record {
   adds = λ n low.
       let lower = class_low x.h keeps d b s valid class in
@@ -58,7 +58,7 @@ bases_next x keeps sides d b offset start list j s old mid new less at valid cla
 
 -- a subobject of class d of two parts of class c: the ways to it in both, and its own members
 pub subobject_copied : (b : Block) (to from : ℕ) (c d : ClassId) (s : Subobject) (first second : ℕ) (none one two list : List Finish) (old mid new : List Op) → first ≡ free b 2 → second ≡ free b 3 → none ≡ [] → one ≡ none ++ base_ops b.x c s first to → two ≡ one ++ base_ops b.x c s second from → list ≡ two
-    → mid ≡ old ++ ops_of list → class_of s ≡ Some d → d.0 ≤ c.0 → AddsOwn b.x (record { to = first; from = second }) d 0 mid new → new ≡ old ++ subobject_copies b to from c s
+    → mid ≡ old ++ ops_of list → class_of s ≡ Some d → d.0 ≤ c.0 → CopiesOwn b.x (record { to = first; from = second }) d 0 mid new → new ≡ old ++ subobject_copies b to from c s
 subobject_copied b to from c d s first second none one two list old mid new is_first is_second empty ways_to ways_from listed done class low added =
     let x = b.x in
     let give = λ (f g : ℕ). ops_of (base_ops x c s f to) ++ (ops_of (base_ops x c s g from) ++ own_copies x (object_copies x (record { to = f; from = g }) c.0) (record { to = f; from = g }) (class_of s) 0) in

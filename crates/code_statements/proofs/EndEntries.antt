@@ -20,7 +20,7 @@ use Rattle.abi_sound.specs.Places.{Places, places_of}
 use Rattle.abi_sound.specs.Sound.{IsSoundLayout}
 use Rattle.abi_slots.specs.declared.words.CodeKind.TheVariants.{Plain, Complete, Deleting}
 use Rattle.abi_slots.specs.declared.words.EntryKey.{EntryKey}
-use Rattle.abi_slots.specs.Listing.{key, kinds_in, keys_of, own_keys, needs_return, shares, same_function, same_key, or_itself, listing, place_in, entry_number, primary_entries, new_entries, entries_in, entries}
+use Rattle.abi_slots.specs.Listing.{entry_key, kinds_in, keys_of, own_keys, needs_return, shares, same_function_id, same_entry_key, or_itself, listing, first_position, entry_number, primary_entries, new_entries, entries_in, entries}
 use Rattle.abi_slots.specs.Slots.{first_kind, first_key}
 use Rattle.abi_slots.proofs.Lists.{Item, item_flat, any_item}
 use Rattle.abi_slots.proofs.Names.{key_itself}
@@ -29,15 +29,15 @@ use Rattle.abi_slots.proofs.Listings.{ArePrimaries, entry_there}
 -- the keys stand one by one, but those of a destructor in pairs, the complete one first
 pub data AreBlocks : List EntryKey → Type 0 where
   no_block : AreBlocks []
-  plain_block : (f : FunctionId) (rest : List EntryKey) → AreBlocks rest → AreBlocks (key f Plain ∷ rest)
-  end_block : (f : FunctionId) (rest : List EntryKey) → AreBlocks rest → AreBlocks (key f Complete ∷ key f Deleting ∷ rest)
+  plain_block : (f : FunctionId) (rest : List EntryKey) → AreBlocks rest → AreBlocks (entry_key f Plain ∷ rest)
+  end_block : (f : FunctionId) (rest : List EntryKey) → AreBlocks rest → AreBlocks (entry_key f Complete ∷ entry_key f Deleting ∷ rest)
 
 blocks_join : (xs ys : List EntryKey) → AreBlocks xs → AreBlocks ys → AreBlocks (xs ++ ys)
 blocks_join xs ys no_block b = b
 blocks_join xs ys (plain_block f rest a) b = plain_block f (rest ++ ys) (blocks_join rest ys a b)
 blocks_join xs ys (end_block f rest a) b = end_block f (rest ++ ys) (blocks_join rest ys a b)
 
-kinds_blocks : (f : FunctionId) (s : Option Signature) → AreBlocks (map (key f) (kinds_in s))
+kinds_blocks : (f : FunctionId) (s : Option Signature) → AreBlocks (map (entry_key f) (kinds_in s))
 kinds_blocks f None = no_block
 kinds_blocks f (Some (named n types)) = plain_block f [] no_block
 kinds_blocks f (Some destructor) = end_block f [] no_block
@@ -47,7 +47,7 @@ keys_blocks h [] = no_block
 keys_blocks h (f ∷ fs) = blocks_join (keys_of h f) (flat_map (keys_of h) fs) (kinds_blocks f (signature_of h f)) (keys_blocks h fs)
 
 -- the two entries of a destructor are shared alike
-same_shared : (h : Classes) (l : Places) (f : FunctionId) (old : List EntryKey) → AreBlocks old → list_any (shares h l (key f Complete)) old ≡ list_any (shares h l (key f Deleting)) old
+same_shared : (h : Classes) (l : Places) (f : FunctionId) (old : List EntryKey) → AreBlocks old → list_any (shares h l (entry_key f Complete)) old ≡ list_any (shares h l (entry_key f Deleting)) old
 same_shared h l f old no_block = refl
 same_shared h l f old (plain_block g rest b) = same_shared h l f rest b
 same_shared h l f old (end_block g rest b) = ap (λ t. (same_name h f g && not (needs_return h l f g)) || t) (same_shared h l f rest b)
@@ -56,13 +56,13 @@ new_blocks : (h : Classes) (l : Places) (old keys : List EntryKey) → AreBlocks
 new_blocks h l old keys a no_block = no_block
 new_blocks h l old keys a (plain_block f rest b) =
     let more = new_blocks h l old rest a b in
-    split (not (list_any (shares h l (key f Plain)) old)) (λ t. AreBlocks (if t then key f Plain ∷ new_entries h l old rest else new_entries h l old rest))
+    split (not (list_any (shares h l (entry_key f Plain)) old)) (λ t. AreBlocks (if t then entry_key f Plain ∷ new_entries h l old rest else new_entries h l old rest))
     (λ t. plain_block f (new_entries h l old rest) more) (λ t. more)
 new_blocks h l old keys a (end_block f rest b) =
     let more = new_blocks h l old rest a b in
-    subst (λ (t : Bool). AreBlocks (if not (list_any (shares h l (key f Complete)) old) then key f Complete ∷ (if not t then key f Deleting ∷ new_entries h l old rest else new_entries h l old rest) else (if not t then key f Deleting ∷ new_entries h l old rest else new_entries h l old rest)))
+    subst (λ (t : Bool). AreBlocks (if not (list_any (shares h l (entry_key f Complete)) old) then entry_key f Complete ∷ (if not t then entry_key f Deleting ∷ new_entries h l old rest else new_entries h l old rest) else (if not t then entry_key f Deleting ∷ new_entries h l old rest else new_entries h l old rest)))
     (same_shared h l f old a)
-    (split (not (list_any (shares h l (key f Complete)) old)) (λ t. AreBlocks (if t then key f Complete ∷ (if t then key f Deleting ∷ new_entries h l old rest else new_entries h l old rest) else (if t then key f Deleting ∷ new_entries h l old rest else new_entries h l old rest)))
+    (split (not (list_any (shares h l (entry_key f Complete)) old)) (λ t. AreBlocks (if t then entry_key f Complete ∷ (if t then entry_key f Deleting ∷ new_entries h l old rest else new_entries h l old rest) else (if t then entry_key f Deleting ∷ new_entries h l old rest else new_entries h l old rest)))
     (λ t. end_block f (new_entries h l old rest) more) (λ t. more))
 
 -- the entries of each class are so
@@ -80,52 +80,52 @@ entries_blocks h l (suc n) c =
 
 -- the two entries that a destructor has are those of one function
 pub data Twins : EntryKey → EntryKey → Type 0 where
-  twins : (g : FunctionId) → Twins (key g Complete) (key g Deleting)
+  twins : (g : FunctionId) → Twins (entry_key g Complete) (entry_key g Deleting)
 
-found_twins : (h : Classes) (l : Places) (f : FunctionId) (old : List EntryKey) → AreBlocks old → Twins (or_itself (key f Complete) (find (shares h l (key f Complete)) old)) (or_itself (key f Deleting) (find (shares h l (key f Deleting)) old))
+found_twins : (h : Classes) (l : Places) (f : FunctionId) (old : List EntryKey) → AreBlocks old → Twins (or_itself (entry_key f Complete) (find (shares h l (entry_key f Complete)) old)) (or_itself (entry_key f Deleting) (find (shares h l (entry_key f Deleting)) old))
 found_twins h l f old no_block = twins f
 found_twins h l f old (plain_block g rest b) = found_twins h l f rest b
 found_twins h l f old (end_block g rest b) =
     split (same_name h f g && not (needs_return h l f g))
-    (λ t. Twins (or_itself (key f Complete) (if t then Some (key g Complete) else find (shares h l (key f Complete)) rest)) (or_itself (key f Deleting) (if t then Some (key g Deleting) else find (shares h l (key f Deleting)) rest)))
+    (λ t. Twins (or_itself (entry_key f Complete) (if t then Some (entry_key g Complete) else find (shares h l (entry_key f Complete)) rest)) (or_itself (entry_key f Deleting) (if t then Some (entry_key g Deleting) else find (shares h l (entry_key f Deleting)) rest)))
     (λ t. twins g) (λ t. found_twins h l f rest b)
 
 -- where the complete one is listed the deleting one stands next
-next_place : (g : FunctionId) (all : List EntryKey) → AreBlocks all → list_any (same_key (key g Complete)) all ≡ true → place_in (same_key (key g Deleting)) all ≡ place_in (same_key (key g Complete)) all + 1
+next_place : (g : FunctionId) (all : List EntryKey) → AreBlocks all → list_any (same_entry_key (entry_key g Complete)) all ≡ true → first_position (same_entry_key (entry_key g Deleting)) all ≡ first_position (same_entry_key (entry_key g Complete)) all + 1
 next_place g all no_block is = cc
 next_place g all (plain_block f rest b) is =
-    split (same_function g f) (λ t. list_any (same_key (key g Complete)) rest ≡ true → ((t && false) || list_any (same_key (key g Complete)) rest) ≡ true → (if (t && false) then 0 else suc (place_in (same_key (key g Deleting)) rest)) ≡ (if (t && false) then 0 else suc (place_in (same_key (key g Complete)) rest)) + 1)
+    split (same_function_id g f) (λ t. list_any (same_entry_key (entry_key g Complete)) rest ≡ true → ((t && false) || list_any (same_entry_key (entry_key g Complete)) rest) ≡ true → (if (t && false) then 0 else suc (first_position (same_entry_key (entry_key g Deleting)) rest)) ≡ (if (t && false) then 0 else suc (first_position (same_entry_key (entry_key g Complete)) rest)) + 1)
     (λ t there e. let i = next_place g rest b there in omega arith)
     (λ t there e. let i = next_place g rest b there in omega arith)
-    (later (same_function g f) (list_any (same_key (key g Complete)) rest) is) is
+    (later (same_function_id g f) (list_any (same_entry_key (entry_key g Complete)) rest) is) is
   where
     later : (s t : Bool) → ((s && false) || t) ≡ true → t ≡ true
     later true t e = e
     later false t e = e
 next_place g all (end_block f rest b) is =
-    split (same_function g f) (λ t. ((t && true) || ((t && false) || list_any (same_key (key g Complete)) rest)) ≡ true → (if (t && false) then 0 else suc (if (t && true) then 0 else suc (place_in (same_key (key g Deleting)) rest))) ≡ (if (t && true) then 0 else suc (if (t && false) then 0 else suc (place_in (same_key (key g Complete)) rest))) + 1)
+    split (same_function_id g f) (λ t. ((t && true) || ((t && false) || list_any (same_entry_key (entry_key g Complete)) rest)) ≡ true → (if (t && false) then 0 else suc (if (t && true) then 0 else suc (first_position (same_entry_key (entry_key g Deleting)) rest))) ≡ (if (t && true) then 0 else suc (if (t && false) then 0 else suc (first_position (same_entry_key (entry_key g Complete)) rest))) + 1)
     (λ t e. refl) (λ t e. let i = next_place g rest b e in omega arith) is
 
 module _ (h : Classes) (l : Places) (keeps : IsHierarchy h) (are : ArePrimaries h l) where
-  by_twins : (all : List EntryKey) (a b : EntryKey) → AreBlocks all → list_any (same_key a) all ≡ true → Twins a b → place_in (same_key b) all ≡ place_in (same_key a) all + 1
+  by_twins : (all : List EntryKey) (a b : EntryKey) → AreBlocks all → list_any (same_entry_key a) all ≡ true → Twins a b → first_position (same_entry_key b) all ≡ first_position (same_entry_key a) all + 1
   by_twins all a b blocks there (twins g) = next_place g all blocks there
 
-  pub deleting_next : (f : FunctionId) → f.class.0 < length h → Contains (own h f.class) f → signature_of h f ≡ Some destructor → entry_number h l (key f Deleting) ≡ entry_number h l (first_key h f) + 1
+  pub deleting_next : (f : FunctionId) → f.class.0 < length h → Contains (own h f.class) f → signature_of h f ≡ Some destructor → entry_number h l (entry_key f Deleting) ≡ entry_number h l (first_key h f) + 1
   deleting_next f known listed is =
       let all = entries h l f.class in
       let at = index_of (own h f.class) f (has_from_contains (own h f.class) f listed) in
-      let mine : Item (keys_of h f) (key f Complete) = record { index = 0; there = ap (λ (s : Option Signature). slice_get (map (key f) (kinds_in s)) 0) is } in
-      let item = item_flat (keys_of h) (own h f.class) f (key f Complete) (record { index = at.0; there = at.1 }) mine in
-      let stands = entry_there h l keeps are (key f Complete) known item in
-      let there = any_item (same_key (listing h l (key f Complete))) all (listing h l (key f Complete)) (record { index = entry_number h l (key f Complete); there = stands }) (key_itself (listing h l (key f Complete))) in
-      by_twins all (listing h l (key f Complete)) (listing h l (key f Deleting)) (entries_blocks h l (f.class.0 + 1) f.class) there (found_twins h l f (primary_entries (entries h l) (l.primary f.class)) (before_blocks (entries h l) (λ b. entries_blocks h l (b.0 + 1) b) (l.primary f.class)))
-      ∙ ap (λ (s : Option Signature). entry_number h l (key f (first_kind s)) + 1) (sym is)
+      let mine : Item (keys_of h f) (entry_key f Complete) = record { index = 0; there = ap (λ (s : Option Signature). slice_get (map (entry_key f) (kinds_in s)) 0) is } in
+      let item = item_flat (keys_of h) (own h f.class) f (entry_key f Complete) (record { index = at.0; there = at.1 }) mine in
+      let stands = entry_there h l keeps are (entry_key f Complete) known item in
+      let there = any_item (same_entry_key (listing h l (entry_key f Complete))) all (listing h l (entry_key f Complete)) (record { index = entry_number h l (entry_key f Complete); there = stands }) (key_itself (listing h l (entry_key f Complete))) in
+      by_twins all (listing h l (entry_key f Complete)) (listing h l (entry_key f Deleting)) (entries_blocks h l (f.class.0 + 1) f.class) there (found_twins h l f (primary_entries (entries h l) (l.primary f.class)) (before_blocks (entries h l) (λ b. entries_blocks h l (b.0 + 1) b) (l.primary f.class)))
+      ∙ ap (λ (s : Option Signature). entry_number h l (entry_key f (first_kind s)) + 1) (sym is)
 
 -- the virtual destructor of a class has an entry there
 pub own_end : (h : Classes) → IsHierarchy h → (c : ClassId) → is_virtual h (destructor_of h c) ≡ true → Contains (own h c) (destructor_of h c)
 own_end h keeps c is = contains_from_has (own h c) (destructor_of h c) (virtual_own h keeps c (destructor_of h c) refl (test_virtual h (destructor_of h c) is))
 
 pub end_entry : (h : Classes) (rows : List ClassLayout) → IsHierarchy h → IsSoundLayout h rows → (c : ClassId) → c.0 < length h → is_virtual h (destructor_of h c) ≡ true
-    → entry_number h (places_of h rows) (key (destructor_of h c) Deleting) ≡ entry_number h (places_of h rows) (first_key h (destructor_of h c)) + 1
+    → entry_number h (places_of h rows) (entry_key (destructor_of h c) Deleting) ≡ entry_number h (places_of h rows) (first_key h (destructor_of h c)) + 1
 end_entry h rows keeps sound c known is =
     deleting_next h (places_of h rows) keeps (record { direct = λ d b low e. (sound.each d low).direct b e; virtual = λ d v low e. (sound.each d low).virtual v e }) (destructor_of h c) known (own_end h keeps c is) (destructor_signature h c known)

@@ -20,7 +20,7 @@ use Rattle.cxx_subobject.specs.Locations.{IsElement, LeadsTo, to_subobject, to_v
 use Rattle.cxx_subobject.proofs.PathLemmas.{class_there}
 use Rattle.abi_sound.specs.declared.class_layout.ClassLayout.{ClassLayout}
 use Rattle.abi_sound.specs.Places.{Places, places_of}
-use Rattle.abi_sound.specs.Locations.{place_at, place_behind, element_place, element_class, last_member, span_of}
+use Rattle.abi_sound.specs.Locations.{place_along_hops, place_behind, element_place, element_class, last_member, span_of}
 use Rattle.abi_sound.specs.Sound.{IsSoundLayout}
 use Rattle.abi_sound.proofs.PlaceLemmas.{element_place_is, element_class_is}
 use Rattle.code_statements.specs.invariants.CopyFits.{FitsObject, FitsMember, FitsOwn}
@@ -109,10 +109,10 @@ span_low h l place (Some member) = omega arith
 pub start_fits : (h : Classes) → IsHierarchy h → (rows : List ClassLayout) → IsSoundLayout h rows → (b : ClassId) → b.0 < length h → FitsOwn h (places_of h rows) b 0
 start_fits h keeps rows sound b known = own_fits h keeps (places_of h rows) b b 0 (whole_of b) whole_fits (whole [] tt) refl
   where
-    within : (hops : List Hop) (type : FieldType ClassId) → LeadsTo h b hops type → 0 + place_at h (places_of h rows) b hops < 2 ^ 21
+    within : (hops : List Hop) (type : FieldType ClassId) → LeadsTo h b hops type → 0 + place_along_hops h (places_of h rows) b hops < 2 ^ 21
     within hops (Value t) leads =
         let inside = (sound.each b known).leaf_inside t hops leads in
-        let low = span_low h (places_of h rows) (place_at h (places_of h rows) b hops) (last_member h (Some b) hops) in
+        let low = span_low h (places_of h rows) (place_along_hops h (places_of h rows) b hops) (last_member h (Some b) hops) in
         let size = (sound.each b known).bounded in
         omega arith
     within hops (Object d) leads = let inside = (sound.each b known).begins_inside d hops leads in let size = (sound.each b known).bounded in omega arith

@@ -39,7 +39,7 @@ use Rattle.code_ops.specs.Uses.{check_ops, reads, views_if, convert_used, arrow_
 use Rattle.code_ops.specs.PlaceOps.{place_ops, place_used, place_type}
 use Rattle.code_ops.specs.Leaves.{place_leaf, set_check, load_op}
 use Rattle.code_statements.specs.Hints.{hint_of}
-use Rattle.code_ops.specs.Arguments.{Block, free, class_at, argument_front, argument_used, argument_ops, taken_ops, checked_taken, arguments_front, arguments_used, arguments_ops, arguments_registers}
+use Rattle.code_ops.specs.Arguments.{Block, free, pointed_class, argument_front, argument_used, argument_ops, taken_ops, checked_taken, arguments_front, arguments_used, arguments_ops, arguments_registers}
 
 -- so many bytes back, modulo 2 ^ 64
 abbrev pub back_by : ℕ → ℕ
@@ -59,10 +59,10 @@ arith_kind NotEqual = NotEqualKind
 -- casts: `dynamic_cast` and a cast down make a pointer that is then converted
 
 abbrev pub cast_used : Block → TypedCast → ℕ → TypedOperand → List Used
-cast_used b SameClass r p = reads b.scope r p ++ (Guards (operand_register r p) 0 (class_at b p).0 ∷ [])
-cast_used b (Up i) r p = reads b.scope r p ++ (Guards (operand_register r p) 0 (class_at b p).0 ∷ views_if (is_shared i) (operand_register r p) 0 (class_at b p))
-cast_used b (Down target i) r p = reads b.scope r p ++ (Guards (operand_register r p) 0 (class_at b p).0 ∷ Downs (operand_register r p) (back_by ((places b.x).place target i)) target.0 ∷ [])
-cast_used b (Dynamic target) r p = reads b.scope r p ++ (Guards (operand_register r p) 0 (class_at b p).0 ∷ Views (operand_register r p) 0 (class_at b p).0 ∷ [])
+cast_used b SameClass r p = reads b.scope r p ++ (Guards (operand_register r p) 0 (pointed_class b p).0 ∷ [])
+cast_used b (Up i) r p = reads b.scope r p ++ (Guards (operand_register r p) 0 (pointed_class b p).0 ∷ views_if (is_shared i) (operand_register r p) 0 (pointed_class b p))
+cast_used b (Down target i) r p = reads b.scope r p ++ (Guards (operand_register r p) 0 (pointed_class b p).0 ∷ Downs (operand_register r p) (back_by ((places b.x).place target i)) target.0 ∷ [])
+cast_used b (Dynamic target) r p = reads b.scope r p ++ (Guards (operand_register r p) 0 (pointed_class b p).0 ∷ Views (operand_register r p) 0 (pointed_class b p).0 ∷ [])
 
 abbrev pub cast_ops : Block → TypedCast → (to from : ℕ) → ClassId → List Op
 cast_ops b SameClass to from c = Does (Move to from) ∷ []
@@ -170,7 +170,7 @@ right_used b (Address place d) c = place_used b.x b.scope place (free b 0)
 right_used b (Call call) c = call_used b call
 right_used b (New d) c = []
 right_used b (Cast cast p) c = cast_used b cast (free b 0) p
-right_used b (TypeEqual p d) c = arrow_used b.scope (free b 0) p (class_at b p) ++ (Views (operand_register (free b 0) p) 0 (class_at b p).0 ∷ [])
+right_used b (TypeEqual p d) c = arrow_used b.scope (free b 0) p (pointed_class b p) ++ (Views (operand_register (free b 0) p) 0 (pointed_class b p).0 ∷ [])
 
 -- a leaf is loaded where it is set; a pointer that was loaded is read
 abbrev pub loaded_used : ValueType ClassId → Conversion → ℕ → List Used
@@ -194,5 +194,5 @@ right_ops b at v (Read place) c = load_ops b place (free b 2) (free b 1) ++ (che
 right_ops b at v (Address place d) c = ops_of (place_ops b.x place (free b 1) (operand_register (free b 0) place.pointer)) ++ ops_of (checked_taken b v (Some d) c (free b 2) (free b 1))
 right_ops b at v (Call call) c = call_ops b at call (result_taken b v (pointee (return_of b.x.h call.function)) (result_class b.x call.function) c)
 right_ops b at v (New d) c = NewOp ((places b.x).size d) d.0 (at (PlanCode Constructs InFull d)) (object_taken b v d c) ∷ []
-right_ops b at v (Cast cast p) c = cast_ops b cast (free b 1) (operand_register (free b 0) p) (class_at b p) ++ ops_of (checked_taken b v (Some (cast_class cast (class_at b p))) c (free b 2) (free b 1))
+right_ops b at v (Cast cast p) c = cast_ops b cast (free b 1) (operand_register (free b 0) p) (pointed_class b p) ++ ops_of (checked_taken b v (Some (cast_class cast (pointed_class b p))) c (free b 2) (free b 1))
 right_ops b at v (TypeEqual p d) c = TypeOf (free b 1) (operand_register (free b 0) p) ∷ Const (free b 2) d.0 ∷ Arith EqualKind word_width (free b 3) (free b 1) (free b 2) ∷ ops_of (taken_ops b v None c (free b 4) (free b 3))

@@ -17,7 +17,7 @@ use Rattle.cxx_program.specs.declared.operand.TypedOperand.TheVariants.{Variable
 use Rattle.cxx_program.specs.Typed.{Scope, variable_type}
 use Rattle.path_plan.specs.Plans.{InFull}
 use Rattle.path_model.specs.Effects.{block_at}
-use Rattle.abi_slots.specs.Listing.{pointee, entry_number, key}
+use Rattle.abi_slots.specs.Listing.{pointee, entry_number, entry_key}
 use Rattle.abi_slots.specs.declared.words.CodeKind.TheVariants.{Deleting}
 use Rattle.byte_code.specs.declared.op.Finish.TheVariants.{Move}
 use Rattle.byte_code.specs.declared.op.Op.{Op}
@@ -127,7 +127,7 @@ kind_used b (Dump p c) = reads b.scope (free b 0) p ++ (Follows (operand_registe
 
 -- a `delete` runs the deleting destructor: that of the view, or without dispatch that of the class
 abbrev pub delete_op : Block → (Routine → ℕ) → Bool → ClassId → ℕ → Op
-delete_op b at true c r = DeleteEntry r (entry_number b.x.h (places b.x) (key (destructor_of b.x.h c) Deleting))
+delete_op b at true c r = DeleteEntry r (entry_number b.x.h (places b.x) (entry_key (destructor_of b.x.h c) Deleting))
 delete_op b at false c r = DeleteCode r (at (PlanCode Deletes InFull c))
 
 -- what it does: `at` gives the number of the first block of a routine, `to` that of a statement of the same body; n is the number of the statement, and next that of the one to which control goes on

@@ -1,7 +1,7 @@
 //! Casts: what is tested of the pointer, and what is done with it.
 
 ghost use Rattle.std.specs.Prelude.{◌≡◌, ◌++◌, OnOk};
-ghost use Rattle.code_ops.specs.Arguments.{class_at};
+ghost use Rattle.code_ops.specs.Arguments.{pointed_class};
 ghost use Rattle.code_statements.specs.Rights.{back_by, cast_used, cast_ops, cast_class};
 ghost use Rattle.code_ops.specs.invariants.Fits.{FitsOperand, FitsBase};
 ghost use Rattle.code_ops.specs.invariants.Sites.{site_places, site_block, IsLaidSite};
@@ -37,7 +37,7 @@ fn distance_down<L: SoundLayout>(site: &Site<L>, target: ClassId, i: &Subobject)
 
 /// The class that an operand points to.
 pub fn class_at<L: SoundLayout>(site: &Site<L>, operand: TypedOperand) -> ClassId
-    ensures { result ≡ class_at (site_block L.rows site.now) operand }
+    ensures { result ≡ pointed_class (site_block L.rows site.now) operand }
 {
     class_or_first(site.operand_class(operand))
 }
@@ -52,7 +52,7 @@ pub fn push_cast_used<L: SoundLayout>(
 ) -> Result<(), NoMemory>
     requires laid { IsLaidSite L.lays_out L.rows site.now }
     requires operand { FitsOperand p }
-    requires fits { FitsCast site.now.h.now (class_at (site_block L.rows site.now) p) cast.now }
+    requires fits { FitsCast site.now.h.now (pointed_class (site_block L.rows site.now) p) cast.now }
     ensures { OnOk result (uses.new ≡ uses.old ++ cast_used (site_block L.rows site.now) cast.now r p) }
 {
     let register = operand_register(r, p);

@@ -13,7 +13,7 @@ ghost use Rattle.code_ops.specs.invariants.Fits.{FitsBase, FitsOperand};
 ghost use Rattle.code_ops.specs.invariants.Sites.{site_setup, site_places, site_block, IsLaidSite};
 ghost use Rattle.code_statements.specs.CopyOps.{subobject_copies, copy_ops};
 ghost use Rattle.code_statements.specs.invariants.CopyFits.{FitsMember, FitsObject, FitsOwn, IsSiteOf};
-ghost use Rattle.code_statements.specs.invariants.Pushes.{AddsObjects, AddsMember, AddsOwn, AddsObject};
+ghost use Rattle.code_statements.specs.invariants.Pushes.{CopiesObjects, CopiesMember, CopiesOwn, CopiesWholeObject};
 
 use crate::distances::{Elements, Sides, type_bytes};
 use abi_sound::{SoundLayout, member_place};
@@ -113,7 +113,7 @@ impl<'a, L: SoundLayout> CopySite<'a, L> {
     fn push_objects(&self, ops: &mut OpList, d: ClassId, elements: Elements) -> Result<(), NoMemory>
         requires site { IsSiteOf L.lays_out L.rows self.now.site.now d }
         requires fits { (i : ℕ) → i < elements.count → FitsObject self.now.site.now.h.now (site_places L.rows self.now.site.now) d (elements.start + i * elements.stride) }
-        ensures { OnOk result (AddsObjects (site_setup L.rows self.now.site.now) self.now.sides d elements.start elements.stride elements.count ops.old ops.new) }
+        ensures { OnOk result (CopiesObjects (site_setup L.rows self.now.site.now) self.now.sides d elements.start elements.stride elements.count ops.old ops.new) }
     {
         let mut bases = Sequence::new(self.site.alloc);
         put_subobjects(self.site.alloc, self.site.h, d, &mut bases)?;
@@ -135,7 +135,7 @@ impl<'a, L: SoundLayout> CopySite<'a, L> {
     ) -> Result<(), NoMemory>
         requires site { IsSiteOf L.lays_out L.rows self.now.site.now b }
         requires fits { FitsMember self.now.site.now.h.now (site_places L.rows self.now.site.now) b member.now start }
-        ensures { OnOk result (AddsMember (site_setup L.rows self.now.site.now) self.now.sides b (leaf_width (site_setup L.rows self.now.site.now) b m) member.now start ops.old ops.new) }
+        ensures { OnOk result (CopiesMember (site_setup L.rows self.now.site.now) self.now.sides b (leaf_width (site_setup L.rows self.now.site.now) b m) member.now start ops.old ops.new) }
     {
         match &member.ty {
             FieldType::Value(_) => self.push_leaves(ops, b, m, member, start),
@@ -155,7 +155,7 @@ impl<'a, L: SoundLayout> CopySite<'a, L> {
     fn push_own(&self, ops: &mut OpList, b: ClassId, offset: u32) -> Result<(), NoMemory>
         requires site { IsSiteOf L.lays_out L.rows self.now.site.now b }
         requires fits { FitsOwn self.now.site.now.h.now (site_places L.rows self.now.site.now) b offset }
-        ensures { OnOk result (AddsOwn (site_setup L.rows self.now.site.now) self.now.sides b offset ops.old ops.new) }
+        ensures { OnOk result (CopiesOwn (site_setup L.rows self.now.site.now) self.now.sides b offset ops.old ops.new) }
     {
         let members = self.site.h.class(b).members.as_slice();
         for (m, member) in members.iter().enumerate() {
@@ -177,7 +177,7 @@ impl<'a, L: SoundLayout> CopySite<'a, L> {
         requires site { IsSiteOf L.lays_out L.rows self.now.site.now d }
         requires listed { bases.now ≡ preorder self.now.site.now.h.now d }
         requires fits { FitsObject self.now.site.now.h.now (site_places L.rows self.now.site.now) d offset }
-        ensures { OnOk result (AddsObject (site_setup L.rows self.now.site.now) self.now.sides d offset ops.old ops.new) }
+        ensures { OnOk result (CopiesWholeObject (site_setup L.rows self.now.site.now) self.now.sides d offset ops.old ops.new) }
     {
         for base in bases {
             let start = offset + self.place(d, base);

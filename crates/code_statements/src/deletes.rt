@@ -4,7 +4,7 @@ ghost use Rattle.std.specs.Prelude.{◌≡◌, true, ◌<◌, ◌∷◌, [], ◌
 ghost use Rattle.cxx_overrider.specs.Overriders.{AreOverriders};
 ghost use Rattle.cxx_overrider.specs.Virtuals.{is_virtual};
 ghost use Rattle.cxx_search.specs.Searches.{destructor_of};
-ghost use Rattle.abi_slots.specs.Listing.{entry_number, key};
+ghost use Rattle.abi_slots.specs.Listing.{entry_number, entry_key};
 ghost use Rattle.abi_slots.specs.declared.words.CodeKind.TheVariants.{Deleting};
 ghost use Rattle.code_statements.specs.Statements.{delete_op};
 ghost use Rattle.code_ops.specs.invariants.Sites.{site_places, site_block, site_start, IsLaidSite};
@@ -32,7 +32,7 @@ fn deleting_entry<L: SoundLayout>(site: &Site<L>, c: ClassId) -> u32
     requires laid { IsLaidSite L.lays_out L.rows site.now }
     requires known { c.0 < length site.now.h.now }
     requires is_virtual { is_virtual site.now.h.now (destructor_of site.now.h.now c) ≡ true }
-    ensures { result ≡ entry_number site.now.h.now (site_places L.rows site.now) (key (destructor_of site.now.h.now c) Deleting) }
+    ensures { result ≡ entry_number site.now.h.now (site_places L.rows site.now) (entry_key (destructor_of site.now.h.now c) Deleting) }
 {
     let _entries = site.slots.entries(c);
     site.slots.entry(destructor_of(site.h, c)) + 1

@@ -7,7 +7,7 @@ ghost use Rattle.code_ops.specs.declared.uses.Used.TheVariants.{Follows, Dumps};
 ghost use Rattle.code_ops.specs.Setups.{spare_register};
 ghost use Rattle.code_ops.specs.Operands.{operand_register as operand_register_of};
 ghost use Rattle.code_ops.specs.Uses.{reads};
-ghost use Rattle.code_ops.specs.invariants.Fits.{FitsOperand, FitsPlace, FitsArgument, most_locals};
+ghost use Rattle.code_ops.specs.invariants.Fits.{FitsOperand, FitsPlace, FitsArgument, most_local_registers};
 ghost use Rattle.code_ops.specs.invariants.Sites.{site_scope, site_block, IsSiteAt, IsLaidSite};
 ghost use Rattle.code_statements.specs.Statements.{declared_front, kind_front, kind_used};
 ghost use Rattle.code_statements.specs.invariants.Fits.{FitsDeclared, FitsKind};
@@ -36,7 +36,7 @@ fn push_declared_front<L: SoundLayout>(
     value: &Option<Converted>,
 ) -> Result<(), NoMemory>
     requires site { IsSiteAt L.rows site.now }
-    requires local { n < most_locals }
+    requires local { n < most_local_registers }
     requires fits { FitsDeclared site.now.h.now (site_scope site.now) value.now }
     ensures { OnOk result (ops.new ≡ ops.old ++ declared_front (site_block L.rows site.now) (spare_register (Some site.now.body.now)) n value.now) }
 {

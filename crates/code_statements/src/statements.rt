@@ -8,8 +8,8 @@ ghost use Rattle.code_ops.specs.Setups.{FunctionCode};
 ghost use Rattle.code_ops.specs.Arguments.{free};
 ghost use Rattle.code_ops.specs.invariants.Sites.{site_scope, site_block, IsSiteAt, IsLaidSite};
 ghost use Rattle.code_statements.specs.Statements.{returned_ops};
-ghost use Rattle.code_statements.specs.invariants.Fits.{FitsReturn, FitsKind, routine_of};
-ghost use Rattle.code_statements.specs.invariants.Sites.{Stands, site_kind, statement_kind};
+ghost use Rattle.code_statements.specs.invariants.Fits.{FitsReturnedValue, FitsKind, routine_of};
+ghost use Rattle.code_statements.specs.invariants.Sites.{FitsSite, site_kind, statement_kind};
 
 use crate::calls::{push_call, result_class, unused};
 use crate::copies::push_copy;
@@ -39,7 +39,7 @@ fn push_result<L: SoundLayout>(
     value: &Option<Argument>,
 ) -> Result<(), NoMemory>
     requires laid { IsLaidSite L.lays_out L.rows site.now }
-    requires fits { FitsReturn site.now.h.now (site_scope site.now) value.now }
+    requires fits { FitsReturnedValue site.now.h.now (site_scope site.now) value.now }
     ensures { OnOk result (ops.new ≡ ops.old ++ returned_ops (site_block L.rows site.now) (FunctionCode f) value.now) }
 {
     match value {
@@ -68,7 +68,7 @@ fn push_return<L: SoundLayout>(
     value: &Option<Argument>,
 ) -> Result<(), NoMemory>
     requires laid { IsLaidSite L.lays_out L.rows site.now }
-    requires fits { FitsReturn site.now.h.now (site_scope site.now) value.now }
+    requires fits { FitsReturnedValue site.now.h.now (site_scope site.now) value.now }
     ensures { OnOk result (ops.new ≡ ops.old ++ returned_ops (site_block L.rows site.now) (routine_of site.now.body.now.owner) value.now) }
 {
     match site.body.owner {
@@ -87,7 +87,7 @@ impl<'a, L: SoundLayout> StatementSite<'a, L> {
         variable: Variable,
         v: &Converted,
     ) -> Result<(), NoMemory>
-        requires { Stands L.lays_out L.rows self.now (Assign variable v.now) }
+        requires { FitsSite L.lays_out L.rows self.now (Assign variable v.now) }
         ensures { OnOk result (ops.new ≡ ops.old ++ statement_kind L.rows self.now (Assign variable v.now)) }
     {
         let here = RightSite {
@@ -102,7 +102,7 @@ impl<'a, L: SoundLayout> StatementSite<'a, L> {
 
     /// Stores a converted value in a leaf.
     fn push_write(&self, ops: &mut OpList, place: &TypedPlace, a: &Argument) -> Result<(), NoMemory>
-        requires { Stands L.lays_out L.rows self.now (Write place.now a.now) }
+        requires { FitsSite L.lays_out L.rows self.now (Write place.now a.now) }
         ensures { OnOk result (ops.new ≡ ops.old ++ statement_kind L.rows self.now (Write place.now a.now)) }
     {
         let site = self.site;
@@ -128,7 +128,7 @@ impl<'a, L: SoundLayout> StatementSite<'a, L> {
         from: TypedOperand,
         c: ClassId,
     ) -> Result<(), NoMemory>
-        requires { Stands L.lays_out L.rows self.now (Copy to from c) }
+        requires { FitsSite L.lays_out L.rows self.now (Copy to from c) }
         ensures { OnOk result (ops.new ≡ ops.old ++ statement_kind L.rows self.now (Copy to from c)) }
     {
         push_copy(ops, self.site, to, from, c)?;
@@ -138,7 +138,7 @@ impl<'a, L: SoundLayout> StatementSite<'a, L> {
 
     /// Makes a call whose result is not used.
     fn push_call_only(&self, ops: &mut OpList, call: &TypedCall) -> Result<(), NoMemory>
-        requires { Stands L.lays_out L.rows self.now (Call call.now) }
+        requires { FitsSite L.lays_out L.rows self.now (Call call.now) }
         ensures { OnOk result (ops.new ≡ ops.old ++ statement_kind L.rows self.now (Call call.now)) }
     {
         let site = self.site;
@@ -149,7 +149,7 @@ impl<'a, L: SoundLayout> StatementSite<'a, L> {
 
     /// Deletes an object.
     fn push_delete_of(&self, ops: &mut OpList, p: TypedOperand, c: ClassId) -> Result<(), NoMemory>
-        requires { Stands L.lays_out L.rows self.now (Delete p c) }
+        requires { FitsSite L.lays_out L.rows self.now (Delete p c) }
         ensures { OnOk result (ops.new ≡ ops.old ++ statement_kind L.rows self.now (Delete p c)) }
     {
         let site = self.site;
@@ -166,7 +166,7 @@ impl<'a, L: SoundLayout> StatementSite<'a, L> {
         other: usize,
         behind: usize,
     ) -> Result<(), NoMemory>
-        requires { Stands L.lays_out L.rows self.now (If p other behind) }
+        requires { FitsSite L.lays_out L.rows self.now (If p other behind) }
         ensures { OnOk result (ops.new ≡ ops.old ++ statement_kind L.rows self.now (If p other behind)) }
     {
         let flow = self.flow;
@@ -184,7 +184,7 @@ impl<'a, L: SoundLayout> StatementSite<'a, L> {
 
     /// Goes on to the block where the condition is not 0, else behind it.
     fn push_loop(&self, ops: &mut OpList, p: TypedOperand, behind: usize) -> Result<(), NoMemory>
-        requires { Stands L.lays_out L.rows self.now (While p behind) }
+        requires { FitsSite L.lays_out L.rows self.now (While p behind) }
         ensures { OnOk result (ops.new ≡ ops.old ++ statement_kind L.rows self.now (While p behind)) }
     {
         let flow = self.flow;
@@ -199,7 +199,7 @@ impl<'a, L: SoundLayout> StatementSite<'a, L> {
 
     /// Prints a value.
     fn push_print(&self, ops: &mut OpList, p: TypedOperand) -> Result<(), NoMemory>
-        requires { Stands L.lays_out L.rows self.now (Print p) }
+        requires { FitsSite L.lays_out L.rows self.now (Print p) }
         ensures { OnOk result (ops.new ≡ ops.old ++ statement_kind L.rows self.now (Print p)) }
     {
         let site = self.site;
@@ -227,7 +227,7 @@ impl<'a, L: SoundLayout> StatementSite<'a, L> {
 
     /// Dumps an object.
     fn push_dump(&self, ops: &mut OpList, p: TypedOperand, c: ClassId) -> Result<(), NoMemory>
-        requires { Stands L.lays_out L.rows self.now (Dump p c) }
+        requires { FitsSite L.lays_out L.rows self.now (Dump p c) }
         ensures { OnOk result (ops.new ≡ ops.old ++ statement_kind L.rows self.now (Dump p c)) }
     {
         let _c = c;

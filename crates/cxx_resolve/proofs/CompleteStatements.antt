@@ -22,7 +22,7 @@ use Rattle.cxx_expression.specs.Rights.{right_of, converted_value}
 use Rattle.cxx_expression.specs.Laws.{IsComplete, PiecesAreComplete}
 use Rattle.cxx_expression.proofs.Complete.{complete_pure, complete_fail, complete_warn, complete_bind, complete_both, complete_if, complete_whole, complete_second, whole_grows}
 use Rattle.cxx_expression.proofs.CompleteRights.{c_right, c_value, value_grows}
-use Rattle.cxx_resolve.specs.Statements.{new_variable, first_value, declare_of, assign_of, write_of, copy_of, call_statement, delete_of, value_return, return_at, return_of, print_of, print_type_of, print_view_of, dump_of}
+use Rattle.cxx_resolve.specs.Statements.{new_variable, first_value, declare_of, assign_of, write_of, copy_of, call_statement, delete_of, value_return, typed_return, return_of, print_of, print_type_of, print_view_of, dump_of}
 
 c_new_variable : (q : PiecesAreComplete) (h : Classes) (s : Scene) (ty : ValueType Text) (at : ℕ) (x : Spot) → IsComplete (new_variable h s ty at x)
 unfolding new_variable
@@ -67,7 +67,7 @@ c_value_return : (q : PiecesAreComplete) (h : Classes) (e : Setting) (s : Scene)
 unfolding value_return
 c_value_return q h e s at t x = complete_bind _ _ (q.converted_operand h e s at t x) (λ a. complete_pure _)
 
-c_return_at : (q : PiecesAreComplete) (h : Classes) (e : Setting) (s : Scene) (at : ℕ) (r : Returns) (x : Option Operand) → IsComplete (return_at h e s at r x)
+c_return_at : (q : PiecesAreComplete) (h : Classes) (e : Setting) (s : Scene) (at : ℕ) (r : Returns) (x : Option Operand) → IsComplete (typed_return h e s at r x)
 c_return_at q h e s at returns.Nowhere x = complete_fail _ _
 c_return_at q h e s at returns.Nothing None = complete_pure _
 c_return_at q h e s at returns.Nothing (Some x) = complete_fail _ _

@@ -23,11 +23,11 @@ use Rattle.cxx_expression.specs.declared.scene.Entry.{Entry}
 use Rattle.cxx_expression.specs.declared.scene.Setting.{Setting}
 use Rattle.cxx_resolve.specs.declared.draft.Draft.{Draft}
 use Rattle.cxx_resolve.specs.Stops.{◌>>=◌}
-use Rattle.cxx_resolve.specs.Turns.{in_turn}
+use Rattle.cxx_resolve.specs.Turns.{given_in_turn}
 use Rattle.cxx_resolve.specs.Globals.{global_of}
 use Rattle.cxx_resolve.specs.Initializers.{init_of}
 use Rattle.cxx_resolve.specs.Walks.{Meaning, block_meaning}
-use Rattle.cxx_resolve.specs.Programs.{class_of_body, owner_of, function_in, params_in, returns_in, first_draft, member_setting, main_setting, typed_body, body_in, body_of, main_tree, main_of, program, program_of}
+use Rattle.cxx_resolve.specs.Programs.{class_of_body, owner_of, function_by_owner, params_in, returns_in, first_draft, member_setting, main_setting, typed_body, body_in, body_of, main_tree, main_of, program, program_of}
 use Rattle.cxx_resolve.proofs.SameWalks.{block_same}
 
 -- a typed body by the meaning of its block and the lines of its braces
@@ -45,8 +45,8 @@ typed_same h e o ps inits a b (same_body same line close) =
 -- a body by its parts
 abbrev of_class : Classes → List Entry → Text → BodyOwner → List Init → BodyTree → Result TypedBody Stop
 of_class h globals class o inits tree =
-    in_turn (init_of h (class_of_body h class)) [] inits >>= λ is.
-    typed_body h (member_setting globals (class_of_body h class) (returns_in (function_in h (class_of_body h class) o))) (owner_of (class_of_body h class) o) (params_in (function_in h (class_of_body h class) o)) is tree
+    given_in_turn (init_of h (class_of_body h class)) [] inits >>= λ is.
+    typed_body h (member_setting globals (class_of_body h class) (returns_in (function_by_owner h (class_of_body h class) o))) (owner_of (class_of_body h class) o) (params_in (function_by_owner h (class_of_body h class) o)) is tree
 
 bind_same : {A B : Type 0} (r : Result A Stop) (f g : A → Result B Stop) → ((x : A) → f x ≡ g x) → (r >>= f) ≡ (r >>= g)
 bind_same (Ok x) f g h = h x
@@ -56,17 +56,17 @@ body_same : (h : Classes) (globals : List Entry) (done : List TypedBody) (a b : 
     body_of h globals done a ≡ body_of h globals done b
 unfolding body_in
 body_same h globals done a b class owner inits tree =
-    bind_same (in_turn (init_of h (class_of_body h a.class)) [] a.inits) _ _
-    (λ is. typed_same h (member_setting globals (class_of_body h a.class) (returns_in (function_in h (class_of_body h a.class) a.owner))) (owner_of (class_of_body h a.class) a.owner) (params_in (function_in h (class_of_body h a.class) a.owner)) is a.tree b.tree tree)
+    bind_same (given_in_turn (init_of h (class_of_body h a.class)) [] a.inits) _ _
+    (λ is. typed_same h (member_setting globals (class_of_body h a.class) (returns_in (function_by_owner h (class_of_body h a.class) a.owner))) (owner_of (class_of_body h a.class) a.owner) (params_in (function_by_owner h (class_of_body h a.class) a.owner)) is a.tree b.tree tree)
     ∙ ap (λ (c : Text). of_class h globals c a.owner a.inits b.tree) class
     ∙ ap (λ (o : BodyOwner). of_class h globals b.class o a.inits b.tree) owner
     ∙ ap (λ (is : List Init). of_class h globals b.class b.owner is b.tree) inits
 
-bodies_same : (h : Classes) (globals : List Entry) (xs ys : List Body) → SameBodies xs ys → (done : List TypedBody) → in_turn (body_of h globals) done xs ≡ in_turn (body_of h globals) done ys
+bodies_same : (h : Classes) (globals : List Entry) (xs ys : List Body) → SameBodies xs ys → (done : List TypedBody) → given_in_turn (body_of h globals) done xs ≡ given_in_turn (body_of h globals) done ys
 bodies_same h globals _ _ no_bodies done = refl
 bodies_same h globals _ _ (more_bodies {a = a} {b = b} {ls = ls} {rs = rs} class owner inits tree more) done =
     bind_same (body_of h globals done a) _ _ (λ x. bodies_same h globals ls rs more (done ++ x ∷ []))
-    ∙ ap (λ (r : Result TypedBody Stop). r >>= λ x. in_turn (body_of h globals) (done ++ x ∷ []) rs) (body_same h globals done a b class owner inits tree)
+    ∙ ap (λ (r : Result TypedBody Stop). r >>= λ x. given_in_turn (body_of h globals) (done ++ x ∷ []) rs) (body_same h globals done a b class owner inits tree)
 
 same_front : (n : ℕ) (xs ys : List Body) → SameBodies xs ys → SameBodies (take n xs) (take n ys)
 same_front zero xs ys s = no_bodies
@@ -88,19 +88,19 @@ main_same h globals (Some a) None s = absurd s
 -- a program by its parts
 abbrev by_parts : Classes → List Global → List Body → Option BodyTree → List Body → Result TypedProgram Stop
 by_parts h globals before main behind =
-    in_turn (global_of h) [] globals >>= λ gs.
-    in_turn (body_of h gs) [] before >>= λ bs.
+    given_in_turn (global_of h) [] globals >>= λ gs.
+    given_in_turn (body_of h gs) [] before >>= λ bs.
     main_of h gs main >>= λ m.
-    in_turn (body_of h gs) bs behind >>= λ all.
+    given_in_turn (body_of h gs) bs behind >>= λ all.
     Ok (program gs m all)
 
 parts_same : (h : Classes) (globals : List Global) (before before' behind behind' : List Body) (main main' : Option BodyTree) → SameBodies before before' → SameBodies behind behind' → SameMain main main' →
     by_parts h globals before main behind ≡ by_parts h globals before' main' behind'
 parts_same h globals before before' behind behind' main main' f b m =
-    bind_same (in_turn (global_of h) [] globals) _ _ (λ gs.
-    ap (λ (r : Result (List TypedBody) Stop). r >>= λ bs. main_of h gs main >>= λ k. in_turn (body_of h gs) bs behind >>= λ all. Ok (program gs k all)) (bodies_same h gs before before' f [])
-    ∙ bind_same (in_turn (body_of h gs) [] before') _ _ (λ bs.
-    ap (λ (r : Result (Option TypedBody) Stop). r >>= λ k. in_turn (body_of h gs) bs behind >>= λ all. Ok (program gs k all)) (main_same h gs main main' m)
+    bind_same (given_in_turn (global_of h) [] globals) _ _ (λ gs.
+    ap (λ (r : Result (List TypedBody) Stop). r >>= λ bs. main_of h gs main >>= λ k. given_in_turn (body_of h gs) bs behind >>= λ all. Ok (program gs k all)) (bodies_same h gs before before' f [])
+    ∙ bind_same (given_in_turn (body_of h gs) [] before') _ _ (λ bs.
+    ap (λ (r : Result (Option TypedBody) Stop). r >>= λ k. given_in_turn (body_of h gs) bs behind >>= λ all. Ok (program gs k all)) (main_same h gs main main' m)
     ∙ bind_same (main_of h gs main') _ _ (λ k. ap (λ (r : Result (List TypedBody) Stop). r >>= λ all. Ok (program gs k all)) (bodies_same h gs behind behind' b bs))))
 
 pub one_program : (h : Classes) (a b : SourceText) → SameSource a b → program_of h a ≡ program_of h b

@@ -19,11 +19,11 @@ use Rattle.cxx_expression.specs.declared.scene.Entry.{Entry}
 use Rattle.cxx_expression.specs.declared.scene.Setting.{Setting}
 use Rattle.cxx_expression.specs.Values.{type_of}
 use Rattle.cxx_expression.specs.Laws.{PiecesAreComplete}
-use Rattle.cxx_resolve.specs.Turns.{in_turn}
+use Rattle.cxx_resolve.specs.Turns.{given_in_turn}
 use Rattle.cxx_resolve.specs.Globals.{most_globals, typed_global, global_of}
 use Rattle.cxx_resolve.specs.Initializers.{good_init, init_at, init_of}
 use Rattle.cxx_resolve.specs.Walks.{block_meaning}
-use Rattle.cxx_resolve.specs.Programs.{class_of_body, owner_of, function_in, params_in, returns_in, first_draft, member_setting, main_setting, typed_body, body_in, body_of, main_tree, main_of, program_of}
+use Rattle.cxx_resolve.specs.Programs.{class_of_body, owner_of, function_by_owner, params_in, returns_in, first_draft, member_setting, main_setting, typed_body, body_in, body_of, main_tree, main_of, program_of}
 use Rattle.cxx_resolve.proofs.Never.{IsSure, sure_ok, sure_then, sure_in_turn}
 use Rattle.cxx_resolve.proofs.SureWalks.{sure_if, sure_settled, blocks_are_sure}
 
@@ -51,7 +51,7 @@ unfolding body_in
 sure_body q h globals before b =
     let c = class_of_body h b.class in
     sure_then _ _ (sure_in_turn (init_of h c) (sure_init h c) [] b.inits)
-    (λ inits. sure_typed q h (member_setting globals c (returns_in (function_in h c b.owner))) (owner_of c b.owner) (params_in (function_in h c b.owner)) inits b.tree)
+    (λ inits. sure_typed q h (member_setting globals c (returns_in (function_by_owner h c b.owner))) (owner_of c b.owner) (params_in (function_by_owner h c b.owner)) inits b.tree)
 
 sure_main : (q : PiecesAreComplete) (h : Classes) (globals : List Entry) (main : Option BodyTree) → IsSure (main_of h globals main)
 unfolding main_tree

@@ -28,7 +28,7 @@ use Rattle.cxx_expression.specs.declared.scene.Returns.TheVariants as returns
 use Rattle.cxx_expression.specs.Lookups.{find_class}
 use Rattle.cxx_resolve.specs.declared.draft.Draft.{Draft}
 use Rattle.cxx_resolve.specs.Stops.{◌>>=◌}
-use Rattle.cxx_resolve.specs.Turns.{in_turn}
+use Rattle.cxx_resolve.specs.Turns.{given_in_turn}
 use Rattle.cxx_resolve.specs.Globals.{global_of}
 use Rattle.cxx_resolve.specs.Initializers.{init_of}
 use Rattle.cxx_resolve.specs.Walks.{block_meaning}
@@ -42,23 +42,23 @@ owner_of c (part.Function number) = owner.Function (record { class = c; index = 
 owner_of c part.Constructor = owner.Constructor c
 owner_of c part.Destructor = owner.Destructor c
 
-abbrev pub function_in : Classes → ClassId → BodyOwner → Option (Function ClassId)
-function_in h c (part.Function number) = slice_get (functions_of h c) number
-function_in h c part.Constructor = None
-function_in h c part.Destructor = None
+abbrev pub function_by_owner : Classes → ClassId → BodyOwner → Option (Function ClassId)
+function_by_owner h c (part.Function number) = slice_get (functions_of h c) number
+function_by_owner h c part.Constructor = None
+function_by_owner h c part.Destructor = None
 
 abbrev pub params_in : Option (Function ClassId) → List (Param ClassId)
 params_in None = []
 params_in (Some f) = f.params
 
-abbrev pub return_in : ReturnType ClassId → Returns
-return_in Void = returns.Nothing
-return_in (Value ty) = returns.Value ty
+abbrev pub returns_of_type : ReturnType ClassId → Returns
+returns_of_type Void = returns.Nothing
+returns_of_type (Value ty) = returns.Value ty
 
 -- a constructor or a destructor has no `return`
 abbrev pub returns_in : Option (Function ClassId) → Returns
 returns_in None = returns.Nowhere
-returns_in (Some f) = return_in f.ret
+returns_in (Some f) = returns_of_type f.ret
 
 -- the parameters are the first locals
 abbrev pub entries_from : ℕ → List (Param ClassId) → List Entry
@@ -92,12 +92,12 @@ member_setting globals c ret = record { globals = globals; this_class = Some c; 
 
 unfoldable pub body_in : Classes → List Entry → ClassId → Option (Function ClassId) → Body → Result TypedBody Stop
 body_in h globals c f b = do
-  inits ← in_turn (init_of h c) [] b.inits
+  inits ← given_in_turn (init_of h c) [] b.inits
   typed_body h (member_setting globals c (returns_in f)) (owner_of c b.owner) (params_in f) inits b.tree
 
 -- a body in a class: the initializers before the statements
 abbrev pub body_of : Classes → List Entry → List TypedBody → Body → Result TypedBody Stop
-body_of h globals before b = body_in h globals (class_of_body h b.class) (function_in h (class_of_body h b.class) b.owner) b
+body_of h globals before b = body_in h globals (class_of_body h b.class) (function_by_owner h (class_of_body h b.class) b.owner) b
 
 -- `main` has no `this` and returns an `int` (ISO C++03 3.6.1)
 abbrev pub main_setting : List Entry → Setting
@@ -118,10 +118,10 @@ program globals main bodies = record { globals = map (λ g. g.ty) globals; bodie
 -- what a source resolves to: its program, or its first refusal or limit
 unfoldable pub program_of : Classes → SourceText → Result TypedProgram Stop
 program_of h source = do
-  globals ← in_turn (global_of h) [] source.globals
-  before ← in_turn (body_of h globals) [] (take source.main_place source.bodies)
+  globals ← given_in_turn (global_of h) [] source.globals
+  before ← given_in_turn (body_of h globals) [] (take source.main_place source.bodies)
   main ← main_of h globals source.main
-  bodies ← in_turn (body_of h globals) before (drop source.main_place source.bodies)
+  bodies ← given_in_turn (body_of h globals) before (drop source.main_place source.bodies)
   Ok (program globals main bodies)
 
 -- a block of fewer than n statements

@@ -95,15 +95,15 @@ value_return h e s at t x = do
   pure (typed.Return (Some a))
 
 -- E19: a `return` that does not fit its function, or any in a constructor or destructor (ISO C++03 6.6.3)
-abbrev pub return_at : Classes → Setting → Scene → ℕ → Returns → Option Operand → Checked TypedKind
-return_at h e s at returns.Nowhere x = fail rule.TypeMismatch at
-return_at h e s at returns.Nothing None = pure (typed.Return None)
-return_at h e s at returns.Nothing (Some x) = fail rule.TypeMismatch at
-return_at h e s at (returns.Value t) None = fail rule.TypeMismatch at
-return_at h e s at (returns.Value t) (Some x) = value_return h e s at t x
+abbrev pub typed_return : Classes → Setting → Scene → ℕ → Returns → Option Operand → Checked TypedKind
+typed_return h e s at returns.Nowhere x = fail rule.TypeMismatch at
+typed_return h e s at returns.Nothing None = pure (typed.Return None)
+typed_return h e s at returns.Nothing (Some x) = fail rule.TypeMismatch at
+typed_return h e s at (returns.Value t) None = fail rule.TypeMismatch at
+typed_return h e s at (returns.Value t) (Some x) = value_return h e s at t x
 
 unfoldable pub return_of : Classes → Setting → Scene → ℕ → Option Operand → Checked TypedKind
-return_of h e s at x = return_at h e s at e.returns x
+return_of h e s at x = typed_return h e s at e.returns x
 
 unfoldable pub print_of : Setting → Scene → ℕ → Operand → Checked TypedKind
 print_of e s at x = do
@@ -133,9 +133,9 @@ with_scenes s None = None
 with_scenes s (Some k) = Some (k, s)
 
 -- what code answers to a declaration, with the scene behind the call
-abbrev pub Declares : Result (Option TypedKind) NoMemory → Scene → List Fault → List Fault → Checked (TypedKind × Scene) → Type 0
-Declares (Ok o) s old new p = (p.typed ≡ with_scenes s o) × (p.faults old ≡ new)
-Declares (Err e) s old new p = Unit {0}
+abbrev pub AnswersDeclaration : Result (Option TypedKind) NoMemory → Scene → List Fault → List Fault → Checked (TypedKind × Scene) → Type 0
+AnswersDeclaration (Ok o) s old new p = (p.typed ≡ with_scenes s o) × (p.faults old ≡ new)
+AnswersDeclaration (Err e) s old new p = Unit {0}
 
 -- a statement that declares nothing and has no block in it; no other is asked
 unfoldable pub plain_of : Classes → Setting → Scene → ℕ → StatementKind → Checked TypedKind

@@ -52,12 +52,12 @@ pushed kind line next d = record { scene = d.scene; statements = d.statements ++
 abbrev pub finished : Option Fault → Option TypedKind → ℕ → ℕ → Draft → Result Draft Stop
 finished worst typed line next d = settled worst typed >>= λ kind. Ok (pushed kind line next d)
 
-abbrev pub ended : Checked TypedKind → ℕ → ℕ → Draft → Result Draft Stop
-ended p line next d = finished (least (p.faults [])) p.typed line next d
+abbrev pub ended_statement : Checked TypedKind → ℕ → ℕ → Draft → Result Draft Stop
+ended_statement p line next d = finished (least (p.faults [])) p.typed line next d
 
 -- a statement that declares nothing and has no block in it
 abbrev pub plain : (Classes → Setting → Scene → ℕ → Checked TypedKind) → KindMeaning
-plain typed_by = record { size = 1; walk = λ h e at line n next d. ended (typed_by h e d.scene at) line next d }
+plain typed_by = record { size = 1; walk = λ h e at line n next d. ended_statement (typed_by h e d.scene at) line next d }
 
 abbrev pub in_scene : Scene → Draft → Draft
 in_scene s d = record { scene = s; statements = d.statements }
@@ -162,4 +162,4 @@ abbrev pub block_meaning : BodyTree → Meaning
 block_meaning = fold-BodyTree KindMeaning Meaning Meaning kind_step block_step statement_step
 
 abbrev pub plain_walk : Classes → Setting → ℕ → StatementKind → ℕ → ℕ → Draft → Result Draft Stop
-plain_walk h e at k line next d = ended (plain_of h e d.scene at k) line next d
+plain_walk h e at k line next d = ended_statement (plain_of h e d.scene at k) line next d

@@ -10,8 +10,8 @@ ghost use Rattle.cxx_syntax.specs.declared.source_text.Body.{Body};
 ghost use Rattle.cxx_program.specs.declared.program.TypedBody.{TypedBody};
 ghost use Rattle.cxx_expression.specs.invariants.Known.{Knows};
 ghost use Rattle.cxx_resolve.specs.Stops.{Gives, Settles};
-ghost use Rattle.cxx_resolve.specs.Turns.{in_turn};
-ghost use Rattle.cxx_resolve.specs.Programs.{class_of_body, owner_of, function_in, params_in, returns_in, first_draft, typed_body, main_setting, main_of, body_in, body_of, IsShort, IsShortMain};
+ghost use Rattle.cxx_resolve.specs.Turns.{given_in_turn};
+ghost use Rattle.cxx_resolve.specs.Programs.{class_of_body, owner_of, function_by_owner, params_in, returns_in, first_draft, typed_body, main_setting, main_of, body_in, body_of, IsShort, IsShortMain};
 
 use crate::blocks::statements;
 use crate::body_site::BodySite;
@@ -51,7 +51,7 @@ fn owner_of(c: ClassId, owner: BodyOwner) -> Owner
 
 /// The function whose body it is, where it is that of a function.
 fn function_in(h: &Hierarchy, c: ClassId, owner: BodyOwner) -> Option<&Function<ClassId>>
-    ensures { option_copied result ≡ function_in h.now c owner }
+    ensures { option_copied result ≡ function_by_owner h.now c owner }
 {
     match owner {
         BodyOwner::Function(number) => { class_at(h, c)?.functions.as_slice().get(number as usize) }
@@ -180,7 +180,7 @@ pub(crate) fn bodies_of(
     requires made { AreOverriders h.now o.now }
     requires knows { Knows h.now known.old }
     requires short { All (λ (b : Body). IsShort (2 ^ 32) b.tree) bodies.now }
-    ensures bodies { Gives result typed.new (in_turn (body_of h.now setting.old.globals) typed.old bodies.now) }
+    ensures bodies { Gives result typed.new (given_in_turn (body_of h.now setting.old.globals) typed.old bodies.now) }
     ensures knows { OnOk result (Knows h.now known.new) }
     ensures globals { setting.new.globals ≡ setting.old.globals }
 {

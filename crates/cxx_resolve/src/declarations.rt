@@ -4,7 +4,7 @@ ghost use Rattle.std.specs.Prelude.{◌≡◌, ◌<◌, OnOk};
 ghost use Rattle.cxx_overrider.specs.Overriders.{AreOverriders};
 ghost use Rattle.cxx_expression.specs.Checked.{Answers};
 ghost use Rattle.cxx_expression.specs.invariants.Known.{Knows};
-ghost use Rattle.cxx_resolve.specs.Statements.{new_variable, first_value, declare_of, Declares};
+ghost use Rattle.cxx_resolve.specs.Statements.{new_variable, first_value, declare_of, AnswersDeclaration};
 
 use crate::body_site::BodySite;
 use cxx_expression::{FaultList, Known, Scene, Site, converted_right, note, type_of};
@@ -80,7 +80,7 @@ pub(crate) fn declare_of(
     requires made { AreOverriders body.now.h.now body.now.overriders.now }
     requires knows { Knows body.now.h.now known.old }
     requires few { scene.old.declared < 256 }
-    ensures declares { Declares result scene.new faults.old faults.new (declare_of body.now.h.now body.now.setting.now scene.old at variable.now.ty.now variable.now.ty_at variable.now.name.now variable.now.init.now) }
+    ensures declares { AnswersDeclaration result scene.new faults.old faults.new (declare_of body.now.h.now body.now.setting.now scene.old at variable.now.ty.now variable.now.ty_at variable.now.name.now variable.now.init.now) }
     ensures knows { OnOk result (Knows body.now.h.now known.new) }
 {
     let Some(ty) = new_variable(body.h, scene, faults, variable)? else {

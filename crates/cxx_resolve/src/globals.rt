@@ -5,7 +5,7 @@ ghost use Rattle.std.specs.List.{list_any};
 ghost use Rattle.std.specs.Str.{bytes_eq};
 ghost use Rattle.cxx_expression.specs.declared.scene.Entry.{Entry};
 ghost use Rattle.cxx_resolve.specs.Stops.{Settles};
-ghost use Rattle.cxx_resolve.specs.Turns.{in_turn};
+ghost use Rattle.cxx_resolve.specs.Turns.{given_in_turn};
 ghost use Rattle.cxx_resolve.specs.Globals.{typed_global, global_of};
 
 use cxx_expression::{Entry, EntryList, copy_type, settle, type_of};
@@ -67,7 +67,7 @@ pub(crate) fn globals_of(
     h: &Hierarchy,
     globals: &[Global],
 ) -> Result<EntryList, Stop>
-    ensures { Settles result (in_turn (global_of h.now) [] globals.now) }
+    ensures { Settles result (given_in_turn (global_of h.now) [] globals.now) }
 {
     let mut entries = Sequence::new(alloc);
     for global in globals {

@@ -9,7 +9,7 @@ ghost use Rattle.cxx_hierarchy.specs.declared.records.Member.{Member};
 ghost use Rattle.cxx_hierarchy.specs.Classes.{class_at, members_of, leaf_type_in, leaf_type};
 ghost use Rattle.cxx_program.specs.declared.program.TypedInit.{TypedInit};
 ghost use Rattle.cxx_resolve.specs.Stops.{Settles};
-ghost use Rattle.cxx_resolve.specs.Turns.{in_turn};
+ghost use Rattle.cxx_resolve.specs.Turns.{given_in_turn};
 ghost use Rattle.cxx_resolve.specs.Initializers.{member_number, constant_conversion, init_once, init_at, init_of};
 
 use cxx_expression::{Value, constant_of, copy_type, fitted, width_of_member};
@@ -166,7 +166,7 @@ pub(crate) fn inits_of(
     c: ClassId,
     inits: &[Init],
 ) -> Result<TypedInitList, Stop>
-    ensures { Settles result (in_turn (init_of h.now c) [] inits.now) }
+    ensures { Settles result (given_in_turn (init_of h.now c) [] inits.now) }
 {
     let mut typed = Sequence::new(alloc);
     for init in inits {

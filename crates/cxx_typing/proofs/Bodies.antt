@@ -25,10 +25,10 @@ use Rattle.cxx_program.specs.Typed.{Types, IsKnown, HasBody, this_of, parameters
 use Rattle.cxx_expression.specs.declared.scene.Entry.{Entry}
 use Rattle.cxx_expression.specs.declared.scene.Setting.{Setting}
 use Rattle.cxx_resolve.specs.declared.draft.Draft.{Draft}
-use Rattle.cxx_resolve.specs.Turns.{in_turn}
+use Rattle.cxx_resolve.specs.Turns.{given_in_turn}
 use Rattle.cxx_resolve.specs.Initializers.{init_of}
 use Rattle.cxx_resolve.specs.Walks.{block_meaning}
-use Rattle.cxx_resolve.specs.Programs.{class_of_body, owner_of, function_in, params_in, return_in as wanted_return, returns_in, entries_from, first_draft, body_by, typed_body, member_setting, body_in, body_of, main_setting, main_tree, main_of}
+use Rattle.cxx_resolve.specs.Programs.{class_of_body, owner_of, function_by_owner, params_in, returns_of_type as wanted_return, returns_in, entries_from, first_draft, body_by, typed_body, member_setting, body_in, body_of, main_setting, main_tree, main_of}
 use Rattle.cxx_typing.specs.Scopes.{wanted, IsSetting}
 use Rattle.cxx_typing.proofs.Drafts.{then_ok, IsGoodDraft}
 use Rattle.cxx_typing.proofs.Blocks.{HasTypedStatements, blocks_are_good}
@@ -104,7 +104,7 @@ params_same : (o : Option (Function ClassId)) → types_in (params_in o) ≡ par
 params_same None = refl
 params_same (Some f) = refl
 
-parameters_same : (h : Classes) (c : ClassId) (o : BodyOwner) → types_in (params_in (function_in h c o)) ≡ parameters_of h (owner_of c o)
+parameters_same : (h : Classes) (c : ClassId) (o : BodyOwner) → types_in (params_in (function_by_owner h c o)) ≡ parameters_of h (owner_of c o)
 parameters_same h c (part.Function n) = params_same (slice_get (functions_of h c) n)
 parameters_same h c part.Constructor = refl
 parameters_same h c part.Destructor = refl
@@ -119,7 +119,7 @@ params_known h keeps c (Some f) there t has =
     let r = from_map (λ (p : Param ClassId). p.ty) f.params t (has_from_contains (types_in f.params) t has) in
     known_type h t (λ d is. keeps.params c d f r.0 (there f refl) (contains_from_has f.params r.0 r.1) (r.2 ∙ is))
 
-function_there : (h : Classes) (c : ClassId) (o : BodyOwner) (f : Function ClassId) → function_in h c o ≡ Some f → Contains (functions_of h c) f
+function_there : (h : Classes) (c : ClassId) (o : BodyOwner) (f : Function ClassId) → function_by_owner h c o ≡ Some f → Contains (functions_of h c) f
 function_there h c (part.Function n) f is = contains_at (functions_of h c) n f is
 function_there h c part.Constructor f is = absurd (cc)
 function_there h c part.Destructor f is = absurd (cc)
@@ -137,19 +137,19 @@ function_returns : (o : Option (Function ClassId)) → return_in o ≡ wanted (r
 function_returns None = refl
 function_returns (Some f) = return_wanted f.ret
 
-returns_same : (h : Classes) (c : ClassId) (o : BodyOwner) → returns_of h (owner_of c o) ≡ wanted (returns_in (function_in h c o))
+returns_same : (h : Classes) (c : ClassId) (o : BodyOwner) → returns_of h (owner_of c o) ≡ wanted (returns_in (function_by_owner h c o))
 returns_same h c (part.Function n) = function_returns (slice_get (functions_of h c) n)
 returns_same h c part.Constructor = refl
 returns_same h c part.Destructor = refl
 
 -- a list that is empty gives no initializer
-none_given : (h : Classes) (c : ClassId) (list : List Init) (inits : List TypedInit) → list ≡ [] → in_turn (init_of h c) [] list ≡ Ok inits → inits ≡ []
+none_given : (h : Classes) (c : ClassId) (list : List Init) (inits : List TypedInit) → list ≡ [] → given_in_turn (init_of h c) [] list ≡ Ok inits → inits ≡ []
 none_given h c list inits none w =
-    let given : in_turn (init_of h c) [] [] ≡ Ok inits = subst (λ (is : List Init). in_turn (init_of h c) [] is ≡ Ok inits) none w in
+    let given : given_in_turn (init_of h c) [] [] ≡ Ok inits = subst (λ (is : List Init). given_in_turn (init_of h c) [] is ≡ Ok inits) none w in
     let same : [] ≡ inits = cc in
     sym same
 
-inits_of : (h : Classes) → IsHierarchy h → (c : ClassId) (o : BodyOwner) (list : List Init) (inits : List TypedInit) → InitsFit o list → in_turn (init_of h c) [] list ≡ Ok inits → AreInitsOf h (owner_of c o) inits
+inits_of : (h : Classes) → IsHierarchy h → (c : ClassId) (o : BodyOwner) (list : List Init) (inits : List TypedInit) → InitsFit o list → given_in_turn (init_of h c) [] list ≡ Ok inits → AreInitsOf h (owner_of c o) inits
 inits_of h keeps c (part.Function n) list inits fit w = none_given h c list inits fit w
 inits_of h keeps c part.Constructor list inits fit w = inits_typed h keeps c list inits w
 inits_of h keeps c part.Destructor list inits fit w = none_given h c list inits fit w
@@ -163,9 +163,9 @@ pub body_typed : (h : Classes) → HasTypedStatements h → (globals : List Entr
 unfolding body_in
 body_typed h q globals are before b body has fit w =
     let c = class_of_body h b.class in
-    let f = function_in h c b.owner in
+    let f = function_by_owner h c b.owner in
     let e = member_setting globals c (returns_in f) in
-    let r = then_ok (in_turn (init_of h c) [] b.inits) (λ (inits : List TypedInit). typed_body h e (owner_of c b.owner) (params_in f) inits b.tree) body w in
+    let r = then_ok (given_in_turn (init_of h c) [] b.inits) (λ (inits : List TypedInit). typed_body h e (owner_of c b.owner) (params_in f) inits b.tree) body w in
     tree_typed h q (types_of globals) e (owner_of c b.owner) (params_in f) r.0 b.tree body
     (record {
       has = has;

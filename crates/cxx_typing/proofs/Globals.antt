@@ -15,7 +15,7 @@ use Rattle.cxx_syntax.specs.declared.source_text.Global.{Global}
 use Rattle.cxx_program.specs.Typed.{Types, IsKnown}
 use Rattle.cxx_expression.specs.declared.scene.Entry.{Entry}
 use Rattle.cxx_expression.specs.Values.{type_of}
-use Rattle.cxx_resolve.specs.Turns.{in_turn}
+use Rattle.cxx_resolve.specs.Turns.{given_in_turn}
 use Rattle.cxx_resolve.specs.Settled.{settle}
 use Rattle.cxx_resolve.specs.Globals.{most_globals, global_entry, typed_global, global_of}
 use Rattle.cxx_typing.proofs.Steps.{settled_clean}
@@ -54,7 +54,7 @@ one_global h done g y are w = record {
       (get_pushed done y i x is);
 }
 
-pub globals_typed : (h : Classes) (list : List Global) (globals : List Entry) → in_turn (global_of h) [] list ≡ Ok globals → AreGlobals h globals
+pub globals_typed : (h : Classes) (list : List Global) (globals : List Entry) → given_in_turn (global_of h) [] list ≡ Ok globals → AreGlobals h globals
 globals_typed h list globals w = turn_kept (global_of h) (AreGlobals h) (one_global h) list [] globals (record { each = λ i x is. absurd (cc) }) w
 
 abbrev pub types_of : List Entry → Types

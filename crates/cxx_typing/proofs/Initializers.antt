@@ -23,7 +23,7 @@ use Rattle.cxx_program.specs.declared.program.TypedInit.{TypedInit}
 use Rattle.cxx_program.specs.Typed.{Converts, to_number, no_scope, IsTypedInit, AreInits}
 use Rattle.cxx_expression.specs.Values.{constant_of, fitted}
 use Rattle.cxx_expression.specs.declared.typed.Value.{Value}
-use Rattle.cxx_resolve.specs.Turns.{in_turn}
+use Rattle.cxx_resolve.specs.Turns.{given_in_turn}
 use Rattle.cxx_resolve.specs.Initializers.{member_number, constant_conversion, initialized, init_once, init_at, good_init, init_of}
 use Rattle.cxx_typing.proofs.Values.{constant_typed, BecomesNull, argument_by}
 use Rattle.cxx_typing.proofs.Widths.{IsNumber, BecomesNumber, leaf_number, kept_by}
@@ -103,7 +103,7 @@ one_init h keeps c done i y are w =
           (get_pushed done y j a at_j);
     }
 
-pub inits_typed : (h : Classes) → IsHierarchy h → (c : ClassId) (list : List Init) (inits : List TypedInit) → in_turn (init_of h c) [] list ≡ Ok inits → AreInits h c inits
+pub inits_typed : (h : Classes) → IsHierarchy h → (c : ClassId) (list : List Init) (inits : List TypedInit) → given_in_turn (init_of h c) [] list ≡ Ok inits → AreInits h c inits
 inits_typed h keeps c list inits w =
     turn_kept (init_of h c) (AreInits h c) (one_init h keeps c) list [] inits
     (record { each = λ x has. absurd (has_from_contains [] x has); once = λ i j a b p q same. absurd (cc) }) w

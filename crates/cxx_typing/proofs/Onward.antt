@@ -29,7 +29,7 @@ use Rattle.cxx_expression.specs.Places.{leaf_of}
 use Rattle.cxx_expression.specs.Calls.{whole_call}
 use Rattle.cxx_expression.specs.Casts.{polymorphic_pointer}
 use Rattle.cxx_expression.specs.Rights.{right_of, converted_value, converted_right}
-use Rattle.cxx_resolve.specs.Statements.{new_variable, first_value, declare_of, assign_of, write_of, copy_of, call_statement, delete_of, value_return, return_at, return_of, print_of, print_type_of, print_view_of, dump_of, plain_of}
+use Rattle.cxx_resolve.specs.Statements.{new_variable, first_value, declare_of, assign_of, write_of, copy_of, call_statement, delete_of, value_return, typed_return, return_of, print_of, print_type_of, print_view_of, dump_of, plain_of}
 use Rattle.cxx_typing.proofs.Steps.{then_both}
 
 -- the statement leads to no other number
@@ -103,7 +103,7 @@ value_return_goes h e s at u x kind t =
     let last = a.2 in
     goes (typed.Return (Some a.0)) kind (cc) (λ size n. tt)
 
-return_by : (h : Classes) (e : Setting) (s : Scene) (at : ℕ) (ret : Returns) (x : Option Operand) (kind : TypedKind) → (return_at h e s at ret x).typed ≡ Some kind → GoesOn kind
+return_by : (h : Classes) (e : Setting) (s : Scene) (at : ℕ) (ret : Returns) (x : Option Operand) (kind : TypedKind) → (typed_return h e s at ret x).typed ≡ Some kind → GoesOn kind
 return_by h e s at returns.Nowhere x kind t = absurd (cc)
 return_by h e s at returns.Nothing None kind t = goes (typed.Return None) kind (cc) (λ size n. tt)
 return_by h e s at returns.Nothing (Some x) kind t = absurd (cc)

@@ -18,7 +18,7 @@ use Rattle.cxx_program.specs.declared.program.TypedProgram.{TypedProgram}
 use Rattle.cxx_program.specs.Typed.{IsTypedProgram}
 use Rattle.cxx_expression.specs.declared.scene.Entry.{Entry}
 use Rattle.cxx_resolve.specs.Stops.{◌>>=◌}
-use Rattle.cxx_resolve.specs.Turns.{in_turn}
+use Rattle.cxx_resolve.specs.Turns.{given_in_turn}
 use Rattle.cxx_resolve.specs.Globals.{global_of}
 use Rattle.cxx_resolve.specs.Programs.{owner_of, body_of, main_of, program, program_of}
 use Rattle.cxx_typing.specs.Pieces.{StatementsAreTyped}
@@ -35,8 +35,8 @@ pub record IsMadeOf (h : Classes) (source : SourceText) (result : TypedProgram) 
   pub globals : List Entry
   pub bodies : List TypedBody
   pub main : Option TypedBody
-  pub globals_made : in_turn (global_of h) [] source.globals ≡ Ok globals
-  pub bodies_made : in_turn (body_of h globals) [] source.bodies ≡ Ok bodies
+  pub globals_made : given_in_turn (global_of h) [] source.globals ≡ Ok globals
+  pub bodies_made : given_in_turn (body_of h globals) [] source.bodies ≡ Ok bodies
   pub main_made : main_of h globals source.main ≡ Ok main
   pub same : program globals main bodies ≡ result
 
@@ -44,20 +44,20 @@ pub made_of : (h : Classes) (source : SourceText) (result : TypedProgram) → pr
 unfolding program_of
 made_of h source result w =
     let n = source.main_place in
-    let g = then_ok (in_turn (global_of h) [] source.globals)
-    (λ (globals : List Entry). in_turn (body_of h globals) [] (take n source.bodies) >>= λ before. main_of h globals source.main >>= λ main. in_turn (body_of h globals) before (drop n source.bodies) >>= λ bodies. Ok (program globals main bodies)) result w in
-    let b = then_ok (in_turn (body_of h g.0) [] (take n source.bodies))
-    (λ (before : List TypedBody). main_of h g.0 source.main >>= λ main. in_turn (body_of h g.0) before (drop n source.bodies) >>= λ bodies. Ok (program g.0 main bodies)) result g.2 in
+    let g = then_ok (given_in_turn (global_of h) [] source.globals)
+    (λ (globals : List Entry). given_in_turn (body_of h globals) [] (take n source.bodies) >>= λ before. main_of h globals source.main >>= λ main. given_in_turn (body_of h globals) before (drop n source.bodies) >>= λ bodies. Ok (program globals main bodies)) result w in
+    let b = then_ok (given_in_turn (body_of h g.0) [] (take n source.bodies))
+    (λ (before : List TypedBody). main_of h g.0 source.main >>= λ main. given_in_turn (body_of h g.0) before (drop n source.bodies) >>= λ bodies. Ok (program g.0 main bodies)) result g.2 in
     let m = then_ok (main_of h g.0 source.main)
-    (λ (main : Option TypedBody). in_turn (body_of h g.0) b.0 (drop n source.bodies) >>= λ bodies. Ok (program g.0 main bodies)) result b.2 in
-    let r = then_ok (in_turn (body_of h g.0) b.0 (drop n source.bodies)) (λ (bodies : List TypedBody). Ok (program g.0 m.0 bodies)) result m.2 in
+    (λ (main : Option TypedBody). given_in_turn (body_of h g.0) b.0 (drop n source.bodies) >>= λ bodies. Ok (program g.0 main bodies)) result b.2 in
+    let r = then_ok (given_in_turn (body_of h g.0) b.0 (drop n source.bodies)) (λ (bodies : List TypedBody). Ok (program g.0 m.0 bodies)) result m.2 in
     let last = r.2 in
     record {
       globals = g.0;
       bodies = r.0;
       main = m.0;
       globals_made = g.1;
-      bodies_made = subst (λ (list : List Body). in_turn (body_of h g.0) [] list ≡ Ok r.0) (take-append-drop n source.bodies) (turn_join (body_of h g.0) (take n source.bodies) (drop n source.bodies) [] b.0 r.0 b.1 r.1);
+      bodies_made = subst (λ (list : List Body). given_in_turn (body_of h g.0) [] list ≡ Ok r.0) (take-append-drop n source.bodies) (turn_join (body_of h g.0) (take n source.bodies) (drop n source.bodies) [] b.0 r.0 b.1 r.1);
       main_made = m.1;
       same = cc;
     }

@@ -39,8 +39,8 @@ use Rattle.cxx_expression.specs.Casts.{polymorphic_pointer}
 use Rattle.cxx_expression.specs.Rights.{right_of, converted_value, converted_right}
 use Rattle.cxx_expression.proofs.Complete.{complete_pure, complete_warn, complete_bind, complete_both, complete_if, complete_first, whole_grows}
 use Rattle.cxx_expression.proofs.CompleteRights.{c_right, value_grows}
-use Rattle.cxx_resolve.specs.Statements.{new_variable, first_value, declare_of, assign_of, write_of, copy_of, call_statement, delete_of, value_return, return_at, return_of, print_of, print_type_of, print_view_of, dump_of, plain_of}
-use Rattle.cxx_typing.specs.Pieces.{IsDeclared, StatementsAreTyped}
+use Rattle.cxx_resolve.specs.Statements.{new_variable, first_value, declare_of, assign_of, write_of, copy_of, call_statement, delete_of, value_return, typed_return, return_of, print_of, print_type_of, print_view_of, dump_of, plain_of}
+use Rattle.cxx_typing.specs.Pieces.{IsTypedDeclaration, StatementsAreTyped}
 use Rattle.cxx_typing.proofs.Steps.{then_both, pair_both, IsClean, clean_rest, clean_both, clean_pair, settled_clean}
 use Rattle.cxx_typing.specs.Scopes.{PureAreVirtual, wanted, IsSetting, IsScene}
 use Rattle.cxx_typing.proofs.Values.{variable_typed, operand_typed, pointer_typed, number_typed, conversion_typed, argument_by, converted_typed}
@@ -92,7 +92,7 @@ c_first_value q h e s at t n None = complete_pure _
 c_first_value q h e s at t n (Some r) = complete_bind _ _ (q.right h e s at t r) (λ c. complete_pure _)
 
 pub declare_typed : PiecesAreComplete → (h : Classes) → IsHierarchy h → PureAreVirtual h → (e : Setting) (s : Scene) (at : ℕ) (ty : ValueType Text) (ty_at : ℕ) (x : Spot) (init : Option Right) (r : TypedKind × Scene) →
-    IsClean (declare_of h e s at ty ty_at x init) r → IsDeclared h e s x r
+    IsClean (declare_of h e s at ty ty_at x init) r → IsTypedDeclaration h e s x r
 unfolding declare_of
 declare_typed q h keeps virtual e s at ty ty_at x init r i =
     let u = clean_both (new_variable h s ty ty_at x) _ r (c_new_variable q h s ty ty_at x) (λ t. complete_bind _ _ (c_first_value q h e (declared s x.name t) at t (length s.types) init) (λ k. complete_pure _)) i in
@@ -174,7 +174,7 @@ value_return_typed h keeps e s k f g at u wants x kind t =
     let last = a.2 in
     kind_is h k (typed.Return (Some a.0)) kind (cc) (returns_value a.0 u (f.returns ∙ wants) (converted_typed h keeps e s k f g at u x a.0 a.1))
 
-return_by : (h : Classes) → IsHierarchy h → (e : Setting) (s : Scene) (k : Scope) → IsSetting e k → IsScene s k → (at : ℕ) (ret : Returns) → e.returns ≡ ret → (x : Option Operand) (kind : TypedKind) → (return_at h e s at ret x).typed ≡ Some kind → IsTyped h k kind
+return_by : (h : Classes) → IsHierarchy h → (e : Setting) (s : Scene) (k : Scope) → IsSetting e k → IsScene s k → (at : ℕ) (ret : Returns) → e.returns ≡ ret → (x : Option Operand) (kind : TypedKind) → (typed_return h e s at ret x).typed ≡ Some kind → IsTyped h k kind
 return_by h keeps e s k f g at returns.Nowhere is x kind t = absurd (cc)
 return_by h keeps e s k f g at returns.Nothing is None kind t = kind_is h k (typed.Return None) kind (cc) (returns_nothing (f.returns ∙ ap wanted is))
 return_by h keeps e s k f g at returns.Nothing is (Some x) kind t = absurd (cc)

@@ -2,23 +2,23 @@
 use Rattle.std.proofs.Common.{◌≡◌, ℕ, zero, suc, Some, Result, Ok, List, [], ◌∷◌, ◌++◌, append_assoc, append-nil, refl, sym, ◌∙◌, ap, subst, slice_get}
 use Rattle.cxx_hierarchy.specs.declared.stop.Stop.{Stop}
 use Rattle.cxx_resolve.specs.Stops.{◌>>=◌}
-use Rattle.cxx_resolve.specs.Turns.{in_turn}
+use Rattle.cxx_resolve.specs.Turns.{given_in_turn}
 use Rattle.cxx_typing.proofs.Drafts.{then_ok}
 
 -- what each item keeps of those before it holds of all
 pub turn_kept : {X Y : Type 0} (give : List Y → X → Result Y Stop) (P : List Y → Type 0) → ((done : List Y) (x : X) (y : Y) → P done → give done x ≡ Ok y → P (done ++ y ∷ [])) → (xs : List X) (done new : List Y) → P done →
-    in_turn give done xs ≡ Ok new → P new
+    given_in_turn give done xs ≡ Ok new → P new
 turn_kept give P step [] done new p w = let same : done ≡ new = cc in subst P same p
 turn_kept {Y = Y} give P step (x ∷ xs) done new p w =
-    let r = then_ok (give done x) (λ (y : Y). in_turn give (done ++ y ∷ []) xs) new w in
+    let r = then_ok (give done x) (λ (y : Y). given_in_turn give (done ++ y ∷ []) xs) new w in
     turn_kept give P step xs (done ++ r.0 ∷ []) new (step done x r.0 p r.1) r.2
 
 -- two lists, one after the other
-pub turn_join : {X Y : Type 0} (give : List Y → X → Result Y Stop) (xs ys : List X) (done mid new : List Y) → in_turn give done xs ≡ Ok mid → in_turn give mid ys ≡ Ok new → in_turn give done (xs ++ ys) ≡ Ok new
-turn_join {Y = Y} give [] ys done mid new a b = let same : done ≡ mid = cc in subst (λ (d : List Y). in_turn give d ys ≡ Ok new) (sym same) b
+pub turn_join : {X Y : Type 0} (give : List Y → X → Result Y Stop) (xs ys : List X) (done mid new : List Y) → given_in_turn give done xs ≡ Ok mid → given_in_turn give mid ys ≡ Ok new → given_in_turn give done (xs ++ ys) ≡ Ok new
+turn_join {Y = Y} give [] ys done mid new a b = let same : done ≡ mid = cc in subst (λ (d : List Y). given_in_turn give d ys ≡ Ok new) (sym same) b
 turn_join {Y = Y} give (x ∷ xs) ys done mid new a b =
-    let r = then_ok (give done x) (λ (y : Y). in_turn give (done ++ y ∷ []) xs) mid a in
-    ap (λ (q : Result Y Stop). q >>= λ y. in_turn give (done ++ y ∷ []) (xs ++ ys)) r.1 ∙ turn_join give xs ys (done ++ r.0 ∷ []) mid new r.2 b
+    let r = then_ok (give done x) (λ (y : Y). given_in_turn give (done ++ y ∷ []) xs) mid a in
+    ap (λ (q : Result Y Stop). q >>= λ y. given_in_turn give (done ++ y ∷ []) (xs ++ ys)) r.1 ∙ turn_join give xs ys (done ++ r.0 ∷ []) mid new r.2 b
 
 -- item by item
 abbrev pub AreEach : {X Y : Type 0} → (X → Y → Type 0) → List X → List Y → Type 0
@@ -47,9 +47,9 @@ pub record AreGiven {X Y : Type 0} (give : X → Result Y Stop) (xs : List X) (d
   pub behind : new ≡ done ++ items
   pub each : AreEach (λ x y. give x ≡ Ok y) xs items
 
-pub turn_given : {X Y : Type 0} (give : X → Result Y Stop) (xs : List X) (done new : List Y) → in_turn (λ before x. give x) done xs ≡ Ok new → AreGiven give xs done new
+pub turn_given : {X Y : Type 0} (give : X → Result Y Stop) (xs : List X) (done new : List Y) → given_in_turn (λ before x. give x) done xs ≡ Ok new → AreGiven give xs done new
 turn_given give [] done new w = let same : done ≡ new = cc in record { items = []; behind = sym same ∙ sym (append-nil done); each = tt }
 turn_given {Y = Y} give (x ∷ xs) done new w =
-    let r = then_ok (give x) (λ (y : Y). in_turn (λ before z. give z) (done ++ y ∷ []) xs) new w in
+    let r = then_ok (give x) (λ (y : Y). given_in_turn (λ before z. give z) (done ++ y ∷ []) xs) new w in
     let rest = turn_given give xs (done ++ r.0 ∷ []) new r.2 in
     record { items = r.0 ∷ rest.items; behind = rest.behind ∙ append_assoc done (r.0 ∷ []) rest.items; each = (r.1, rest.each) }

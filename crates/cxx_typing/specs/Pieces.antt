@@ -23,7 +23,7 @@ use Rattle.cxx_typing.specs.Scopes.{PureAreVirtual, IsSetting, IsScene}
 
 -- a declaration: the scene behind it has one variable more, of a known type, and where that is a local of the body the
 -- statement is typed (ISO C++03 3.3.1, 8.5)
-pub record IsDeclared (h : Classes) (e : Setting) (s : Scene) (x : Spot) (r : TypedKind × Scene) : Type 0 where
+pub record IsTypedDeclaration (h : Classes) (e : Setting) (s : Scene) (x : Spot) (r : TypedKind × Scene) : Type 0 where
   pub ty : ValueType ClassId
   pub known : IsKnown h ty
   pub scene : r.1 ≡ declared s x.name ty
@@ -33,5 +33,5 @@ pub record IsDeclared (h : Classes) (e : Setting) (s : Scene) (x : Spot) (r : Ty
 pub record StatementsAreTyped : Type 0 where
   pub plain : (h : Classes) → IsHierarchy h → PureAreVirtual h → (e : Setting) (s : Scene) (k : Scope) → IsSetting e k → IsScene s k → (at : ℕ) (x : StatementKind) (kind : TypedKind) → settle (plain_of h e s at x) ≡ Ok kind → IsTyped h k kind
   pub declaration : (h : Classes) → IsHierarchy h → PureAreVirtual h → (e : Setting) (s : Scene) (at : ℕ) (ty : ValueType Text) (ty_at : ℕ) (x : Spot) (init : Option Right) (r : TypedKind × Scene) →
-      settle (declare_of h e s at ty ty_at x init) ≡ Ok r → IsDeclared h e s x r
+      settle (declare_of h e s at ty ty_at x init) ≡ Ok r → IsTypedDeclaration h e s x r
   pub condition : (e : Setting) (s : Scene) (k : Scope) → IsSetting e k → IsScene s k → (at : ℕ) (x : Operand) (n : Number) → settle (number_of e s at x) ≡ Ok n → HasType k n.operand (NumberType n.scalar)

@@ -25,7 +25,7 @@ use Rattle.cxx_program.specs.declared.program.Owner.TheVariants as owner
 use Rattle.cxx_program.specs.Typed.{IsTypedProgram}
 use Rattle.cxx_expression.specs.declared.scene.Entry.{Entry}
 use Rattle.cxx_resolve.specs.Stops.{◌>>=◌}
-use Rattle.cxx_resolve.specs.Turns.{in_turn}
+use Rattle.cxx_resolve.specs.Turns.{given_in_turn}
 use Rattle.cxx_resolve.specs.Globals.{global_of}
 use Rattle.cxx_resolve.specs.Programs.{typed_body, main_setting, main_tree, main_of, body_of, program, program_of}
 use Rattle.cxx_typing.specs.Sources.{IsSourceOf}
@@ -33,16 +33,16 @@ use Rattle.cxx_typing.proofs.Drafts.{then_ok}
 use Rattle.cxx_typing.proofs.PureFunctions.{pure_are_virtual}
 use Rattle.path_model.specs.States.{is_body}
 use Rattle.cxx_record_parser.proofs.Numbers.{source_in_order}
-use Rattle.cxxabi_cmd.specs.Verdict.{Verdict, Judgement, Stops, Accepts, by_text, by_records, by_classes, by_bodies, by_words, accepted, IsSource, HasNoFault}
+use Rattle.cxxabi_cmd.specs.Verdict.{Verdict, Judgement, Stops, Accepts, by_text, by_records, by_classes, by_bodies, by_words, accepted, SpellsSource, MeetsNoFault}
 
 -- the classes of an accepted source are a hierarchy
-pub source_keeps : (text : List ℕ) (s : SourceText) → IsSource text s → faults_of s.records ≡ [] → IsHierarchy (resolved s.records)
+pub source_keeps : (text : List ℕ) (s : SourceText) → SpellsSource text s → faults_of s.records ≡ [] → IsHierarchy (resolved s.records)
 source_keeps text s is none =
     is_hierarchy s.records (record { none = none; in_order = λ i r at. each_at IsInOrder s.records i r (recursion_from_All IsInOrder s.records (source_in_order text s is.all is.rest is.reads)) at })
 
 abbrev pub Kept : Judgement → Type 0
 Kept (Stops stop) = Unit {0}
-Kept (Accepts source h program) = IsHierarchy h × HasNoFault h
+Kept (Accepts source h program) = IsHierarchy h × MeetsNoFault h
 
 kept : (text : List ℕ) (judgement : Judgement) → Verdict text judgement → Kept judgement
 kept text _ (by_text stop is) = tt
@@ -56,11 +56,11 @@ pub accepted_keeps : (text : List ℕ) (s : SourceText) (h : Classes) (p : Typed
 accepted_keeps text s h p verdict = (kept text (Accepts s h p) verdict).0
 
 -- and have no fault
-pub accepted_fine : (text : List ℕ) (s : SourceText) (h : Classes) (p : TypedProgram) → Verdict text (Accepts s h p) → HasNoFault h
+pub accepted_fine : (text : List ℕ) (s : SourceText) (h : Classes) (p : TypedProgram) → Verdict text (Accepts s h p) → MeetsNoFault h
 accepted_fine text s h p verdict = (kept text (Accepts s h p) verdict).1
 
 -- the names of the classes of an accepted source are words
-class_name : (text : List ℕ) (s : SourceText) → IsSource text s → (n : ℕ) (r : Record) → slice_get s.records n ≡ Some r → IsToken r.name Word 0
+class_name : (text : List ℕ) (s : SourceText) → SpellsSource text s → (n : ℕ) (r : Record) → slice_get s.records n ≡ Some r → IsToken r.name Word 0
 class_name text s is n r at =
     let sorted = is.sorts.sorted in
     let reads = subst (λ (ts : List Lexeme). SourceReads text s ts is.rest) sorted is.reads in
@@ -72,7 +72,7 @@ names_kept (r ∷ records) of each zero class at =
     let same : resolved_class of r ≡ class = (let f : Some (resolved_class of r) ≡ Some class = at in cc) in subst (λ (c : Class). IsToken c.name Word 0) same (each zero r refl)
 names_kept (r ∷ records) of each (suc n) class at = names_kept records of (λ m q is. each (suc m) q is) n class at
 
-source_named : (text : List ℕ) (s : SourceText) → IsSource text s → AreNamesWords (resolved s.records)
+source_named : (text : List ℕ) (s : SourceText) → SpellsSource text s → AreNamesWords (resolved s.records)
 source_named text s is = record { each = λ c class at. names_kept s.records (class_of_name (names_of s.records)) (class_name text s is) c.0 class at }
 
 abbrev Named : Judgement → Type 0
@@ -104,39 +104,39 @@ main_kept h globals None main w = let same : None ≡ main = cc in ap is_body (s
 main_kept h globals (Some tree) main w = tree_kept h globals tree main w
 
 behind_main : (h : Classes) (globals : List Entry) (before : List TypedBody) (behind : List Body) (main : Option TypedBody) (given : Bool) (result : TypedProgram) →
-    (in_turn (body_of h globals) before behind >>= λ bodies. Ok (program globals main bodies)) ≡ Ok result → is_body main ≡ given → is_body result.main ≡ given
+    (given_in_turn (body_of h globals) before behind >>= λ bodies. Ok (program globals main bodies)) ≡ Ok result → is_body main ≡ given → is_body result.main ≡ given
 behind_main h globals before behind main given result w is =
-    let r = then_ok (in_turn (body_of h globals) before behind) (λ (bodies : List TypedBody). Ok (program globals main bodies)) result w in
+    let r = then_ok (given_in_turn (body_of h globals) before behind) (λ (bodies : List TypedBody). Ok (program globals main bodies)) result w in
     let last = r.2 in
     let same : program globals main r.0 ≡ result = cc in
     ap (λ (p : TypedProgram). is_body p.main) (sym same) ∙ is
 
 from_main : (h : Classes) (globals : List Entry) (before : List TypedBody) (behind : List Body) (tree : Option BodyTree) (result : TypedProgram) →
-    (main_of h globals tree >>= λ main. in_turn (body_of h globals) before behind >>= λ bodies. Ok (program globals main bodies)) ≡ Ok result → is_body result.main ≡ is_some tree
+    (main_of h globals tree >>= λ main. given_in_turn (body_of h globals) before behind >>= λ bodies. Ok (program globals main bodies)) ≡ Ok result → is_body result.main ≡ is_some tree
 from_main h globals before behind tree result w =
-    let m = then_ok (main_of h globals tree) (λ (main : Option TypedBody). in_turn (body_of h globals) before behind >>= λ bodies. Ok (program globals main bodies)) result w in
+    let m = then_ok (main_of h globals tree) (λ (main : Option TypedBody). given_in_turn (body_of h globals) before behind >>= λ bodies. Ok (program globals main bodies)) result w in
     behind_main h globals before behind m.0 (is_some tree) result m.2 (main_kept h globals tree m.0 m.1)
 
 from_bodies : (h : Classes) (globals : List Entry) (front behind : List Body) (tree : Option BodyTree) (result : TypedProgram) →
-    (in_turn (body_of h globals) [] front >>= λ before. main_of h globals tree >>= λ main. in_turn (body_of h globals) before behind >>= λ bodies. Ok (program globals main bodies)) ≡ Ok result → is_body result.main ≡ is_some tree
+    (given_in_turn (body_of h globals) [] front >>= λ before. main_of h globals tree >>= λ main. given_in_turn (body_of h globals) before behind >>= λ bodies. Ok (program globals main bodies)) ≡ Ok result → is_body result.main ≡ is_some tree
 from_bodies h globals front behind tree result w =
-    let b = then_ok (in_turn (body_of h globals) [] front)
-    (λ (before : List TypedBody). main_of h globals tree >>= λ main. in_turn (body_of h globals) before behind >>= λ bodies. Ok (program globals main bodies)) result w in
+    let b = then_ok (given_in_turn (body_of h globals) [] front)
+    (λ (before : List TypedBody). main_of h globals tree >>= λ main. given_in_turn (body_of h globals) before behind >>= λ bodies. Ok (program globals main bodies)) result w in
     from_main h globals b.0 behind tree result b.2
 
 program_main : (h : Classes) (source : SourceText) (result : TypedProgram) → program_of h source ≡ Ok result → is_body result.main ≡ is_some source.main
 unfolding program_of
 program_main h source result w =
     let n = source.main_place in
-    let g = then_ok (in_turn (global_of h) [] source.globals)
-    (λ (globals : List Entry). in_turn (body_of h globals) [] (take n source.bodies) >>= λ before. main_of h globals source.main >>= λ main. in_turn (body_of h globals) before (drop n source.bodies) >>= λ bodies. Ok (program globals main bodies)) result w in
+    let g = then_ok (given_in_turn (global_of h) [] source.globals)
+    (λ (globals : List Entry). given_in_turn (body_of h globals) [] (take n source.bodies) >>= λ before. main_of h globals source.main >>= λ main. given_in_turn (body_of h globals) before (drop n source.bodies) >>= λ bodies. Ok (program globals main bodies)) result w in
     from_bodies h g.0 (take n source.bodies) (drop n source.bodies) source.main result g.2
 
 -- what a source resolves to without a fault is typed
 abbrev pub ProgramsAreTyped : Type 0
 ProgramsAreTyped = (h : Classes) (source : SourceText) (program : TypedProgram) → IsSourceOf h source → program_of h source ≡ Ok program → IsTypedProgram h program
 
-source_is : (text : List ℕ) (s : SourceText) → IsSource text s → faults_of s.records ≡ [] → IsSourceOf (resolved s.records) s
+source_is : (text : List ℕ) (s : SourceText) → SpellsSource text s → faults_of s.records ≡ [] → IsSourceOf (resolved s.records) s
 source_is text s is none =
     let keeps = source_keeps text s is none in
     record { keeps = keeps; classes = refl; pure = pure_are_virtual text s is.all is.rest is.reads keeps; bodies = source_bodies text s is.all is.rest is.reads }

@@ -14,25 +14,25 @@ use Rattle.cxxabi_cmd.specs.declared.reply.Reply.{Reply}
 use Rattle.cxxabi_cmd.specs.declared.status.Status.{Status}
 use Rattle.cxxabi_cmd.specs.Commands.{IsOnBytes, RunsMain, by_run, by_paths, by_gen, by_foreign}
 use Rattle.cxxabi_cmd.specs.Divided.{IsLayoutOf}
-use Rattle.cxxabi_cmd.specs.Handed.{Seen, IsMachineOf}
+use Rattle.cxxabi_cmd.specs.Handed.{SeenMachine, IsMachineOf}
 use Rattle.cxxabi_cmd.specs.Output.{Answer, Yields}
-use Rattle.cxxabi_cmd.specs.invariants.Replies.{answer_of, machine_of, HandsBy}
+use Rattle.cxxabi_cmd.specs.invariants.Replies.{as_answer, machine_of, HandsBy}
 
 abbrev pub answer_with : List ℕ → Status → Answer
 answer_with text status = record { text = text; status = status }
 
 -- an answer that was made
-pub yields : (r : Result Reply Want) (front : List ℕ) (size : ℕ) (source : SourceText) (h : Classes) (typed : TypedProgram) (c : Command) (a : Answer) → IfOk r (λ reply. answer_of reply ≡ a) → Yields front size source h typed c a → IfOk r (λ reply. Yields front size source h typed c (answer_of reply))
+pub yields : (r : Result Reply Want) (front : List ℕ) (size : ℕ) (source : SourceText) (h : Classes) (typed : TypedProgram) (c : Command) (a : Answer) → IfOk r (λ reply. as_answer reply ≡ a) → Yields front size source h typed c a → IfOk r (λ reply. Yields front size source h typed c (as_answer reply))
 yields (Ok reply) front size source h typed c a same is = subst (λ (b : Answer). Yields front size source h typed c b) (sym same) is
 yields (Err w) front size source h typed c a same is = same
 
 -- no machine, for a reason
 pub hands_none : (r : Result Reply Want) (c : Command) (front : List ℕ) (source : SourceText) (h : Classes) (program : TypedProgram) → IfOk r (λ reply. machine_of reply ≡ None) →
     ((trace : Bool) (steps : ℕ) (tree : BodyTree) (rows : List ClassLayout) → RunsMain c steps trace → IsOnBytes c → source.main ≡ Some tree → IsLayoutOf c front h rows → ⊥) → IfOk r (λ reply. HandsBy c front source h program (machine_of reply))
-hands_none (Ok reply) c front source h program none why = subst (λ (m : Option Seen). HandsBy c front source h program m) (sym none) why
+hands_none (Ok reply) c front source h program none why = subst (λ (m : Option SeenMachine). HandsBy c front source h program m) (sym none) why
 hands_none (Err w) c front source h program none why = none
 
-pub hands_some : (c : Command) (front : List ℕ) (source : SourceText) (h : Classes) (program : TypedProgram) (rows : List ClassLayout) (trace : Bool) (steps : ℕ) (tree : BodyTree) (m : Option Seen) → RunsMain c steps trace → IsOnBytes c → source.main ≡ Some tree → IsLayoutOf c front h rows →
+pub hands_some : (c : Command) (front : List ℕ) (source : SourceText) (h : Classes) (program : TypedProgram) (rows : List ClassLayout) (trace : Bool) (steps : ℕ) (tree : BodyTree) (m : Option SeenMachine) → RunsMain c steps trace → IsOnBytes c → source.main ≡ Some tree → IsLayoutOf c front h rows →
     MatchOption m ⊥ (IsMachineOf h rows program trace steps) → HandsBy c front source h program m
 hands_some c front source h program rows trace steps tree None runs bytes main laid machine = absurd machine
 hands_some c front source h program rows trace steps tree (Some m) runs bytes main laid machine =

@@ -9,7 +9,7 @@ use Rattle.cxxabi_input.specs.Division.{line_count}
 use Rattle.cxxabi_words.specs.declared.command.Command.{Command}
 use Rattle.cxxabi_words.specs.Commands.{Says, IsCommand}
 use Rattle.cxxabi_cmd.specs.declared.status.Status.TheVariants.{Usage, Limit, BadInput}
-use Rattle.cxxabi_cmd.specs.Commands.{input_of, parts_of}
+use Rattle.cxxabi_cmd.specs.Commands.{input_of, divided_input}
 use Rattle.cxxabi_cmd.specs.Divided.{undivided_rule}
 use Rattle.cxxabi_cmd.specs.Verdict.{Verdict, Stops, Accepts}
 use Rattle.cxxabi_cmd.specs.Output.{Answer, Output, usage, too_long, undivided, stopped, yielded, Yields, line_alone, status_of_stop, source_limit}
@@ -27,7 +27,7 @@ Parted c input (Some parts) a = Judged c parts.0 parts.1 a
 -- what it answers to an input
 pub data Told (c : Command) (input : List ℕ) : Answer → Type 0 where
   is_long : source_limit < length input → Told c input (line_alone (Limit L1))
-  is_short : (answer : Answer) → length input ≤ source_limit → Parted c input (parts_of c input) answer → Told c input answer
+  is_short : (answer : Answer) → length input ≤ source_limit → Parted c input (divided_input c input) answer → Told c input answer
 
 -- what is answered to words and bytes
 pub data Asked (words : List (List ℕ)) (bytes : List ℕ) : Answer → Type 0 where
@@ -48,10 +48,10 @@ asked_by words bytes _ (yielded c front text source h typed answer says short pa
     is_told c answer says (is_short answer short (subst (λ o. Parted c (input_of c bytes) o answer) (sym parts) (is_yielded source h typed answer verdict yields)))
 
 -- and each such answer is one
-judged_output : (words : List (List ℕ)) (bytes : List ℕ) (c : Command) (front text : List ℕ) (a : Answer) → Says words c → length (input_of c bytes) ≤ source_limit → parts_of c (input_of c bytes) ≡ Some (front, text) → Judged c front text a → Output words bytes a
+judged_output : (words : List (List ℕ)) (bytes : List ℕ) (c : Command) (front text : List ℕ) (a : Answer) → Says words c → length (input_of c bytes) ≤ source_limit → divided_input c (input_of c bytes) ≡ Some (front, text) → Judged c front text a → Output words bytes a
 judged_output words bytes c front text _ says short parts (is_stopped stop verdict) = stopped c front text stop says short parts verdict
 judged_output words bytes c front text _ says short parts (is_yielded source h typed answer verdict yields) = yielded c front text source h typed answer says short parts verdict yields
 
-pub parted_output : (words : List (List ℕ)) (bytes : List ℕ) (c : Command) (parts : Option (List ℕ × List ℕ)) (a : Answer) → Says words c → length (input_of c bytes) ≤ source_limit → parts_of c (input_of c bytes) ≡ parts → Parted c (input_of c bytes) parts a → Output words bytes a
+pub parted_output : (words : List (List ℕ)) (bytes : List ℕ) (c : Command) (parts : Option (List ℕ × List ℕ)) (a : Answer) → Says words c → length (input_of c bytes) ≤ source_limit → divided_input c (input_of c bytes) ≡ parts → Parted c (input_of c bytes) parts a → Output words bytes a
 parted_output words bytes c None a says short parts is = subst (λ b. Output words bytes b) is (undivided c says short parts)
 parted_output words bytes c (Some p) a says short parts is = judged_output words bytes c p.0 p.1 a says short parts is

@@ -20,7 +20,7 @@ use Rattle.cxx_resolve.specs.Programs.{program_of, HasFewStatements}
 use Rattle.cxx_resolve.proofs.Counted.{statements_are_few}
 use Rattle.cxx_resolve.specs.Stops.{Fails}
 use Rattle.cxxabi_cmd.proofs.TreeCounts.{source_weight, most_weight, statements_together}
-use Rattle.cxxabi_cmd.specs.Verdict.{AreLexemes, IsSource, IsFirstFault, HasNoFault, HasManyWords, HasFewWords, Verdict, Stops, Accepts, by_text, by_records, by_classes, by_bodies, by_words, accepted}
+use Rattle.cxxabi_cmd.specs.Verdict.{AreLexemes, SpellsSource, StopsFirst, MeetsNoFault, HasManyWords, HasFewWords, Verdict, Stops, Accepts, by_text, by_records, by_classes, by_bodies, by_words, accepted}
 
 -- what the reader of sources gives
 abbrev pub Reads : List ℕ → List Token → Option ℕ → SourceText → Type 0
@@ -29,7 +29,7 @@ Reads text tokens bad source = (rest : List Lexeme) × SourceReads text source (
 lexemes_of : (text : List ℕ) (tokens : List Token) (bad : Option ℕ) → AreTokens text tokens bad → AreLexemes text (lexemes text source_start tokens bad)
 lexemes_of text tokens bad cover = record { tokens = tokens; bad = bad; cover = cover; sorted = refl }
 
-input_of : (text : List ℕ) (tokens : List Token) (bad : Option ℕ) (source : SourceText) → AreTokens text tokens bad → Reads text tokens bad source → IsSource text source
+input_of : (text : List ℕ) (tokens : List Token) (bad : Option ℕ) (source : SourceText) → AreTokens text tokens bad → Reads text tokens bad source → SpellsSource text source
 input_of text tokens bad source cover reads = record {
   all = lexemes text source_start tokens bad;
   sorts = lexemes_of text tokens bad cover;
@@ -49,9 +49,9 @@ records_stop text tokens bad source e cover reads either = ⊎_elim (λ memory. 
     (λ first. inr (by_records source e (input_of text tokens bad source cover reads) first)) either
 
 pub classes_stop : (text : List ℕ) (tokens : List Token) (bad : Option ℕ) (source : SourceText) (h : Classes) (e : Stop) → AreTokens text tokens bad → Reads text tokens bad source →
-    (faults_of source.records ≡ []) × (h ≡ resolved source.records) → (e ≡ stop.NoMemory) ⊎ IsFirstFault h e → (e ≡ stop.NoMemory) ⊎ Verdict text (Stops e)
+    (faults_of source.records ≡ []) × (h ≡ resolved source.records) → (e ≡ stop.NoMemory) ⊎ StopsFirst h e → (e ≡ stop.NoMemory) ⊎ Verdict text (Stops e)
 classes_stop text tokens bad source h e cover reads passes either = ⊎_elim (λ memory. inl memory)
-    (λ first. inr (by_classes source e (input_of text tokens bad source cover reads) passes.0 (subst (λ (k : Classes). IsFirstFault k e) passes.1 first))) either
+    (λ first. inr (by_classes source e (input_of text tokens bad source cover reads) passes.0 (subst (λ (k : Classes). StopsFirst k e) passes.1 first))) either
 
 -- the bodies of a text have few statements
 pub few_statements : (text : List ℕ) (tokens : List Token) (bad : Option ℕ) (source : SourceText) → length tokens ≤ max_text_bytes + 1 → Reads text tokens bad source → HasFewStatements (2 ^ 32) source
@@ -69,22 +69,22 @@ fails (stop.Refused rule at) answer is = inr is
 fails (stop.Limit limit) answer is = inr is
 
 pub bodies_stop : (text : List ℕ) (tokens : List Token) (bad : Option ℕ) (source : SourceText) (h : Classes) (e : Stop) → AreTokens text tokens bad → Reads text tokens bad source →
-    (faults_of source.records ≡ []) × (h ≡ resolved source.records) → HasNoFault h → Fails e (program_of h source) → (e ≡ stop.NoMemory) ⊎ Verdict text (Stops e)
+    (faults_of source.records ≡ []) × (h ≡ resolved source.records) → MeetsNoFault h → Fails e (program_of h source) → (e ≡ stop.NoMemory) ⊎ Verdict text (Stops e)
 bodies_stop text tokens bad source h e cover reads passes none is = ⊎_elim (λ memory. inl memory)
-    (λ resolves. inr (by_bodies source e (input_of text tokens bad source cover reads) passes.0 (subst (λ (k : Classes). HasNoFault k) passes.1 none)
+    (λ resolves. inr (by_bodies source e (input_of text tokens bad source cover reads) passes.0 (subst (λ (k : Classes). MeetsNoFault k) passes.1 none)
     (subst (λ (k : Classes). program_of k source ≡ Err e) passes.1 resolves)))
     (fails e (program_of h source) is)
 
 pub words_stop : (text : List ℕ) (tokens : List Token) (bad : Option ℕ) (source : SourceText) (h : Classes) (program : TypedProgram) (e : Stop) → AreTokens text tokens bad → Reads text tokens bad source →
-    (faults_of source.records ≡ []) × (h ≡ resolved source.records) → HasNoFault h → program_of h source ≡ Ok program → (e ≡ stop.NoMemory) ⊎ ((e ≡ stop.Limit L7) × HasManyWords h) → (e ≡ stop.NoMemory) ⊎ Verdict text (Stops e)
+    (faults_of source.records ≡ []) × (h ≡ resolved source.records) → MeetsNoFault h → program_of h source ≡ Ok program → (e ≡ stop.NoMemory) ⊎ ((e ≡ stop.Limit L7) × HasManyWords h) → (e ≡ stop.NoMemory) ⊎ Verdict text (Stops e)
 words_stop text tokens bad source h program e cover reads passes none resolves either = ⊎_elim (λ memory. inl memory)
     (λ many. inr (subst (λ (d : Stop). Verdict text (Stops d)) (sym many.0)
-    (by_words source program (input_of text tokens bad source cover reads) passes.0 (subst (λ (k : Classes). HasNoFault k) passes.1 none)
+    (by_words source program (input_of text tokens bad source cover reads) passes.0 (subst (λ (k : Classes). MeetsNoFault k) passes.1 none)
     (subst (λ (k : Classes). program_of k source ≡ Ok program) passes.1 resolves) (subst (λ (k : Classes). HasManyWords k) passes.1 many.1)))) either
 
 pub all_passed : (text : List ℕ) (tokens : List Token) (bad : Option ℕ) (source : SourceText) (h : Classes) (program : TypedProgram) → AreTokens text tokens bad → Reads text tokens bad source →
-    (faults_of source.records ≡ []) × (h ≡ resolved source.records) → HasNoFault h → program_of h source ≡ Ok program → HasFewWords h → Verdict text (Accepts source h program)
+    (faults_of source.records ≡ []) × (h ≡ resolved source.records) → MeetsNoFault h → program_of h source ≡ Ok program → HasFewWords h → Verdict text (Accepts source h program)
 all_passed text tokens bad source h program cover reads passes none resolves few =
     subst (λ (k : Classes). Verdict text (Accepts source k program)) (sym passes.1)
-    (accepted source program (input_of text tokens bad source cover reads) passes.0 (subst (λ (k : Classes). HasNoFault k) passes.1 none)
+    (accepted source program (input_of text tokens bad source cover reads) passes.0 (subst (λ (k : Classes). MeetsNoFault k) passes.1 none)
     (subst (λ (k : Classes). program_of k source ≡ Ok program) passes.1 resolves) (subst (λ (k : Classes). HasFewWords k) passes.1 few))

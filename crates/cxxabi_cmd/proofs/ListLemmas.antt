@@ -14,9 +14,9 @@ use Rattle.abi_slots.proofs.Loops.{rest_is}
 use Rattle.cxxabi_cmd.specs.declared.listing.Listing.{Listing}
 use Rattle.cxxabi_cmd.specs.declared.reply.Reply.{Reply}
 use Rattle.cxxabi_cmd.specs.declared.status.Status.TheVariants.{Limit, Refused}
-use Rattle.cxxabi_cmd.specs.Output.{Answer, AreTexts, no_texts, more_texts, Lists, whole, too_much, line_alone, text_answer, numbered, first_classes}
-use Rattle.cxxabi_cmd.specs.invariants.Listings.{IsReady, IsAppended, IsListed, IsTooMuch, ListsName, is_unknown, is_class}
-use Rattle.cxxabi_cmd.specs.invariants.Replies.{answer_of}
+use Rattle.cxxabi_cmd.specs.Output.{Answer, AreTexts, no_texts, more_texts, Lists, whole, too_much, line_alone, text_answer, class_from_number, first_classes}
+use Rattle.cxxabi_cmd.specs.invariants.Listings.{IsReady, IsAppended, AreListedTexts, IsTooMuch, ListsName, is_unknown, is_class}
+use Rattle.cxxabi_cmd.specs.invariants.Replies.{as_answer}
 use Rattle.cxxabi_cmd.specs.declared.verdict.Accepted.{Accepted}
 use Rattle.cxxabi_cmd.proofs.LaidRows.{is_laid}
 use Rattle.cxxabi_cmd.proofs.Listed.{SomeTables, AreKnown, some_texts, first_known, named_below}
@@ -58,35 +58,35 @@ passes_all law accepted listing classes i text ready known so past =
     record { text = text ++ rest.0; are = so rest.0 rest.1; past = omega arith }
 
 -- what is answered by what was listed
-lists_whole : (accepted : Accepted) (listing : Listing) (classes : List ClassId) (text : List ℕ) → IsReady accepted → IsListed accepted.hierarchy accepted.layout listing classes text → Lists accepted.hierarchy listing classes (text_answer text)
+lists_whole : (accepted : Accepted) (listing : Listing) (classes : List ClassId) (text : List ℕ) → IsReady accepted → AreListedTexts accepted.hierarchy accepted.layout listing classes text → Lists accepted.hierarchy listing classes (text_answer text)
 lists_whole accepted listing classes text ready is = whole accepted.layout text (is_laid accepted.hierarchy accepted.layout ready.layout) is.are is.short
 
 lists_none : (accepted : Accepted) (listing : Listing) (classes : List ClassId) → IsReady accepted → IsTooMuch accepted.hierarchy accepted.layout listing classes → Lists accepted.hierarchy listing classes (line_alone (Limit L9))
 lists_none accepted listing classes ready is = too_much accepted.layout is.text (is_laid accepted.hierarchy accepted.layout ready.layout) is.are is.past
 
-lists_limit : (r : Result Reply Want) (accepted : Accepted) (listing : Listing) (classes : List ClassId) → IsReady accepted → IsTooMuch accepted.hierarchy accepted.layout listing classes → IfOk r (λ reply. answer_of reply ≡ line_alone (Limit L9)) →
-    IfOk r (λ reply. Lists accepted.hierarchy listing classes (answer_of reply))
+lists_limit : (r : Result Reply Want) (accepted : Accepted) (listing : Listing) (classes : List ClassId) → IsReady accepted → IsTooMuch accepted.hierarchy accepted.layout listing classes → IfOk r (λ reply. as_answer reply ≡ line_alone (Limit L9)) →
+    IfOk r (λ reply. Lists accepted.hierarchy listing classes (as_answer reply))
 lists_limit (Ok reply) accepted listing classes ready is same = subst (λ (a : Answer). Lists accepted.hierarchy listing classes a) (sym same) (lists_none accepted listing classes ready is)
 lists_limit (Err w) accepted listing classes ready is same = tt
 
 -- what was listed, or that it passes the limit
 abbrev pub Found : {X : Type 0} → Option X → (X → List ℕ) → Accepted → Listing → List ClassId → Type 0
-Found found items accepted listing classes = MatchOption found (IsTooMuch accepted.hierarchy accepted.layout listing classes) (λ x. IsListed accepted.hierarchy accepted.layout listing classes (items x))
+Found found items accepted listing classes = MatchOption found (IsTooMuch accepted.hierarchy accepted.layout listing classes) (λ x. AreListedTexts accepted.hierarchy accepted.layout listing classes (items x))
 
 pub found_whole : {X : Type 0} (found : Option X) (items : X → List ℕ) (x : X) (accepted : Accepted) (listing : Listing) (classes : List ClassId) → IsReady accepted → found ≡ Some x → Found found items accepted listing classes → Lists accepted.hierarchy listing classes (text_answer (items x))
 found_whole None items x accepted listing classes ready same is = absurd (cc)
 found_whole (Some y) items x accepted listing classes ready same is =
     let one : y ≡ x = cc in
-    lists_whole accepted listing classes (items x) ready (subst (λ z. IsListed accepted.hierarchy accepted.layout listing classes (items z)) one is)
+    lists_whole accepted listing classes (items x) ready (subst (λ z. AreListedTexts accepted.hierarchy accepted.layout listing classes (items z)) one is)
 
-pub found_none : {X : Type 0} (found : Option X) (items : X → List ℕ) (r : Result Reply Want) (accepted : Accepted) (listing : Listing) (classes : List ClassId) → IsReady accepted → found ≡ None → Found found items accepted listing classes → IfOk r (λ reply. answer_of reply ≡ line_alone (Limit L9)) →
-    IfOk r (λ reply. Lists accepted.hierarchy listing classes (answer_of reply))
+pub found_none : {X : Type 0} (found : Option X) (items : X → List ℕ) (r : Result Reply Want) (accepted : Accepted) (listing : Listing) (classes : List ClassId) → IsReady accepted → found ≡ None → Found found items accepted listing classes → IfOk r (λ reply. as_answer reply ≡ line_alone (Limit L9)) →
+    IfOk r (λ reply. Lists accepted.hierarchy listing classes (as_answer reply))
 found_none None items r accepted listing classes ready same is alone = lists_limit r accepted listing classes ready is alone
 found_none (Some y) items r accepted listing classes ready same is alone = absurd (cc)
 
 -- one class more of all
-pub first_more : (n : ℕ) (list : List ClassId) → list ≡ first_classes n → list ++ numbered n ∷ [] ≡ first_classes (n + 1)
-first_more n list so = ap (λ (l : List ClassId). l ++ numbered n ∷ []) so ∙ ap first_classes (sym (add-one n))
+pub first_more : (n : ℕ) (list : List ClassId) → list ≡ first_classes n → list ++ class_from_number n ∷ [] ≡ first_classes (n + 1)
+first_more n list so = ap (λ (l : List ClassId). l ++ class_from_number n ∷ []) so ∙ ap first_classes (sym (add-one n))
 
 pub all_known : (h : Classes) (classes : List ClassId) → classes ≡ first_classes (length h) → All (λ (c : ClassId). c.0 < length h) classes
 all_known h classes so =
@@ -99,10 +99,10 @@ one_known h classes c name so at =
     (All-from_recursion (λ (d : ClassId). d.0 < length h) (c ∷ []) (named_below h c.0 name at, tt))
 
 -- the class of a name, or that there is none
-pub name_unknown : (r : Result Reply Want) (size : ℕ) (h : Classes) (listing : Listing) (name : List ℕ) → (Contains (class_names h) name → ⊥) → IfOk r (λ reply. answer_of reply ≡ line_alone (Refused UnknownName size)) → IfOk r (λ reply. ListsName size h listing name (answer_of reply))
+pub name_unknown : (r : Result Reply Want) (size : ℕ) (h : Classes) (listing : Listing) (name : List ℕ) → (Contains (class_names h) name → ⊥) → IfOk r (λ reply. as_answer reply ≡ line_alone (Refused UnknownName size)) → IfOk r (λ reply. ListsName size h listing name (as_answer reply))
 name_unknown (Ok reply) size h listing name none same = subst (λ (a : Answer). ListsName size h listing name a) (sym same) (is_unknown none)
 name_unknown (Err w) size h listing name none same = tt
 
-pub name_listed : (r : Result Reply Want) (size : ℕ) (h : Classes) (listing : Listing) (name : List ℕ) (c : ClassId) → slice_get (class_names h) c.0 ≡ Some name → IfOk r (λ reply. Lists h listing (c ∷ []) (answer_of reply)) → IfOk r (λ reply. ListsName size h listing name (answer_of reply))
-name_listed (Ok reply) size h listing name c at is = is_class c (answer_of reply) at is
+pub name_listed : (r : Result Reply Want) (size : ℕ) (h : Classes) (listing : Listing) (name : List ℕ) (c : ClassId) → slice_get (class_names h) c.0 ≡ Some name → IfOk r (λ reply. Lists h listing (c ∷ []) (as_answer reply)) → IfOk r (λ reply. ListsName size h listing name (as_answer reply))
+name_listed (Ok reply) size h listing name c at is = is_class c (as_answer reply) at is
 name_listed (Err w) size h listing name c at is = tt

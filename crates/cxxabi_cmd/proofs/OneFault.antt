@@ -7,7 +7,7 @@ use Rattle.cxx_hierarchy.specs.declared.stop.Stop.TheVariants.{Refused}
 use Rattle.cxx_hierarchy.specs.declared.stop.Rule.TheVariants.{SharedPlace}
 use Rattle.cxx_hierarchy.specs.Classes.{Class, Classes, class_at}
 use Rattle.cxx_overrider.specs.Faults.{Spot, spot, size_part, place_part, IsBefore, by_class, by_part, by_item, by_test, Fault as MeaningFault}
-use Rattle.cxxabi_cmd.specs.Verdict.{Fault, of_meaning, large, shared, IsFirstFault, HasNoFault}
+use Rattle.cxxabi_cmd.specs.Verdict.{SourceFault, of_meaning, large, shared, StopsFirst, MeetsNoFault}
 use Rattle.cxxabi_cmd.proofs.MeaningFaults.{one_stop, part_below}
 
 same_number : (a b : ClassId) → a.0 ≡ b.0 → a ≡ b
@@ -56,7 +56,7 @@ differ : (c d : ClassId) → spot c size_part 0 0 ≡ spot d place_part 0 0 → 
 differ c d same = let is : size_part ≡ place_part = ap (λ (s : Spot). s.part) same in omega arith
 
 -- one condition is asked at a spot
-fault_same : (h : Classes) (a b : Spot) (d e : Stop) → Fault h a d → Fault h b e → a ≡ b → d ≡ e
+fault_same : (h : Classes) (a b : Spot) (d e : Stop) → SourceFault h a d → SourceFault h b e → a ≡ b → d ≡ e
 fault_same h _ _ _ _ (of_meaning a d one) (of_meaning b e other) same = one_stop h a b d e one other same
 fault_same h _ _ _ _ (of_meaning a d one) (large c known is) same = absurd (size_behind h a d c size_part (omega arith) one same)
 fault_same h _ _ _ _ (of_meaning a d one) (shared c class at is) same = absurd (size_behind h a d c place_part (omega arith) one same)
@@ -71,11 +71,11 @@ fault_same h _ _ _ _ (shared c class at is) (shared c' class' at' is') same =
     ap (λ (k : Class). Refused SharedPlace k.at) one
 
 -- the first fault is one
-pub first_same : (h : Classes) (d e : Stop) → IsFirstFault h d → IsFirstFault h e → d ≡ e
+pub first_same : (h : Classes) (d e : Stop) → StopsFirst h d → StopsFirst h e → d ≡ e
 first_same h d e one other =
     ⊎_elim (λ before. absurd (other.first one.at d one.fault before))
     (λ rest. ⊎_elim (λ same. fault_same h one.at other.at d e one.fault other.fault same) (λ behind. absurd (one.first other.at e other.fault behind)) rest)
     (in_order one.at other.at)
 
-pub first_or_none : (h : Classes) (d : Stop) → IsFirstFault h d → HasNoFault h → ⊥
+pub first_or_none : (h : Classes) (d : Stop) → StopsFirst h d → MeetsNoFault h → ⊥
 first_or_none h d one none = none.none one.at d one.fault

@@ -26,10 +26,10 @@ use Rattle.cxxabi_cmd.specs.declared.listing.Listing.{Listing}
 use Rattle.cxxabi_cmd.specs.declared.listing.Listing.TheVariants.{OfLayout, OfTables}
 use Rattle.cxxabi_cmd.specs.Answers.{IsArrayReply, no_element_class, elements_of, array_answer, IsMemberReply, no_class, no_whole, member_of, member_answer}
 use Rattle.cxxabi_cmd.specs.invariants.Listings.{ListsName, is_unknown, is_class}
-use Rattle.cxxabi_cmd.specs.Commands.{RunsMain, by_run, by_paths, by_gen, by_foreign, input_of, parts_of}
+use Rattle.cxxabi_cmd.specs.Commands.{RunsMain, by_run, by_paths, by_gen, by_foreign, input_of, divided_input}
 use Rattle.cxxabi_cmd.specs.Divided.{IsLayoutOf, IsDumpReply, IsListingReply}
 use Rattle.abi_inspect.specs.Faults.{AreNamesWords}
-use Rattle.cxxabi_cmd.specs.Verdict.{Judgement, Verdict, Stops, Accepts, HasNoFault}
+use Rattle.cxxabi_cmd.specs.Verdict.{Judgement, Verdict, Stops, Accepts, MeetsNoFault}
 use Rattle.cxxabi_cmd.specs.declared.status.Status.TheVariants.{Refused}
 use Rattle.cxxabi_cmd.specs.Output.{Output, Yields, counted, no_main, ran, IsRunAnswer, unknown_class, listed, Lists, whole, too_much, AsksFor, all_layouts, one_layout, all_tables, one_tables, AsksForName, named_layout, named_tables, AreTexts, Answer, arrayed, pointed, first_classes, line_alone, text_answer, count_answer, status_of_stop, inspected, no_layout}
 use Rattle.cxxabi_cmd.proofs.OneVerdict.{one_verdict}
@@ -79,7 +79,7 @@ named_once h keeps c d name at other =
     number_same c d (keeps.names c d one.class two.class one.there two.there (one.named ∙ sym two.named))
 
 -- over one layout classes have one text
-texts_same : OneTables → (h : Classes) (listing : Listing) (classes : List ClassId) (rows others : List ClassLayout) (a b : List ℕ) → IsHierarchy h → HasNoFault h → AreKnown h classes → IsLaid h rows → IsLaid h others → AreTexts h rows listing classes a → AreTexts h others listing classes b → a ≡ b
+texts_same : OneTables → (h : Classes) (listing : Listing) (classes : List ClassId) (rows others : List ClassLayout) (a b : List ℕ) → IsHierarchy h → MeetsNoFault h → AreKnown h classes → IsLaid h rows → IsLaid h others → AreTexts h rows listing classes a → AreTexts h others listing classes b → a ≡ b
 texts_same law h listing classes rows others a b keeps fine known laid laid' are are' =
     one_texts law h rows listing classes a b keeps (sound_rows h rows keeps fine laid) known are
     (subst (λ (r : List ClassLayout). AreTexts h r listing classes b) (sym (laid_is_one h rows others keeps laid laid')) are')
@@ -87,7 +87,7 @@ texts_same law h listing classes rows others a b keeps fine known laid laid' are
 no_both : (a b : List ℕ) → a ≡ b → length a ≤ 16777216 → 16777216 < length b → ⊥
 no_both a b same short long = let size = ap (λ (t : List ℕ). length t) same in omega arith
 
-lists_same : OneTables → (h : Classes) (listing : Listing) (classes : List ClassId) (a b : Answer) → IsHierarchy h → HasNoFault h → AreKnown h classes → Lists h listing classes a → Lists h listing classes b → a ≡ b
+lists_same : OneTables → (h : Classes) (listing : Listing) (classes : List ClassId) (a b : Answer) → IsHierarchy h → MeetsNoFault h → AreKnown h classes → Lists h listing classes a → Lists h listing classes b → a ≡ b
 lists_same law h listing classes _ _ keeps fine known (whole rows text laid are short) (whole rows' text' laid' are' short') =
     ap (λ (t : List ℕ). text_answer t) (texts_same law h listing classes rows rows' text text' keeps fine known laid laid' are are')
 lists_same law h listing classes _ _ keeps fine known (whole rows text laid are short) (too_much rows' text' laid' are' long) =
@@ -100,7 +100,7 @@ lists_same law h listing classes _ _ keeps fine known (too_much rows text laid a
 no_such : (h : Classes) (c : ClassId) (name : List ℕ) → slice_get (class_names h) c.0 ≡ Some name → (Contains (class_names h) name → ⊥) → ⊥
 no_such h c name at none = none (contains_at (class_names h) c.0 name at)
 
-name_same : OneTables → (size : ℕ) (h : Classes) (listing : Listing) (name : List ℕ) (a b : Answer) → IsHierarchy h → HasNoFault h → ListsName size h listing name a → ListsName size h listing name b → a ≡ b
+name_same : OneTables → (size : ℕ) (h : Classes) (listing : Listing) (name : List ℕ) (a b : Answer) → IsHierarchy h → MeetsNoFault h → ListsName size h listing name a → ListsName size h listing name b → a ≡ b
 name_same law size h listing name _ _ keeps fine (is_unknown none) (is_unknown none') = refl
 name_same law size h listing name _ _ keeps fine (is_unknown none) (is_class c b at lists) = absurd (no_such h c name at none)
 name_same law size h listing name _ _ keeps fine (is_class c a at lists) (is_unknown none) = absurd (no_such h c name at none)
@@ -211,7 +211,7 @@ pub record OneLaws : Type 0 where
   pub listings : OneListings
 
 -- each command has one
-reply_same : OneLaws → (front : List ℕ) (size : ℕ) (s t : SourceText) (h : Classes) (typed : TypedProgram) (c : Command) (a b : Answer) → IsHierarchy h → HasNoFault h → AreNamesWords h → SameSource s t → Replies front size s h typed c a → Replies front size t h typed c b → a ≡ b
+reply_same : OneLaws → (front : List ℕ) (size : ℕ) (s t : SourceText) (h : Classes) (typed : TypedProgram) (c : Command) (a b : Answer) → IsHierarchy h → MeetsNoFault h → AreNamesWords h → SameSource s t → Replies front size s h typed c a → Replies front size t h typed c b → a ≡ b
 reply_same law front size s t h typed Check a b keeps fine words same one other = sym one ∙ other
 reply_same law front size s t h typed (Run steps trace) a b keeps fine words same one other = runs_same front size s t h typed (Run steps trace) steps trace a b (λ rows others. laid_is_one h rows others keeps) same one other
 reply_same law front size s t h typed Layout a b keeps fine words same one other = lists_same law.tables h OfLayout (first_classes (length h)) a b keeps fine (first_known h (length h) (omega arith)) one other
@@ -245,7 +245,7 @@ told_same : OneLaws → (c : Command) (input : List ℕ) (a b : Answer) → Told
 told_same law c input _ _ (is_long long) (is_long long') = refl
 told_same law c input _ _ (is_long long) (is_short b short is) = absurd (omega (arith, long, short))
 told_same law c input _ _ (is_short a short is) (is_long long) = absurd (omega (arith, long, short))
-told_same law c input _ _ (is_short a short is) (is_short b short' is') = parted_same law c input (parts_of c input) a b is is'
+told_same law c input _ _ (is_short a short is) (is_short b short' is') = parted_same law c input (divided_input c input) a b is is'
 
 asked_same : OneLaws → (words : List (List ℕ)) (bytes : List ℕ) (a b : Answer) → Asked words bytes a → Asked words bytes b → a ≡ b
 asked_same law words bytes _ _ (is_usage none) (is_usage none') = refl

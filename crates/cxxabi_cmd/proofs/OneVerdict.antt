@@ -17,7 +17,7 @@ use Rattle.cxx_readings.proofs.SameSources.{source_same}
 use Rattle.cxx_program.specs.declared.program.TypedProgram.{TypedProgram}
 use Rattle.cxx_resolve.specs.Programs.{program_of}
 use Rattle.cxx_resolve.proofs.OneProgram.{one_program}
-use Rattle.cxxabi_cmd.specs.Verdict.{AreLexemes, IsSource, StopsText, IsFirstFault, HasNoFault, HasManyWords, HasFewWords, Judgement, Stops, Accepts, Verdict, by_text, by_records, by_classes, by_bodies, by_words, accepted}
+use Rattle.cxxabi_cmd.specs.Verdict.{AreLexemes, SpellsSource, StopsText, StopsFirst, MeetsNoFault, HasManyWords, HasFewWords, Judgement, Stops, Accepts, Verdict, by_text, by_records, by_classes, by_bodies, by_words, accepted}
 use Rattle.cxxabi_cmd.proofs.Accepting.{source_keeps}
 use Rattle.cxxabi_cmd.proofs.LaidRows.{many_or_few}
 use Rattle.cxxabi_cmd.proofs.OneFault.{first_same, first_or_none}
@@ -28,13 +28,13 @@ lexemes_same text a b x y =
     x.sorted ∙ ap (λ (ts : List Token). lexemes text source_start ts x.bad) same.0 ∙ ap (λ (bad : Option ℕ). lexemes text source_start y.tokens bad) same.1 ∙ sym y.sorted
 
 -- a text spells one source
-pub spells_one : (text : List ℕ) (s t : SourceText) → IsSource text s → IsSource text t → SameSource s t
+pub spells_one : (text : List ℕ) (s t : SourceText) → SpellsSource text s → SpellsSource text t → SameSource s t
 spells_one text s t x y =
     let same = lexemes_same text x.all y.all x.sorts y.sorts in
     (source_same text s t x.all x.rest y.rest x.reads (subst (λ (all : List Lexeme). SourceReads text t all y.rest) (sym same) y.reads)).0
 
 -- and then no event stops its reading
-no_event : (text : List ℕ) (s : SourceText) (e : Stop) → IsSource text s → StopsText text e → ⊥
+no_event : (text : List ℕ) (s : SourceText) (e : Stop) → SpellsSource text s → StopsText text e → ⊥
 no_event text s e x y =
     let same = lexemes_same text x.all y.all x.sorts y.sorts in
     no_source_event at_start x.all x.rest e x.derives (subst (λ (all : List Lexeme). Event source_form at_start all e) (sym same) y.event)
@@ -59,26 +59,26 @@ same_first : (a b : List Record) (d e : Stop) → a ≡ b → first_of (faults_o
 same_first a b d e same one other = let both : Some d ≡ Some e = sym one ∙ ap (λ (r : List Record). first_of (faults_of r)) same ∙ other in cc
 
 -- a first fault is met in records, or none
-first_and_none : (a b : List Record) (e : Stop) → a ≡ b → IsFirstFault (resolved a) e → HasNoFault (resolved b) → ⊥
-first_and_none a b e same first nothing = first_or_none (resolved a) e first (subst (λ (r : List Record). HasNoFault (resolved r)) (sym same) nothing)
+first_and_none : (a b : List Record) (e : Stop) → a ≡ b → StopsFirst (resolved a) e → MeetsNoFault (resolved b) → ⊥
+first_and_none a b e same first nothing = first_or_none (resolved a) e first (subst (λ (r : List Record). MeetsNoFault (resolved r)) (sym same) nothing)
 
-many_and_few : (text : List ℕ) (s t : SourceText) → IsSource text s → IsSource text t → faults_of s.records ≡ [] → HasManyWords (resolved s.records) → HasFewWords (resolved t.records) → ⊥
+many_and_few : (text : List ℕ) (s t : SourceText) → SpellsSource text s → SpellsSource text t → faults_of s.records ≡ [] → HasManyWords (resolved s.records) → HasFewWords (resolved t.records) → ⊥
 many_and_few text s t x y none many few =
     many_or_few (resolved s.records) (source_keeps text s x none) many (subst (λ (r : List Record). HasFewWords (resolved r)) (sym (spells_one text s t x y).records) few)
 
 -- a text resolves to one thing
-resolves_same : (text : List ℕ) (s t : SourceText) (a b : Result TypedProgram Stop) → IsSource text s → IsSource text t → program_of (resolved s.records) s ≡ a → program_of (resolved t.records) t ≡ b → a ≡ b
+resolves_same : (text : List ℕ) (s t : SourceText) (a b : Result TypedProgram Stop) → SpellsSource text s → SpellsSource text t → program_of (resolved s.records) s ≡ a → program_of (resolved t.records) t ≡ b → a ≡ b
 resolves_same text s t a b x y one other =
     let same = spells_one text s t x y in
     sym one ∙ one_program (resolved s.records) s t same ∙ ap (λ (r : List Record). program_of (resolved r) t) same.records ∙ other
 
-stop_same : (text : List ℕ) (s t : SourceText) (d e : Stop) → IsSource text s → IsSource text t → program_of (resolved s.records) s ≡ Err d → program_of (resolved t.records) t ≡ Err e → d ≡ e
+stop_same : (text : List ℕ) (s t : SourceText) (d e : Stop) → SpellsSource text s → SpellsSource text t → program_of (resolved s.records) s ≡ Err d → program_of (resolved t.records) t ≡ Err e → d ≡ e
 stop_same text s t d e x y one other = let both = resolves_same text s t (Err d) (Err e) x y one other in cc
 
-typed_same : (text : List ℕ) (s t : SourceText) (p q : TypedProgram) → IsSource text s → IsSource text t → program_of (resolved s.records) s ≡ Ok p → program_of (resolved t.records) t ≡ Ok q → p ≡ q
+typed_same : (text : List ℕ) (s t : SourceText) (p q : TypedProgram) → SpellsSource text s → SpellsSource text t → program_of (resolved s.records) s ≡ Ok p → program_of (resolved t.records) t ≡ Ok q → p ≡ q
 typed_same text s t p q x y one other = let both = resolves_same text s t (Ok p) (Ok q) x y one other in cc
 
-stop_and_typed : (text : List ℕ) (s t : SourceText) (d : Stop) (q : TypedProgram) → IsSource text s → IsSource text t → program_of (resolved s.records) s ≡ Err d → program_of (resolved t.records) t ≡ Ok q → ⊥
+stop_and_typed : (text : List ℕ) (s t : SourceText) (d : Stop) (q : TypedProgram) → SpellsSource text s → SpellsSource text t → program_of (resolved s.records) s ≡ Err d → program_of (resolved t.records) t ≡ Ok q → ⊥
 stop_and_typed text s t d q x y one other = let both = resolves_same text s t (Err d) (Ok q) x y one other in cc
 
 -- the text has one verdict
@@ -98,7 +98,7 @@ one_verdict text _ _ (by_records s d x first) (accepted t q y none' nothing' res
 one_verdict text _ _ (by_classes s d x none first) (by_text e y) = absurd (no_event text s e x y)
 one_verdict text _ _ (by_classes s d x none first) (by_records t e y first') = absurd (refused_passes t.records s.records e (sym (spells_one text s t x y).records) first' none)
 one_verdict text _ _ (by_classes s d x none first) (by_classes t e y none' first') =
-    first_same (resolved s.records) d e first (subst (λ (r : List Record). IsFirstFault (resolved r) e) (sym (spells_one text s t x y).records) first')
+    first_same (resolved s.records) d e first (subst (λ (r : List Record). StopsFirst (resolved r) e) (sym (spells_one text s t x y).records) first')
 one_verdict text _ _ (by_classes s d x none first) (by_bodies t e y none' nothing' resolves') = absurd (first_and_none s.records t.records d (spells_one text s t x y).records first nothing')
 one_verdict text _ _ (by_classes s d x none first) (by_words t q y none' nothing' resolves' many') = absurd (first_and_none s.records t.records d (spells_one text s t x y).records first nothing')
 one_verdict text _ _ (by_classes s d x none first) (accepted t q y none' nothing' resolves' few') = absurd (first_and_none s.records t.records d (spells_one text s t x y).records first nothing')

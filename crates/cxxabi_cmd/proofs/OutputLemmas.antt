@@ -10,46 +10,46 @@ use Rattle.cxxabi_words.specs.Commands.{Says, IsCommand}
 use Rattle.cxxabi_words.proofs.CommandLaws.{one_command}
 use Rattle.cxxabi_cmd.specs.declared.status.Status.{Status}
 use Rattle.cxxabi_cmd.specs.declared.status.Status.TheVariants.{Usage, Limit, WriteFault}
-use Rattle.cxxabi_streams.specs.Streams.{IsPartOf}
+use Rattle.cxxabi_streams.specs.Streams.{AddsFrontOf}
 use Rattle.cxxabi_cmd.specs.Commands.{input_of}
-use Rattle.cxxabi_cmd.specs.Output.{Output, usage, too_long, Answer, line_alone, Answers, BreaksOff, IsAnswered}
-use Rattle.cxxabi_cmd.specs.Handed.{Seen, HandsOut}
-use Rattle.cxxabi_cmd.specs.invariants.Replies.{answer_of, machine_of, IsRead}
+use Rattle.cxxabi_cmd.specs.Output.{Output, usage, too_long, Answer, line_alone, WritesAnswer, BreaksOff, IsAnswerWritten}
+use Rattle.cxxabi_cmd.specs.Handed.{SeenMachine, HandsOut}
+use Rattle.cxxabi_cmd.specs.invariants.Replies.{as_answer, machine_of, IsReadToLimit}
 
 -- more than the limit was read
-pub limit_output : (r : Result Reply Want) (bytes : List ℕ) (command : Command) → IfOk r (λ reply. answer_of reply ≡ line_alone (Limit L1)) → 262144 < length bytes →
-    IfOk r (λ reply. (words : List (List ℕ)) (given : List ℕ) → Says words command → IsRead bytes (input_of command given) → Output words given (answer_of reply))
+pub limit_output : (r : Result Reply Want) (bytes : List ℕ) (command : Command) → IfOk r (λ reply. as_answer reply ≡ line_alone (Limit L1)) → 262144 < length bytes →
+    IfOk r (λ reply. (words : List (List ℕ)) (given : List ℕ) → Says words command → IsReadToLimit bytes (input_of command given) → Output words given (as_answer reply))
 limit_output (Ok reply) bytes command alone long = λ words given says read. subst (λ a. Output words given a) (sym alone) (too_long command says (read.more long))
 limit_output (Err e) bytes command alone long = alone
 
 -- all was read
-pub read_output : (r : Result Reply Want) (bytes : List ℕ) (command : Command) → IfOk r (λ reply. (words : List (List ℕ)) (given : List ℕ) → Says words command → bytes ≡ input_of command given → Output words given (answer_of reply)) → length bytes ≤ 262144 →
-    IfOk r (λ reply. (words : List (List ℕ)) (given : List ℕ) → Says words command → IsRead bytes (input_of command given) → Output words given (answer_of reply))
+pub read_output : (r : Result Reply Want) (bytes : List ℕ) (command : Command) → IfOk r (λ reply. (words : List (List ℕ)) (given : List ℕ) → Says words command → bytes ≡ input_of command given → Output words given (as_answer reply)) → length bytes ≤ 262144 →
+    IfOk r (λ reply. (words : List (List ℕ)) (given : List ℕ) → Says words command → IsReadToLimit bytes (input_of command given) → Output words given (as_answer reply))
 read_output (Ok reply) bytes command output short = λ words given says read. output words given says (read.whole short)
 read_output (Err e) bytes command output short = output
 
 -- the words are no command
-pub usage_output : (words : List (List ℕ)) (bytes : List ℕ) (reply : Reply) → answer_of reply ≡ line_alone Usage → (IsCommand words → ⊥) → Output words bytes (answer_of reply)
+pub usage_output : (words : List (List ℕ)) (bytes : List ℕ) (reply : Reply) → as_answer reply ≡ line_alone Usage → (IsCommand words → ⊥) → Output words bytes (as_answer reply)
 usage_output words bytes reply alone none = subst (λ a. Output words bytes a) (sym alone) (usage none)
 
 -- the answer was written
 pub answers : (words : List (List ℕ)) (bytes : List ℕ) (before after : Option (List ℕ)) (status : Status) (answer : Answer) (written : List ℕ) → Output words bytes answer → written ≡ answer.text →
-    (status ≡ answer.status) ⊎ (status ≡ WriteFault) → (status ≡ answer.status → IfSome before (λ taken. after ≡ Some (taken ++ written))) → IsAnswered status → Answers words bytes before after status
+    (status ≡ answer.status) ⊎ (status ≡ WriteFault) → (status ≡ answer.status → IfSome before (λ taken. after ≡ Some (taken ++ written))) → IsAnswerWritten status → WritesAnswer words bytes before after status
 answers words bytes before after status answer written output is either whole answered =
     ⊎_elim (λ same. record { answer = answer; output = output; same = same; text = subst (λ (t : List ℕ). IfSome before (λ taken. after ≡ Some (taken ++ t))) is (whole same) })
-    (λ fault. absurd (subst IsAnswered fault answered)) either
+    (λ fault. absurd (subst IsAnswerWritten fault answered)) either
 
 -- a front of the answer was written
 pub broken_off : (words : List (List ℕ)) (bytes : List ℕ) (before after : Option (List ℕ)) (answer : Answer) (written : List ℕ) → Output words bytes answer → written ≡ answer.text →
-    IfSome before (λ taken. IsPartOf taken written after) → BreaksOff words bytes before after
+    IfSome before (λ taken. AddsFrontOf taken written after) → BreaksOff words bytes before after
 broken_off words bytes before after answer written output is part =
-    record { answer = answer; output = output; part = subst (λ (t : List ℕ). IfSome before (λ taken. IsPartOf taken t after)) is part }
+    record { answer = answer; output = output; part = subst (λ (t : List ℕ). IfSome before (λ taken. AddsFrontOf taken t after)) is part }
 
 -- no machine for a text that is too long
 pub limit_machine : (r : Result Reply Want) (bytes : List ℕ) (command : Command) → IfOk r (λ reply. machine_of reply ≡ None) → 262144 < length bytes →
-    IfOk r (λ reply. (words : List (List ℕ)) (given : List ℕ) → Says words command → IsRead bytes (input_of command given) → HandsOut words given (machine_of reply))
+    IfOk r (λ reply. (words : List (List ℕ)) (given : List ℕ) → Says words command → IsReadToLimit bytes (input_of command given) → HandsOut words given (machine_of reply))
 limit_machine (Ok reply) bytes command none long =
-    λ words given says read. subst (λ (m : Option Seen). HandsOut words given m) (sym none)
+    λ words given says read. subst (λ (m : Option SeenMachine). HandsOut words given m) (sym none)
     (λ h rows program trace steps has.
     let one : has.command ≡ command = one_command words has.command command has.asked says in
     let short : length (input_of command given) ≤ 262144 = subst (λ (c : Command). length (input_of c given) ≤ 262144) one has.short in
@@ -58,13 +58,13 @@ limit_machine (Err e) bytes command none long = none
 
 -- the machine for a text that was read whole
 pub read_machine : (r : Result Reply Want) (bytes : List ℕ) (command : Command) → IfOk r (λ reply. (words : List (List ℕ)) (given : List ℕ) → Says words command → bytes ≡ input_of command given → HandsOut words given (machine_of reply)) → length bytes ≤ 262144 →
-    IfOk r (λ reply. (words : List (List ℕ)) (given : List ℕ) → Says words command → IsRead bytes (input_of command given) → HandsOut words given (machine_of reply))
+    IfOk r (λ reply. (words : List (List ℕ)) (given : List ℕ) → Says words command → IsReadToLimit bytes (input_of command given) → HandsOut words given (machine_of reply))
 read_machine (Ok reply) bytes command hands short = λ words given says read. hands words given says (read.whole short)
 read_machine (Err e) bytes command hands short = hands
 
 -- no machine where the words are no command
 pub usage_machine : (words : List (List ℕ)) (bytes : List ℕ) (reply : Reply) → machine_of reply ≡ None → (IsCommand words → ⊥) → HandsOut words bytes (machine_of reply)
-usage_machine words bytes reply none no_command = subst (λ (m : Option Seen). HandsOut words bytes m) (sym none) (λ h rows program trace steps has. no_command (has.command, has.asked))
+usage_machine words bytes reply none no_command = subst (λ (m : Option SeenMachine). HandsOut words bytes m) (sym none) (λ h rows program trace steps has. no_command (has.command, has.asked))
 
 -- the command that was found, and that none was
 pub no_command : {X : Type 0} (found : Option X) (P : Type 0) (Q : X → Type 0) → MatchOption found P Q → found ≡ None → P

@@ -18,7 +18,7 @@ use Rattle.path_model.specs.States.{is_body}
 use Rattle.path_model.specs.Runs.{Ran, Ending, Done, UndefinedAt, OutOfSteps, LimitMet, WentWrong, run_of}
 use Rattle.text_told.specs.declared.ending.End.{End}
 use Rattle.text_told.specs.declared.ending.End.TheVariants as ends
-use Rattle.text_told.specs.Told.{told, told_by, passes, ending_of}
+use Rattle.text_told.specs.Told.{told, told_by, passes_text_limit, told_ending}
 use Rattle.abi_sound.specs.declared.class_layout.ClassLayout.{ClassLayout}
 use Rattle.abi_sound.specs.Places.{Places, places_of}
 use Rattle.abi_slots.specs.declared.code_numbers.CodeRow.{CodeRow}
@@ -30,12 +30,12 @@ use Rattle.cxxabi_words.specs.Commands.{most_steps}
 use Rattle.cxxabi_cmd.specs.declared.reply.Reply.{Reply}
 use Rattle.cxxabi_cmd.specs.declared.status.Status.{Status}
 use Rattle.cxxabi_cmd.specs.declared.status.Status.TheVariants.{Refused}
-use Rattle.cxxabi_cmd.specs.Statuses.{last_line}
+use Rattle.cxxabi_cmd.specs.Statuses.{status_line}
 use Rattle.cxxabi_cmd.specs.Commands.{RunsMain, SumsUp}
 use Rattle.cxxabi_cmd.specs.Divided.{IsLayoutOf}
-use Rattle.cxxabi_cmd.specs.Handed.{Seen, IsMachineOf}
-use Rattle.cxxabi_cmd.specs.Output.{Answer, IsRunAnswer, ends_with, summed_up, ended_answer, summary_answer, status_of, Yields, no_main, ran, line_alone, IsAnswered}
-use Rattle.cxxabi_cmd.specs.invariants.Replies.{answer_of}
+use Rattle.cxxabi_cmd.specs.Handed.{SeenMachine, IsMachineOf}
+use Rattle.cxxabi_cmd.specs.Output.{Answer, IsRunAnswer, ends_with, summed_up, ended_answer, summary_answer, status_of, Yields, no_main, ran, line_alone, IsAnswerWritten}
+use Rattle.cxxabi_cmd.specs.invariants.Replies.{as_answer}
 use Rattle.cxxabi_cmd.proofs.AnswerLemmas.{answer_with}
 
 -- an end is told by its ending
@@ -46,13 +46,13 @@ end_by OutOfSteps = ends.OutOfSteps
 end_by (LimitMet limit) = ends.Limit limit
 end_by WentWrong = ends.Done
 
-end_is : (e : End) → end_by (ending_of e) ≡ e
+end_is : (e : End) → end_by (told_ending e) ≡ e
 end_is ends.Done = refl
 end_is (ends.Undefined rule line) = refl
 end_is ends.OutOfSteps = refl
 end_is (ends.Limit limit) = refl
 
-one_end : (d e : End) → ending_of d ≡ ending_of e → d ≡ e
+one_end : (d e : End) → told_ending d ≡ told_ending e → d ≡ e
 one_end d e same = sym (end_is d) ∙ ap end_by same ∙ end_is e
 
 -- there is one answer
@@ -88,14 +88,14 @@ gen_ends n ends.OutOfSteps other = λ sums. sums
 gen_ends n (ends.Limit limit) other = λ sums. sums
 
 -- an ending that is not wrong is an end
-some_end : (ending : Ending) → (ending ≡ WentWrong → ⊥) → (e : End) × (ending_of e ≡ ending)
+some_end : (ending : Ending) → (ending ≡ WentWrong → ⊥) → (e : End) × (told_ending e ≡ ending)
 some_end Done right = (ends.Done, refl)
 some_end (UndefinedAt rule line) right = (ends.Undefined rule line, refl)
 some_end OutOfSteps right = (ends.OutOfSteps, refl)
 some_end (LimitMet limit) right = (ends.Limit limit, refl)
 some_end WentWrong right = absurd (right refl)
 
-told_end : (h : Classes) (l : Places) (typed : TypedProgram) (trace : Bool) (run : Ran) (passed : Option ℕ) → (run.ending ≡ WentWrong → ⊥) → (e : End) × (ending_of e ≡ (told_by h l typed trace run passed).ending)
+told_end : (h : Classes) (l : Places) (typed : TypedProgram) (trace : Bool) (run : Ran) (passed : Option ℕ) → (run.ending ≡ WentWrong → ⊥) → (e : End) × (told_ending e ≡ (told_by h l typed trace run passed).ending)
 told_end h l typed trace run None right = some_end run.ending right
 told_end h l typed trace run (Some n) right = (ends.Limit L9, refl)
 
@@ -108,7 +108,7 @@ some_answer : NeverWrong → (command : Command) (h : Classes) (rows : List Clas
 some_answer law command h rows typed trace steps keeps fine is main =
     let l = places_of h rows in
     let run = run_of h l.size typed steps in
-    let e = told_end h l typed trace run (find (passes h l typed trace) (upto run.steps)) (law h l.size typed steps keeps fine is main) in
+    let e = told_end h l typed trace run (find (passes_text_limit h l typed trace) (upto run.steps)) (law h l.size typed steps keeps fine is main) in
     ⊎_elim
     (λ sums. (summary_answer h run.steps (told h l typed trace steps).text, summed_up e.0 e.1 sums))
     (λ plain. (ended_answer (told h l typed trace steps).text e.0 steps, ends_with e.0 e.1 plain))
@@ -122,49 +122,49 @@ yields_runs law front size source h rows typed command steps trace (Some tree) r
     let a = some_answer law command h rows typed trace steps keeps fine is (tie ∙ ap is_some main) in (a.0, ran command steps trace tree rows a.0 runs main laid a.1)
 
 -- the text of a run and its last line
-pub ended_is : (text line whole : List ℕ) (e : End) (steps : ℕ) (status : Status) → whole ≡ text ++ line → line ≡ last_line status steps → status ≡ status_of e → answer_with whole status ≡ ended_answer text e steps
+pub ended_is : (text line whole : List ℕ) (e : End) (steps : ℕ) (status : Status) → whole ≡ text ++ line → line ≡ status_line status steps → status ≡ status_of e → answer_with whole status ≡ ended_answer text e steps
 ended_is text line whole e steps status joined last same = rw (joined, last, same) refl
 
 pub run_answer_is : (command : Command) (h : Classes) (rows : List ClassLayout) (typed : TypedProgram) (trace : Bool) (steps : ℕ) (text : List ℕ) (e : End) (a : Answer) → (SumsUp command e → ⊥) → a ≡ ended_answer text e steps → text ≡ (told h (places_of h rows) typed trace steps).text →
-    ending_of e ≡ (told h (places_of h rows) typed trace steps).ending → IsRunAnswer command h rows typed trace steps a
+    told_ending e ≡ (told h (places_of h rows) typed trace steps).ending → IsRunAnswer command h rows typed trace steps a
 run_answer_is command h rows typed trace steps text e a plain same is ending =
     subst (λ (b : Answer). IsRunAnswer command h rows typed trace steps b) (sym (same ∙ ap (λ (t : List ℕ). ended_answer t e steps) is)) (ends_with e ending plain)
 
 -- the summary of a run
 pub summary_is : (command : Command) (h : Classes) (rows : List ClassLayout) (typed : TypedProgram) (trace : Bool) (steps taken : ℕ) (text : List ℕ) (e : End) (a : Answer) → SumsUp command e → a ≡ summary_answer h taken text → text ≡ (told h (places_of h rows) typed trace steps).text →
-    taken ≡ (run_of h (places_of h rows).size typed steps).steps → ending_of e ≡ (told h (places_of h rows) typed trace steps).ending → IsRunAnswer command h rows typed trace steps a
+    taken ≡ (run_of h (places_of h rows).size typed steps).steps → told_ending e ≡ (told h (places_of h rows) typed trace steps).ending → IsRunAnswer command h rows typed trace steps a
 summary_is command h rows typed trace steps taken text e a sums same is counted ending =
     subst (λ (b : Answer). IsRunAnswer command h rows typed trace steps b) (sym (same ∙ (ap (λ (t : List ℕ). summary_answer h taken t) is ∙ ap (λ n. summary_answer h n (told h (places_of h rows) typed trace steps).text) counted))) (summed_up e ending sums)
 
 -- what a run over a layout answers, for a command that does not sum it up
 pub at_command : (r : Result Reply Want) (command : Command) (h : Classes) (rows : List ClassLayout) (typed : TypedProgram) (trace : Bool) (steps : ℕ) → ((e : End) → SumsUp command e → ⊥) →
-    IfOk r (λ reply. (c : Command) → ((e : End) → SumsUp c e → ⊥) → IsRunAnswer c h rows typed trace steps (answer_of reply)) → IfOk r (λ reply. IsRunAnswer command h rows typed trace steps (answer_of reply))
+    IfOk r (λ reply. (c : Command) → ((e : End) → SumsUp c e → ⊥) → IsRunAnswer c h rows typed trace steps (as_answer reply)) → IfOk r (λ reply. IsRunAnswer command h rows typed trace steps (as_answer reply))
 at_command (Ok reply) command h rows typed trace steps plain is = is command plain
 at_command (Err w) command h rows typed trace steps plain is = is
 
 -- an answer that was made for a source with a main
 pub yields_ended : (r : Result Reply Want) (front : List ℕ) (size : ℕ) (source : SourceText) (h : Classes) (rows : List ClassLayout) (typed : TypedProgram) (command : Command) (steps : ℕ) (trace : Bool) (tree : BodyTree) → RunsMain command steps trace →
-    IfOk r (λ reply. IsRunAnswer command h rows typed trace steps (answer_of reply)) → source.main ≡ Some tree → IsLayoutOf command front h rows → IfOk r (λ reply. Yields front size source h typed command (answer_of reply))
-yields_ended (Ok reply) front size source h rows typed command steps trace tree runs is main laid = ran command steps trace tree rows (answer_of reply) runs main laid is
+    IfOk r (λ reply. IsRunAnswer command h rows typed trace steps (as_answer reply)) → source.main ≡ Some tree → IsLayoutOf command front h rows → IfOk r (λ reply. Yields front size source h typed command (as_answer reply))
+yields_ended (Ok reply) front size source h rows typed command steps trace tree runs is main laid = ran command steps trace tree rows (as_answer reply) runs main laid is
 yields_ended (Err w) front size source h rows typed command steps trace tree runs is main laid = is
 
 -- the machine that a run leaves
-pub machine_is : (h : Classes) (rows : List ClassLayout) (typed : TypedProgram) (trace : Bool) (steps : ℕ) (numbers : List CodeRow) (text : List ℕ) (e : End) (seen : Seen) (m : Option Seen) → m ≡ Some seen → text ≡ (told h (places_of h rows) typed trace steps).text →
-    ending_of e ≡ (told h (places_of h rows) typed trace steps).ending → IsExecution (setup h rows typed) steps trace numbers seen.code seen.image seen.state text e → MatchOption m ⊥ (IsMachineOf h rows typed trace steps)
+pub machine_is : (h : Classes) (rows : List ClassLayout) (typed : TypedProgram) (trace : Bool) (steps : ℕ) (numbers : List CodeRow) (text : List ℕ) (e : End) (seen : SeenMachine) (m : Option SeenMachine) → m ≡ Some seen → text ≡ (told h (places_of h rows) typed trace steps).text →
+    told_ending e ≡ (told h (places_of h rows) typed trace steps).ending → IsExecution (setup h rows typed) steps trace numbers seen.code seen.image seen.state text e → MatchOption m ⊥ (IsMachineOf h rows typed trace steps)
 machine_is h rows typed trace steps numbers text e seen m same is ending executed =
-    subst (λ (o : Option Seen). MatchOption o ⊥ (IsMachineOf h rows typed trace steps)) (sym same)
+    subst (λ (o : Option SeenMachine). MatchOption o ⊥ (IsMachineOf h rows typed trace steps)) (sym same)
     (record { numbers = numbers; end_is = e; ending = ending; executed = subst (λ (t : List ℕ). IsExecution (setup h rows typed) steps trace numbers seen.code seen.image seen.state t e) is executed })
 
 -- a program has a main where its source has one
 pub has_main : (main given none : Bool) → main ≡ given → given ≡ not none → none ≡ false → main ≡ true
 has_main main given none tie is off = tie ∙ is ∙ ap not off
 
-end_answered : (e : End) → IsAnswered (status_of e)
+end_answered : (e : End) → IsAnswerWritten (status_of e)
 end_answered ends.Done = tt
 end_answered (ends.Undefined rule line) = tt
 end_answered ends.OutOfSteps = tt
 end_answered (ends.Limit limit) = tt
 
-pub run_answered : (command : Command) (h : Classes) (rows : List ClassLayout) (typed : TypedProgram) (trace : Bool) (steps : ℕ) (a : Answer) → IsRunAnswer command h rows typed trace steps a → IsAnswered a.status
+pub run_answered : (command : Command) (h : Classes) (rows : List ClassLayout) (typed : TypedProgram) (trace : Bool) (steps : ℕ) (a : Answer) → IsRunAnswer command h rows typed trace steps a → IsAnswerWritten a.status
 run_answered command h rows typed trace steps _ (ends_with e is plain) = end_answered e
 run_answered command h rows typed trace steps _ (summed_up e is sums) = tt

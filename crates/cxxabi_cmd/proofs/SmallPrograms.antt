@@ -32,15 +32,15 @@ use Rattle.cxx_program.specs.declared.program.TypedProgram.{TypedProgram}
 use Rattle.cxx_expression.specs.declared.scene.Entry.{Entry}
 use Rattle.cxx_expression.specs.declared.scene.Setting.{Setting}
 use Rattle.cxx_resolve.specs.declared.draft.Draft.{Draft}
-use Rattle.cxx_resolve.specs.Turns.{in_turn}
+use Rattle.cxx_resolve.specs.Turns.{given_in_turn}
 use Rattle.cxx_resolve.specs.Initializers.{init_of}
 use Rattle.cxx_resolve.specs.Globals.{most_globals, typed_global, global_of}
 use Rattle.cxx_resolve.specs.Walks.{block_meaning}
-use Rattle.cxx_resolve.specs.Programs.{class_of_body, owner_of, function_in, params_in, returns_in, first_draft, body_by, typed_body, member_setting, body_in, body_of, main_setting, main_tree, main_of, program_of}
+use Rattle.cxx_resolve.specs.Programs.{class_of_body, owner_of, function_by_owner, params_in, returns_in, first_draft, body_by, typed_body, member_setting, body_in, body_of, main_setting, main_tree, main_of, program_of}
 use Rattle.cxx_typing.proofs.Drafts.{then_ok}
 use Rattle.cxx_typing.proofs.Turns.{turn_kept, turn_given, AreEach}
 use Rattle.cxx_typing.proofs.Programs.{made_of}
-use Rattle.path_model.specs.States.{body_of as body_by_owner, same_owner}
+use Rattle.path_model.specs.States.{owned_body as body_by_owner, same_owner}
 use Rattle.abi_lower.specs.Bounds.{IsSmall, statements_in, body_blocks}
 use Rattle.cxxabi_cmd.proofs.TreeCounts.{tree_weight, body_weight, main_weight, source_weight, most_weight}
 use Rattle.cxxabi_cmd.proofs.WalkCounts.{blocks_add}
@@ -80,7 +80,7 @@ few_params : (h : Classes) → IsHierarchy h → (c : ClassId) (f : Option (Func
 few_params h keeps c None there = omega arith
 few_params h keeps c (Some f) there = let at = there f refl in keeps.few_params c f (contains_at (functions_of h c) at.0 f at.1)
 
-function_at : (h : Classes) (c : ClassId) (o : BodyOwner) (g : Function ClassId) → function_in h c o ≡ Some g → (n : ℕ) × (slice_get (functions_of h c) n ≡ Some g)
+function_at : (h : Classes) (c : ClassId) (o : BodyOwner) (g : Function ClassId) → function_by_owner h c o ≡ Some g → (n : ℕ) × (slice_get (functions_of h c) n ≡ Some g)
 function_at h c (part.Function n) g e = (n, e)
 function_at h c part.Constructor g e = absurd (cc)
 function_at h c part.Destructor g e = absurd (cc)
@@ -89,9 +89,9 @@ body_counted : (h : Classes) → IsHierarchy h → (globals : List Entry) (befor
 unfolding body_in
 body_counted h keeps globals before b body w =
     let c = class_of_body h b.class in
-    let f = function_in h c b.owner in
+    let f = function_by_owner h c b.owner in
     let e = member_setting globals c (returns_in f) in
-    let r = then_ok (in_turn (init_of h c) [] b.inits) (λ (inits : List TypedInit). typed_body h e (owner_of c b.owner) (params_in f) inits b.tree) body w in
+    let r = then_ok (given_in_turn (init_of h c) [] b.inits) (λ (inits : List TypedInit). typed_body h e (owner_of c b.owner) (params_in f) inits b.tree) body w in
     tree_counted h e (owner_of c b.owner) (params_in f) r.0 b.tree body (few_params h keeps c f (function_at h c b.owner)) r.2
 
 -- bodies one after the other
@@ -141,7 +141,7 @@ unfolding global_of
 global_within h before g x w =
     global_low (nat_le most_globals (length before)) (length before) (if list_any (λ (e : Entry). bytes_eq e.name g.name) before then Err (Refused DuplicateMember g.at) else typed_global h before g) x refl w
 
-few_globals : (h : Classes) (globals : List Global) (entries : List Entry) → in_turn (global_of h) [] globals ≡ Ok entries → length entries ≤ 1024
+few_globals : (h : Classes) (globals : List Global) (entries : List Entry) → given_in_turn (global_of h) [] globals ≡ Ok entries → length entries ≤ 1024
 few_globals h globals entries w =
     turn_kept (global_of h) (λ (list : List Entry). length list ≤ 1024) (λ done g x few made. omega (arith, global_within h done g x made, length-append done (x ∷ []))) globals [] entries (omega arith) w
 

@@ -6,7 +6,7 @@ use Rattle.abi_sound.specs.declared.class_layout.ClassLayout.{ClassLayout}
 use Rattle.abi_sound.specs.Places.{Places, places_of}
 use Rattle.abi_layout.specs.Layouts.{IsLaid}
 use Rattle.abi_inspect.specs.declared.seen.Seen.{Seen}
-use Rattle.abi_inspect.specs.Faults.{IsDumpOf, NamesNoClass, IsFirstFault}
+use Rattle.abi_inspect.specs.Faults.{IsDumpOf, NamesNoClass, IsFirstBadLine}
 use Rattle.abi_inspect.specs.Sayings.{seen_text}
 use Rattle.abi_foreign.specs.declared.listing_stop.ListingRule.{ListingRule}
 use Rattle.abi_foreign.specs.declared.listing_stop.ListingStop.TheVariants.{Bad}
@@ -22,9 +22,9 @@ use Rattle.cxxabi_cmd.proofs.DividedReplies.{AreReadable}
 pub data HasReading (h : Classes) (rows : List ClassLayout) (dump : List ℕ) : Type 0 where
   is_dump : (seen : Seen) → IsDumpOf h (places_of h rows) seen dump → HasReading h rows dump
   is_unknown : NamesNoClass h dump → HasReading h rows dump
-  is_none : (line : ℕ) → IsFirstFault h (places_of h rows) dump line → HasReading h rows dump
+  is_none : (line : ℕ) → IsFirstBadLine h (places_of h rows) dump line → HasReading h rows dump
 
-pub reading_of : (h : Classes) (rows : List ClassLayout) (dump : List ℕ) → ((seen : Seen) × IsDumpOf h (places_of h rows) seen dump) ⊎ (NamesNoClass h dump ⊎ ((line : ℕ) × IsFirstFault h (places_of h rows) dump line)) → HasReading h rows dump
+pub reading_of : (h : Classes) (rows : List ClassLayout) (dump : List ℕ) → ((seen : Seen) × IsDumpOf h (places_of h rows) seen dump) ⊎ (NamesNoClass h dump ⊎ ((line : ℕ) × IsFirstBadLine h (places_of h rows) dump line)) → HasReading h rows dump
 reading_of h rows dump (inl found) = is_dump found.0 found.1
 reading_of h rows dump (inr (inl unknown)) = is_unknown unknown
 reading_of h rows dump (inr (inr none)) = is_none none.0 none.1

@@ -37,16 +37,16 @@ use Rattle.cxxabi_cmd.specs.declared.listing.Listing.{Listing}
 use Rattle.cxxabi_cmd.specs.declared.listing.Listing.TheVariants.{OfLayout, OfTables}
 use Rattle.cxxabi_cmd.specs.declared.status.Status.TheVariants.{Refused, Usage, Limit, BadInput}
 use Rattle.cxxabi_cmd.specs.Answers.{IsArrayReply, no_element_class, elements_of, array_answer, IsMemberReply, no_class, no_whole, member_of, member_answer}
-use Rattle.cxxabi_cmd.specs.Commands.{RunsMain, by_run, by_paths, by_gen, by_foreign, input_of, parts_of}
+use Rattle.cxxabi_cmd.specs.Commands.{RunsMain, by_run, by_paths, by_gen, by_foreign, input_of, divided_input}
 use Rattle.cxxabi_cmd.specs.Divided.{IsLayoutOf, IsDumpReply, IsListingReply, refused_listing, many_words, listing_rule, undivided_rule}
 use Rattle.cxxabi_input.specs.Division.{line_count}
 use Rattle.abi_sound.specs.declared.class_layout.ClassLayout.{ClassLayout}
 use Rattle.abi_layout.specs.Layouts.{IsLaid}
-use Rattle.abi_tables.specs.Counts.{all_words, most_words}
+use Rattle.abi_tables.specs.Counts.{words_of_all_classes, most_words}
 use Rattle.abi_inspect.specs.Faults.{AreNamesWords}
 use Rattle.cxx_syntax.specs.declared.tree.BodyTree.{BodyTree}
-use Rattle.cxxabi_cmd.specs.Verdict.{AreLexemes, IsSource, HasNoFault, Judgement, Verdict, Stops, Accepts, by_text, by_records, by_classes, by_bodies, by_words, accepted}
-use Rattle.cxxabi_cmd.specs.Output.{source_limit, text_limit, Answer, AsksFor, all_layouts, one_layout, all_tables, one_tables, AsksForName, named_layout, named_tables, Lists, whole, too_much, Yields, counted, unknown_class, listed, arrayed, pointed, Output, usage, too_long, line_alone, count_answer, text_answer, status_of_stop, numbered, first_classes, no_main, inspected, no_layout}
+use Rattle.cxxabi_cmd.specs.Verdict.{AreLexemes, SpellsSource, MeetsNoFault, Judgement, Verdict, Stops, Accepts, by_text, by_records, by_classes, by_bodies, by_words, accepted}
+use Rattle.cxxabi_cmd.specs.Output.{source_limit, command_text_limit, Answer, AsksFor, all_layouts, one_layout, all_tables, one_tables, AsksForName, named_layout, named_tables, Lists, whole, too_much, Yields, counted, unknown_class, listed, arrayed, pointed, Output, usage, too_long, line_alone, count_answer, text_answer, status_of_stop, class_from_number, first_classes, no_main, inspected, no_layout}
 use Rattle.cxxabi_cmd.proofs.Accepting.{ProgramsAreTyped, source_keeps, accepted_keeps, accepted_fine, accepted_names, accepted_typed, accepted_main}
 use Rattle.cxxabi_cmd.proofs.Asking.{Judged, is_stopped, is_yielded, Parted, parted_output}
 use Rattle.cxxabi_cmd.proofs.SourceLemmas.{parts_short}
@@ -70,21 +70,21 @@ some_first : (faults : List Stop) → HasFirst faults
 some_first [] = is_empty refl
 some_first (stop ∷ rest) = is_first stop refl
 
-judged_words : (text : List ℕ) (source : SourceText) (program : TypedProgram) → IsSource text source → faults_of source.records ≡ [] → HasNoFault (resolved source.records) → program_of (resolved source.records) source ≡ Ok program → (judgement : Judgement) × Verdict text judgement
+judged_words : (text : List ℕ) (source : SourceText) (program : TypedProgram) → SpellsSource text source → faults_of source.records ≡ [] → MeetsNoFault (resolved source.records) → program_of (resolved source.records) source ≡ Ok program → (judgement : Judgement) × Verdict text judgement
 judged_words text source program is none nothing resolves =
     ⊎_elim (λ many. (Stops (AtLimit L7), by_words source program is none nothing resolves many)) (λ few. (Accepts source (resolved source.records) program, accepted source program is none nothing resolves few))
     (words_decided (resolved source.records) (source_keeps text source is none))
 
-judged_bodies : (text : List ℕ) (source : SourceText) (answer : Result TypedProgram Stop) → IsSource text source → faults_of source.records ≡ [] → HasNoFault (resolved source.records) → program_of (resolved source.records) source ≡ answer → (judgement : Judgement) × Verdict text judgement
+judged_bodies : (text : List ℕ) (source : SourceText) (answer : Result TypedProgram Stop) → SpellsSource text source → faults_of source.records ≡ [] → MeetsNoFault (resolved source.records) → program_of (resolved source.records) source ≡ answer → (judgement : Judgement) × Verdict text judgement
 judged_bodies text source (Ok program) is none nothing resolves = judged_words text source program is none nothing resolves
 judged_bodies text source (Err stop) is none nothing resolves = (Stops stop, by_bodies source stop is none nothing resolves)
 
-judged_classes : (text : List ℕ) (source : SourceText) → IsSource text source → faults_of source.records ≡ [] → (judgement : Judgement) × Verdict text judgement
+judged_classes : (text : List ℕ) (source : SourceText) → SpellsSource text source → faults_of source.records ≡ [] → (judgement : Judgement) × Verdict text judgement
 judged_classes text source is none =
     ⊎_elim (λ first. (Stops first.0, by_classes source first.0 is none first.1)) (λ nothing. judged_bodies text source (program_of (resolved source.records) source) is none nothing refl)
     (some_fault (resolved source.records) (classes_decided (resolved source.records) (source_keeps text source is none)))
 
-judged_records : (text : List ℕ) (source : SourceText) → IsSource text source → HasFirst (faults_of source.records) → (judgement : Judgement) × Verdict text judgement
+judged_records : (text : List ℕ) (source : SourceText) → SpellsSource text source → HasFirst (faults_of source.records) → (judgement : Judgement) × Verdict text judgement
 judged_records text source is (is_first stop first) = (Stops stop, by_records source stop is first)
 judged_records text source is (is_empty none) = judged_classes text source is none
 
@@ -116,20 +116,20 @@ some_place : (names : List (List ℕ)) (name : List ℕ) → IsThere names name
 some_place [] name = nowhere (λ n at. cc)
 some_place (first ∷ names) name = ⊎_elim (λ same. there_at zero (cc)) (λ other. later first names name other (some_place names name)) (same_text first name)
 
-lists : SomeTables → (h : Classes) (listing : Listing) (classes : List ClassId) → IsHierarchy h → HasNoFault h → AreKnown h classes → (answer : Answer) × Lists h listing classes answer
+lists : SomeTables → (h : Classes) (listing : Listing) (classes : List ClassId) → IsHierarchy h → MeetsNoFault h → AreKnown h classes → (answer : Answer) × Lists h listing classes answer
 lists law h listing classes keeps fine known =
     let laid = some_layout h keeps in
     let texts = some_texts law h laid.0 listing classes keeps (no_meaning h fine) (sound_rows h laid.0 keeps fine laid.1) known in
     ⊎_elim (λ long. (line_alone (Limit L9), too_much laid.0 texts.0 laid.1 texts.1 long)) (λ short. (text_answer texts.0, whole laid.0 texts.0 laid.1 texts.1 short))
-    (cases_lt text_limit (length texts.0))
+    (cases_lt command_text_limit (length texts.0))
 
-yields_list : SomeTables → (front : List ℕ) (size : ℕ) (source : SourceText) (h : Classes) (typed : TypedProgram) (command : Command) (listing : Listing) (classes : List ClassId) → IsHierarchy h → HasNoFault h → AsksFor h command listing classes → (answer : Answer) × Yields front size source h typed command answer
+yields_list : SomeTables → (front : List ℕ) (size : ℕ) (source : SourceText) (h : Classes) (typed : TypedProgram) (command : Command) (listing : Listing) (classes : List ClassId) → IsHierarchy h → MeetsNoFault h → AsksFor h command listing classes → (answer : Answer) × Yields front size source h typed command answer
 yields_list law front size source h typed command listing classes keeps fine asks =
     let is = lists law h listing classes keeps fine (asked_known h command listing classes asks) in (is.0, listed command listing classes is.0 asks is.1)
 
-yields_named : SomeTables → (front : List ℕ) (size : ℕ) (source : SourceText) (h : Classes) (typed : TypedProgram) (command : Command) (listing : Listing) (name : List ℕ) → IsHierarchy h → HasNoFault h → AsksForName command name →
+yields_named : SomeTables → (front : List ℕ) (size : ℕ) (source : SourceText) (h : Classes) (typed : TypedProgram) (command : Command) (listing : Listing) (name : List ℕ) → IsHierarchy h → MeetsNoFault h → AsksForName command name →
     ((c : ClassId) → slice_get (class_names h) c.0 ≡ Some name → AsksFor h command listing (c ∷ [])) → IsThere (class_names h) name → (answer : Answer) × Yields front size source h typed command answer
-yields_named law front size source h typed command listing name keeps fine names asks (there_at n at) = yields_list law front size source h typed command listing (numbered n ∷ []) keeps fine (asks (numbered n) at)
+yields_named law front size source h typed command listing name keeps fine names asks (there_at n at) = yields_list law front size source h typed command listing (class_from_number n ∷ []) keeps fine (asks (class_from_number n) at)
 yields_named law front size source h typed command listing name keeps fine names asks (nowhere none) =
     (line_alone (Refused UnknownName size), unknown_class command name names (λ has. let place = place_of (class_names h) name has in none place.0 place.1))
 
@@ -148,21 +148,21 @@ pub record SomeLaws : Type 0 where
 some_array : SomeArrays → (size : ℕ) (h : Classes) (name : List ℕ) (n : ℕ) → IsHierarchy h → IsThere (class_names h) name → (answer : Answer) × IsArrayReply size h name n answer
 some_array law size h name n keeps (there_at i at) =
     let laid = some_layout h keeps in
-    let is = law h (places_of h laid.0) (numbered i) n keeps (named_below h i name at) in
-    (array_answer is.0, elements_of (numbered i) laid.0 is.0 at laid.1 is.1)
+    let is = law h (places_of h laid.0) (class_from_number i) n keeps (named_below h i name at) in
+    (array_answer is.0, elements_of (class_from_number i) laid.0 is.0 at laid.1 is.1)
 some_array law size h name n keeps (nowhere none) = (line_alone (Refused UnknownName size), no_element_class (λ has. let place = place_of (class_names h) name has in none place.0 place.1))
 
 some_member : (size : ℕ) (h : Classes) (named : QualifiedMember) → IsHierarchy h → IsThere (class_names h) named.class → IsThere (class_names h) named.whole → (answer : Answer) × IsMemberReply size h named answer
 some_member size h named keeps (there_at i at) (there_at j of) =
     let laid = some_layout h keeps in
-    (member_answer (answer_of h (places_of h laid.0) (numbered i) named.member (numbered j)), member_of (numbered i) (numbered j) laid.0 at of laid.1)
+    (member_answer (answer_of h (places_of h laid.0) (class_from_number i) named.member (class_from_number j)), member_of (class_from_number i) (class_from_number j) laid.0 at of laid.1)
 some_member size h named keeps (there_at i at) (nowhere none) =
     (line_alone (Refused UnknownName size), no_whole (λ has. let place = place_of (class_names h) named.whole has in none place.0 place.1))
 some_member size h named keeps (nowhere none) there =
     (line_alone (Refused UnknownName size), no_class (λ has. let place = place_of (class_names h) named.class has in none place.0 place.1))
 
 -- what is said of a dump
-some_dump : SomeDumps → (dump : List ℕ) (h : Classes) → IsHierarchy h → HasNoFault h → AreNamesWords h → (answer : Answer) × IsDumpReply dump h answer
+some_dump : SomeDumps → (dump : List ℕ) (h : Classes) → IsHierarchy h → MeetsNoFault h → AreNamesWords h → (answer : Answer) × IsDumpReply dump h answer
 some_dump law dump h keeps fine words =
     let laid = some_layout h keeps in
     dump_replied dump h laid.0 laid.1 (law h laid.0 dump (record { keeps = keeps; words = words; sound = sound_rows h laid.0 keeps fine laid.1 }))
@@ -170,7 +170,7 @@ some_dump law dump h keeps fine words =
 -- what is known where a command has an answer to an accepted source
 record IsReadyFor (h : Classes) (typed : TypedProgram) (source : SourceText) : Type 0 where
   keeps : IsHierarchy h
-  fine : HasNoFault h
+  fine : MeetsNoFault h
   words : AreNamesWords h
   typed_is : IsTypedProgram h typed
   main : is_body typed.main ≡ is_some source.main
@@ -182,7 +182,7 @@ foreign_by law right front size source h typed steps tree ready main (is_sound r
     ⊎_elim
     (λ many. (line_alone (Limit L7), no_layout steps tree (line_alone (Limit L7)) main (many_words rows is many)))
     (λ few. yields_runs right front size source h rows typed (Foreign steps) steps false source.main (by_foreign steps) ready.keeps (no_meaning h ready.fine) (is, few) ready.typed_is ready.main refl)
-    (cases_lt most_words (all_words h (places_of h rows)))
+    (cases_lt most_words (words_of_all_classes h (places_of h rows)))
 foreign_by law right front size source h typed steps tree ready main (is_unsound rule line is) =
     let answer = line_alone (BadInput (listing_rule rule) line) in (answer, no_layout steps tree answer main (refused_listing rule line is))
 
@@ -227,7 +227,7 @@ some_judged law typing right c front text (Accepts source h typed) verdict =
     let yields = some_yield law right front (length text) source h typed c ready in
     (yields.0, is_yielded source h typed yields.0 verdict yields.1)
 
-some_parted : SomeLaws → ProgramsAreTyped → NeverWrong → (c : Command) (input : List ℕ) (parts : Option (List ℕ × List ℕ)) → length input ≤ source_limit → parts_of c input ≡ parts → (answer : Answer) × Parted c input parts answer
+some_parted : SomeLaws → ProgramsAreTyped → NeverWrong → (c : Command) (input : List ℕ) (parts : Option (List ℕ × List ℕ)) → length input ≤ source_limit → divided_input c input ≡ parts → (answer : Answer) × Parted c input parts answer
 some_parted law typing right c input None short are = (line_alone (BadInput (undivided_rule c) (suc (line_count input))), refl)
 some_parted law typing right c input (Some p) short are =
     let within = parts_short c input p.0 p.1 are in
@@ -242,8 +242,8 @@ some_output law typing right words bytes =
     (λ command. let c = command.0 in
     let input = input_of c bytes in
     ⊎_elim (λ long. (line_alone (Limit L1), too_long c command.1 long))
-    (λ short. let parted = some_parted law typing right c input (parts_of c input) short refl in
-    (parted.0, parted_output words bytes c (parts_of c input) parted.0 command.1 short refl parted.1))
+    (λ short. let parted = some_parted law typing right c input (divided_input c input) short refl in
+    (parted.0, parted_output words bytes c (divided_input c input) parted.0 command.1 short refl parted.1))
     (cases_lt source_limit (length input)))
     (λ none. (line_alone Usage, usage none))
     (some_command words)

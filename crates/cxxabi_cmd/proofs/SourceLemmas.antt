@@ -12,8 +12,8 @@ use Rattle.cxxabi_words.specs.declared.command.Command.{Command}
 use Rattle.cxxabi_words.specs.declared.command.Command.TheVariants.{Check, Run, Layout, LayoutOf, Tables, TablesOf, Paths, Gen, Array, MemberPointer, Inspect, Foreign}
 use Rattle.cxxabi_streams.specs.declared.reading.ReadStop.{ReadStop}
 use Rattle.cxxabi_input.proofs.PartSizes.{parts_within}
-use Rattle.cxxabi_cmd.specs.Commands.{ReadsSource, input_of, parts_of}
-use Rattle.cxxabi_cmd.specs.invariants.Replies.{IsRead}
+use Rattle.cxxabi_cmd.specs.Commands.{ReadsSource, input_of, divided_input}
+use Rattle.cxxabi_cmd.specs.invariants.Replies.{IsReadToLimit}
 
 -- a front that is shorter than was asked for is the whole
 whole_read : (n : ℕ) (bytes all : List ℕ) → bytes ≡ take n all → length bytes < n → bytes ≡ all
@@ -26,14 +26,14 @@ whole_read (suc n) (a ∷ bytes) (b ∷ all) same short =
     rw (head, whole_read n bytes all tail (omega arith)) refl
 
 -- the bytes up to one past the limit
-taken_read : (bytes all : List ℕ) → bytes ≡ take 262145 all → IsRead bytes all
+taken_read : (bytes all : List ℕ) → bytes ≡ take 262145 all → IsReadToLimit bytes all
 taken_read bytes all same = record {
   whole = λ short. whole_read 262145 bytes all same (omega (arith, short));
   more = λ long. let size : length bytes ≡ length (take 262145 all) = ap length same in omega (arith, long, size, length-take 262145 all);
 }
 
 -- all bytes
-pub all_read : (bytes all : List ℕ) → bytes ≡ all → IsRead bytes all
+pub all_read : (bytes all : List ℕ) → bytes ≡ all → IsReadToLimit bytes all
 all_read bytes all same = record { whole = λ short. same; more = λ long. subst (λ (b : List ℕ). 262144 < length b) same long }
 
 -- a command that makes no source of its own reads one
@@ -53,11 +53,11 @@ reads_given (Gen n) other = absurd (other n refl)
 
 -- what was read where the source tells its bytes
 pub given_read : {V : Type 0} (items : V → List ℕ) (r : Result V ReadStop) (c : Command) (remaining : Option (List ℕ)) → ((n : ℕ) → c ≡ Gen n → ⊥) → IfOk r (λ text. IfSome remaining (λ bytes. items text ≡ take 262145 bytes)) →
-    IfOk r (λ text. (given : List ℕ) → (ReadsSource c → remaining ≡ Some given) → IsRead (items text) (input_of c given))
+    IfOk r (λ text. (given : List ℕ) → (ReadsSource c → remaining ≡ Some given) → IsReadToLimit (items text) (input_of c given))
 given_read items (Ok text) c remaining other read = λ given told.
     let own = reads_given c other in
     let bytes : items text ≡ take 262145 given = subst (λ (o : Option (List ℕ)). IfSome o (λ bytes. items text ≡ take 262145 bytes)) (told own.0) read in
-    subst (λ (all : List ℕ). IsRead (items text) all) (sym (own.1 given)) (taken_read (items text) given bytes)
+    subst (λ (all : List ℕ). IsReadToLimit (items text) all) (sym (own.1 given)) (taken_read (items text) given bytes)
 given_read items (Err stop) c remaining other read = read
 
 pub left_read : {V : Type 0} (r : Result V ReadStop) (c : Command) (before after : Option (List ℕ)) → IfOk r (λ text. IfSome before (λ bytes. after ≡ Some (drop 262145 bytes))) →
@@ -88,7 +88,7 @@ whole_part input front text parts =
     let size = ap length are.1 in
     omega (arith, none, size)
 
-pub parts_short : (c : Command) (input front text : List ℕ) → parts_of c input ≡ Some (front, text) → length front + length text ≤ length input
+pub parts_short : (c : Command) (input front text : List ℕ) → divided_input c input ≡ Some (front, text) → length front + length text ≤ length input
 parts_short Check input front text parts = whole_part input front text parts
 parts_short (Run steps trace) input front text parts = whole_part input front text parts
 parts_short Layout input front text parts = whole_part input front text parts

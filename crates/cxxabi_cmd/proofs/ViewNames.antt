@@ -14,9 +14,9 @@ use Rattle.abi_slots.specs.declared.words.VttWord.{VttWord}
 use Rattle.abi_slots.specs.declared.words.GroupName.{GroupName}
 use Rattle.abi_slots.specs.Groups.{GoAlong}
 use Rattle.abi_tables.specs.Counts.{group_views}
-use Rattle.abi_vtt.specs.Vtts.{Item, IsVttWord}
+use Rattle.abi_vtt.specs.Vtts.{VttEntry, IsVttWord}
 use Rattle.abi_tables.specs.declared.tables.ClassTables.{ClassTables}
-use Rattle.abi_tables.specs.Tables.{AreClassTables, class_items, group_name, names_of, IsNamed}
+use Rattle.abi_tables.specs.Tables.{AreClassTables, class_items, group_name, group_names, IsNamed}
 use Rattle.abi_world.proofs.Named.{item_viewed}
 use Rattle.abi_print.specs.TableTexts.{IsViewName}
 
@@ -38,11 +38,11 @@ beside R xs ys i a go at =
 -- a view has a group, so that it is a subobject
 valid_view : (h : Classes) (l : Places) (c : ClassId) (tables : ClassTables) (s : Subobject) → AreClassTables h l c tables → Has (group_views h c) s → IsSubobject h c s
 valid_view h l c tables s are listed =
-    let name = index_of (names_of h c) (group_name c s) (has_map (group_name c) (group_views h c) s listed) in
-    let group = beside (IsNamed h l) (names_of h c) tables.groups name.0 (group_name c s) are.groups name.1 in
+    let name = index_of (group_names h c) (group_name c s) (has_map (group_name c) (group_views h c) s listed) in
+    let group = beside (IsNamed h l) (group_names h c) tables.groups name.0 (group_name c s) are.groups name.1 in
     subst (λ (n : GroupName). IsSubobject h n.complete n.view) group.2.is group.2.group.view.valid
 
-word_named : (h : Classes) (l : Places) (c : ClassId) (tables : ClassTables) (i : Item) (word : VttWord) → c.0 < length h → AreClassTables h l c tables → Has (class_items h l c) i → IsVttWord h l c i word → IsViewName h word.group
+word_named : (h : Classes) (l : Places) (c : ClassId) (tables : ClassTables) (i : VttEntry) (word : VttWord) → c.0 < length h → AreClassTables h l c tables → Has (class_items h l c) i → IsVttWord h l c i word → IsViewName h word.group
 word_named h l c tables i word known are has is = record {
   known = subst (λ (k : ClassId). k.0 < length h) (sym is.complete) known;
   valid = subst (λ (k : ClassId). IsSubobject h k word.group.view) (sym is.complete)
@@ -60,5 +60,5 @@ words_named h l c tables known are = λ k d lt.
 pub groups_named : (h : Classes) (l : Places) (c : ClassId) (tables : ClassTables) → AreClassTables h l c tables → All (λ (group : Group). IsViewName h group.name) tables.groups
 groups_named h l c tables are = λ k d lt.
     let there = slice_get-get_or tables.groups k d lt in
-    let name = along (IsNamed h l) (names_of h c) tables.groups k (get_or tables.groups k d) are.groups there in
+    let name = along (IsNamed h l) (group_names h c) tables.groups k (get_or tables.groups k d) are.groups there in
     record { known = name.2.group.view.known; valid = name.2.group.view.valid }

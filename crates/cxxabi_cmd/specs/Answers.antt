@@ -12,7 +12,7 @@ use Rattle.abi_cookie.specs.declared.answers.ArrayAnswer.TheVariants.{Abstract, 
 use Rattle.abi_cookie.specs.Answers.{IsArrayAnswer}
 use Rattle.abi_memptr.specs.declared.pointers.MemberRule.{MemberRule}
 use Rattle.abi_memptr.specs.declared.pointers.MemberRule.TheVariants.{NoSuchMember, BitField, NotBase, AmbiguousBase, VirtualBase}
-use Rattle.abi_memptr.specs.Pointers.{Outcome, refused, given}
+use Rattle.abi_memptr.specs.Pointers.{MemberOutcome, refused, given}
 use Rattle.abi_memptr.specs.Answers.{answer_of}
 use Rattle.cxxabi_words.specs.declared.command.QualifiedMember.{QualifiedMember}
 use Rattle.cxxabi_words.specs.Commands.{budget}
@@ -20,11 +20,11 @@ use Rattle.cxxabi_cmd.specs.declared.status.InputRule.{InputRule}
 use Rattle.cxxabi_cmd.specs.declared.status.InputRule.TheVariants.{M1, M2, M3, M4, M5, A1, A2}
 use Rattle.cxxabi_cmd.specs.declared.status.Status.{Status}
 use Rattle.cxxabi_cmd.specs.declared.status.Status.TheVariants.{Done, Refused, BadInput, Limit}
-use Rattle.cxxabi_cmd.specs.Statuses.{last_line}
+use Rattle.cxxabi_cmd.specs.Statuses.{status_line}
 
 -- the bytes that the text of a command may have (limit L9)
-abbrev pub text_limit : ℕ
-text_limit = 16777216
+abbrev pub command_text_limit : ℕ
+command_text_limit = 16777216
 
 -- the text and the status of an answer
 pub record Answer : Type 0 where
@@ -33,7 +33,7 @@ pub record Answer : Type 0 where
 
 -- an answer that is its last line alone
 abbrev pub line_alone : Status → Answer
-line_alone status = record { text = last_line status budget; status = status }
+line_alone status = record { text = status_line status budget; status = status }
 
 -- an answer that is a text alone
 abbrev pub text_answer : List ℕ → Answer
@@ -41,7 +41,7 @@ text_answer text = record { text = text; status = Done }
 
 -- a text, or the limit that it passes
 abbrev pub limited_answer : List ℕ → Answer
-limited_answer text = if nat_le (length text) text_limit then text_answer text else line_alone (Limit L9)
+limited_answer text = if nat_le (length text) command_text_limit then text_answer text else line_alone (Limit L9)
 
 -- an array, or the rule that refuses it
 abbrev pub array_answer : ArrayAnswer → Answer
@@ -64,7 +64,7 @@ member_rule AmbiguousBase = M4
 member_rule VirtualBase = M5
 
 -- a pointer to a member, or the rule that refuses it
-abbrev pub member_answer : Outcome (List ℕ) → Answer
+abbrev pub member_answer : MemberOutcome (List ℕ) → Answer
 member_answer (refused rule) = line_alone (BadInput (member_rule rule) 0)
 member_answer (given text) = limited_answer text
 

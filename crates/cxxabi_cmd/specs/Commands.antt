@@ -15,10 +15,10 @@ input_of other bytes = bytes
 
 -- what stands before the source in an input, and the source: a line divides the input of `inspect` and `foreign`, and that of each
 -- other command is a source
-abbrev pub parts_of : Command → List ℕ → Option (List ℕ × List ℕ)
-parts_of Inspect input = division input
-parts_of (Foreign steps) input = division input
-parts_of other input = Some ([], input)
+abbrev pub divided_input : Command → List ℕ → Option (List ℕ × List ℕ)
+divided_input Inspect input = division input
+divided_input (Foreign steps) input = division input
+divided_input other input = Some ([], input)
 
 -- the command reads the source that it is given
 abbrev pub ReadsSource : Command → Type 0
@@ -26,8 +26,8 @@ ReadsSource (Gen n) = ⊥
 ReadsSource other = Unit {0}
 
 -- the source tells these bytes, where the words are a command that reads it
-abbrev pub Tells : List (List ℕ) → Option (List ℕ) → List ℕ → Type 0
-Tells words remaining bytes = (command : Command) → Says words command → ReadsSource command → remaining ≡ Some bytes
+abbrev pub TellsSource : List (List ℕ) → Option (List ℕ) → List ℕ → Type 0
+TellsSource words remaining bytes = (command : Command) → Says words command → ReadsSource command → remaining ≡ Some bytes
 
 -- the command runs `main`, with at most so many steps, and with a trace or without
 pub data RunsMain : Command → ℕ → Bool → Type 0 where

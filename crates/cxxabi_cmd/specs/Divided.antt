@@ -4,10 +4,10 @@ use Rattle.cxx_hierarchy.specs.declared.stop.LimitNo.TheVariants.{L7}
 use Rattle.cxx_hierarchy.specs.Classes.{Classes}
 use Rattle.abi_sound.specs.declared.class_layout.ClassLayout.{ClassLayout}
 use Rattle.abi_sound.specs.Places.{places_of}
-use Rattle.abi_tables.specs.Counts.{all_words, most_words}
+use Rattle.abi_tables.specs.Counts.{words_of_all_classes, most_words}
 use Rattle.abi_layout.specs.Layouts.{IsLaid}
 use Rattle.abi_inspect.specs.declared.seen.Seen.{Seen}
-use Rattle.abi_inspect.specs.Faults.{IsDumpOf, IsFirstFault, NamesNoClass}
+use Rattle.abi_inspect.specs.Faults.{IsDumpOf, IsFirstBadLine, NamesNoClass}
 use Rattle.abi_inspect.specs.Sayings.{seen_text}
 use Rattle.abi_foreign.specs.declared.listing_stop.ListingRule.{ListingRule}
 use Rattle.abi_foreign.specs.declared.listing_stop.ListingRule.TheVariants.{Form, Primary, Place, Align, Inside, Overlap, Twice}
@@ -29,14 +29,14 @@ undivided_rule other = I2
 -- the layout that a command treats: `foreign` that of its listing, which is within the limit on words of tables, and each other that
 -- of the rules
 abbrev pub IsLayoutOf : Command → List ℕ → Classes → List ClassLayout → Type 0
-IsLayoutOf (Foreign steps) front h rows = IsForeign h front rows × (all_words h (places_of h rows) ≤ most_words)
+IsLayoutOf (Foreign steps) front h rows = IsForeign h front rows × (words_of_all_classes h (places_of h rows) ≤ most_words)
 IsLayoutOf other front h rows = IsLaid h rows
 
 -- what is answered to a dump: what it says, that it names no class, or the first line that begins none
 pub data IsDumpReply (dump : List ℕ) (h : Classes) : Answer → Type 0 where
   dump_says : (rows : List ClassLayout) (seen : Seen) → IsLaid h rows → IsDumpOf h (places_of h rows) seen dump → IsDumpReply dump h (limited_answer (seen_text h (places_of h rows) seen))
   names_no_class : NamesNoClass h dump → IsDumpReply dump h (line_alone (BadInput I1 1))
-  no_dump : (rows : List ClassLayout) (line : ℕ) → IsLaid h rows → IsFirstFault h (places_of h rows) dump line → IsDumpReply dump h (line_alone (BadInput I2 line))
+  no_dump : (rows : List ClassLayout) (line : ℕ) → IsLaid h rows → IsFirstBadLine h (places_of h rows) dump line → IsDumpReply dump h (line_alone (BadInput I2 line))
 
 -- the number of a rule on listings
 abbrev pub listing_rule : ListingRule → InputRule
@@ -51,4 +51,4 @@ listing_rule Twice = F7
 -- why a listing has no run: it is refused, or the tables over its layout have too many words
 pub data IsListingReply (listing : List ℕ) (h : Classes) : Answer → Type 0 where
   refused_listing : (rule : ListingRule) (line : ℕ) → IsRefused h listing (Bad rule line) → IsListingReply listing h (line_alone (BadInput (listing_rule rule) line))
-  many_words : (rows : List ClassLayout) → IsForeign h listing rows → most_words < all_words h (places_of h rows) → IsListingReply listing h (line_alone (Limit L7))
+  many_words : (rows : List ClassLayout) → IsForeign h listing rows → most_words < words_of_all_classes h (places_of h rows) → IsListingReply listing h (line_alone (Limit L7))

@@ -16,7 +16,7 @@ use Rattle.path_rules.specs.Rules.{undefined_no}
 use Rattle.path_model.specs.Runs.{run_of}
 use Rattle.text_told.specs.declared.ending.End.{End}
 use Rattle.text_told.specs.declared.ending.End.TheVariants as ends
-use Rattle.text_told.specs.Told.{told, ending_of}
+use Rattle.text_told.specs.Told.{told, told_ending}
 use Rattle.abi_sound.specs.declared.class_layout.ClassLayout.{ClassLayout}
 use Rattle.abi_sound.specs.Places.{places_of}
 use Rattle.abi_tables.specs.declared.tables.ClassTables.{ClassTables}
@@ -32,13 +32,13 @@ use Rattle.cxxabi_cmd.specs.declared.listing.Listing.{Listing}
 use Rattle.cxxabi_cmd.specs.declared.listing.Listing.TheVariants.{OfLayout, OfTables}
 use Rattle.cxxabi_cmd.specs.declared.status.Status.{Status}
 use Rattle.cxxabi_cmd.specs.declared.status.Status.TheVariants.{Done, Refused, BadInput, Usage, Undefined, OutOfSteps, Limit, ReadFault, WriteFault, NoMemory}
-use Rattle.cxxabi_cmd.specs.Commands.{RunsMain, SumsUp, input_of, parts_of}
+use Rattle.cxxabi_cmd.specs.Commands.{RunsMain, SumsUp, input_of, divided_input}
 use Rattle.cxxabi_cmd.specs.Divided.{IsDumpReply, IsLayoutOf, IsListingReply, undivided_rule}
 use Rattle.cxxabi_input.specs.Division.{line_count}
-pub use Rattle.cxxabi_cmd.specs.Answers.{Answer, line_alone, text_answer, text_limit}
+pub use Rattle.cxxabi_cmd.specs.Answers.{Answer, line_alone, text_answer, command_text_limit}
 use Rattle.cxxabi_cmd.specs.Answers.{IsArrayReply, IsMemberReply}
-use Rattle.cxxabi_cmd.specs.Statuses.{last_line}
-use Rattle.cxxabi_streams.specs.Streams.{IsPartOf}
+use Rattle.cxxabi_cmd.specs.Statuses.{status_line}
+use Rattle.cxxabi_streams.specs.Streams.{AddsFrontOf}
 use Rattle.cxxabi_cmd.specs.Verdict.{Verdict, Stops, Accepts}
 
 -- the bytes of each word
@@ -58,7 +58,7 @@ source_limit = max_text_bytes
 
 -- a text of a run, and then the last line of its end
 abbrev pub ended_answer : List ℕ → End → ℕ → Answer
-ended_answer text e steps = record { text = text ++ last_line (status_of e) steps; status = status_of e }
+ended_answer text e steps = record { text = text ++ status_line (status_of e) steps; status = status_of e }
 
 -- the summary of a run: the classes of its source, its steps, the lines that it printed and the last of them
 abbrev pub summary_answer : Classes → ℕ → List ℕ → Answer
@@ -66,9 +66,9 @@ summary_answer h steps text = text_answer (summary (length h) steps (lines_in te
 
 -- what a run told, with the places of the layout, and how it ended; or its summary, where the command sums it up
 pub data IsRunAnswer (command : Command) (h : Classes) (rows : List ClassLayout) (typed : TypedProgram) (trace : Bool) (steps : ℕ) : Answer → Type 0 where
-  ends_with : (e : End) → ending_of e ≡ (told h (places_of h rows) typed trace steps).ending → (SumsUp command e → ⊥) →
+  ends_with : (e : End) → told_ending e ≡ (told h (places_of h rows) typed trace steps).ending → (SumsUp command e → ⊥) →
       IsRunAnswer command h rows typed trace steps (ended_answer (told h (places_of h rows) typed trace steps).text e steps)
-  summed_up : (e : End) → ending_of e ≡ (told h (places_of h rows) typed trace steps).ending → SumsUp command e →
+  summed_up : (e : End) → told_ending e ≡ (told h (places_of h rows) typed trace steps).ending → SumsUp command e →
       IsRunAnswer command h rows typed trace steps (summary_answer h (run_of h (places_of h rows).size typed steps).steps (told h (places_of h rows) typed trace steps).text)
 
 -- the status of a source that is not accepted
@@ -81,13 +81,13 @@ status_of_stop stop.NoMemory = NoMemory
 abbrev pub count_answer : Classes → Answer
 count_answer h = text_answer (decimal (length h) ++ codes " classes\n")
 
-abbrev pub numbered : ℕ → ClassId
-numbered n = record { 0 = n }
+abbrev pub class_from_number : ℕ → ClassId
+class_from_number n = record { 0 = n }
 
 -- the first classes of a source in their order, as many as are asked for
 abbrev pub first_classes : ℕ → List ClassId
 first_classes zero = []
-first_classes (suc n) = first_classes n ++ numbered n ∷ []
+first_classes (suc n) = first_classes n ++ class_from_number n ∷ []
 
 -- what a command asks for, and of which classes
 pub data AsksFor (h : Classes) : Command → Listing → List ClassId → Type 0 where
@@ -119,8 +119,8 @@ pub data AreTexts (h : Classes) (rows : List ClassLayout) (listing : Listing) : 
 
 -- what is answered where these classes are listed
 pub data Lists (h : Classes) (listing : Listing) (classes : List ClassId) : Answer → Type 0 where
-  whole : (rows : List ClassLayout) (text : List ℕ) → IsLaid h rows → AreTexts h rows listing classes text → length text ≤ text_limit → Lists h listing classes (text_answer text)
-  too_much : (rows : List ClassLayout) (text : List ℕ) → IsLaid h rows → AreTexts h rows listing classes text → text_limit < length text → Lists h listing classes (line_alone (Limit L9))
+  whole : (rows : List ClassLayout) (text : List ℕ) → IsLaid h rows → AreTexts h rows listing classes text → length text ≤ command_text_limit → Lists h listing classes (text_answer text)
+  too_much : (rows : List ClassLayout) (text : List ℕ) → IsLaid h rows → AreTexts h rows listing classes text → command_text_limit < length text → Lists h listing classes (line_alone (Limit L9))
 
 -- what a command answers to an accepted source of so many bytes, which resolves to this program, behind this front
 pub data Yields (front : List ℕ) (size : ℕ) (source : SourceText) (h : Classes) (typed : TypedProgram) : Command → Answer → Type 0 where
@@ -139,25 +139,25 @@ pub data Yields (front : List ℕ) (size : ℕ) (source : SourceText) (h : Class
 pub data Output (words : List (List ℕ)) (bytes : List ℕ) : Answer → Type 0 where
   usage : (IsCommand words → ⊥) → Output words bytes (line_alone Usage)
   too_long : (command : Command) → Says words command → source_limit < length (input_of command bytes) → Output words bytes (line_alone (Limit L1))
-  undivided : (command : Command) → Says words command → length (input_of command bytes) ≤ source_limit → parts_of command (input_of command bytes) ≡ None →
+  undivided : (command : Command) → Says words command → length (input_of command bytes) ≤ source_limit → divided_input command (input_of command bytes) ≡ None →
       Output words bytes (line_alone (BadInput (undivided_rule command) (suc (line_count (input_of command bytes)))))
-  stopped : (command : Command) (front text : List ℕ) (stop : Stop) → Says words command → length (input_of command bytes) ≤ source_limit → parts_of command (input_of command bytes) ≡ Some (front, text) →
+  stopped : (command : Command) (front text : List ℕ) (stop : Stop) → Says words command → length (input_of command bytes) ≤ source_limit → divided_input command (input_of command bytes) ≡ Some (front, text) →
       Verdict text (Stops stop) → Output words bytes (line_alone (status_of_stop stop))
   yielded : (command : Command) (front text : List ℕ) (source : SourceText) (h : Classes) (typed : TypedProgram) (answer : Answer) → Says words command → length (input_of command bytes) ≤ source_limit →
-      parts_of command (input_of command bytes) ≡ Some (front, text) → Verdict text (Accepts source h typed) → Yields front (length text) source h typed command answer → Output words bytes answer
+      divided_input command (input_of command bytes) ≡ Some (front, text) → Verdict text (Accepts source h typed) → Yields front (length text) source h typed command answer → Output words bytes answer
 
 -- an answer was written: neither a fault nor want of memory
-abbrev pub IsAnswered : Status → Type 0
-IsAnswered Done = Unit {0}
-IsAnswered (Refused rule at) = Unit {0}
-IsAnswered (BadInput rule line) = Unit {0}
-IsAnswered Usage = Unit {0}
-IsAnswered (Undefined number line) = Unit {0}
-IsAnswered OutOfSteps = Unit {0}
-IsAnswered (Limit limit) = Unit {0}
-IsAnswered ReadFault = ⊥
-IsAnswered WriteFault = ⊥
-IsAnswered NoMemory = ⊥
+abbrev pub IsAnswerWritten : Status → Type 0
+IsAnswerWritten Done = Unit {0}
+IsAnswerWritten (Refused rule at) = Unit {0}
+IsAnswerWritten (BadInput rule line) = Unit {0}
+IsAnswerWritten Usage = Unit {0}
+IsAnswerWritten (Undefined number line) = Unit {0}
+IsAnswerWritten OutOfSteps = Unit {0}
+IsAnswerWritten (Limit limit) = Unit {0}
+IsAnswerWritten ReadFault = ⊥
+IsAnswerWritten WriteFault = ⊥
+IsAnswerWritten NoMemory = ⊥
 
 -- nothing was written: a fault of the source, or want of memory
 abbrev pub IsSilent : Status → Type 0
@@ -173,7 +173,7 @@ IsSilent WriteFault = ⊥
 IsSilent NoMemory = Unit {0}
 
 -- the sink took the whole text of the answer, and the status is the answer's
-pub record Answers (words : List (List ℕ)) (bytes : List ℕ) (before after : Option (List ℕ)) (status : Status) : Type 0 where
+pub record WritesAnswer (words : List (List ℕ)) (bytes : List ℕ) (before after : Option (List ℕ)) (status : Status) : Type 0 where
   pub answer : Answer
   pub output : Output words bytes answer
   pub same : status ≡ answer.status
@@ -183,4 +183,4 @@ pub record Answers (words : List (List ℕ)) (bytes : List ℕ) (before after : 
 pub record BreaksOff (words : List (List ℕ)) (bytes : List ℕ) (before after : Option (List ℕ)) : Type 0 where
   pub answer : Answer
   pub output : Output words bytes answer
-  pub part : IfSome before (λ taken. IsPartOf taken answer.text after)
+  pub part : IfSome before (λ taken. AddsFrontOf taken answer.text after)

@@ -10,17 +10,17 @@ use Rattle.cxxabi_cmd.specs.declared.status.Status.{Status}
 use Rattle.cxxabi_cmd.specs.declared.status.Status.TheVariants.{Done, Refused, BadInput, Usage, Undefined, OutOfSteps, Limit, ReadFault, WriteFault, NoMemory}
 
 -- the exit status of the process
-abbrev pub code_of : Status → ℕ
-code_of Done = 0
-code_of (Refused rule at) = 1
-code_of (BadInput rule line) = 1
-code_of Usage = 2
-code_of (Undefined number line) = 3
-code_of OutOfSteps = 4
-code_of (Limit limit) = 5
-code_of ReadFault = 6
-code_of WriteFault = 7
-code_of NoMemory = 8
+abbrev pub exit_status : Status → ℕ
+exit_status Done = 0
+exit_status (Refused rule at) = 1
+exit_status (BadInput rule line) = 1
+exit_status Usage = 2
+exit_status (Undefined number line) = 3
+exit_status OutOfSteps = 4
+exit_status (Limit limit) = 5
+exit_status ReadFault = 6
+exit_status WriteFault = 7
+exit_status NoMemory = 8
 
 -- the printed name of a refusal of the source
 abbrev pub name_of_rule : Rule → List ℕ
@@ -108,14 +108,14 @@ name_of_undefined n =
     codes "Overflow"))))))))))
 
 -- the line that ends an answer, or nothing; steps is the budget of the run
-abbrev pub last_line : Status → ℕ → List ℕ
-last_line Done steps = []
-last_line (Refused rule at) steps = codes "refused E" ++ decimal (rule_no rule) ++ codes " " ++ name_of_rule rule ++ codes " at " ++ decimal at ++ 10 ∷ []
-last_line (BadInput rule line) steps = codes "refused " ++ input_no rule ++ codes " " ++ name_of_input rule ++ line_part line ++ 10 ∷ []
-last_line Usage steps = codes "usage" ++ 10 ∷ []
-last_line (Undefined number line) steps = codes "undefined U" ++ decimal number ++ codes " " ++ name_of_undefined number ++ codes " line " ++ decimal line ++ 10 ∷ []
-last_line OutOfSteps steps = codes "out of steps " ++ decimal steps ++ 10 ∷ []
-last_line (Limit limit) steps = codes "limit L" ++ decimal (limit_no limit) ++ 10 ∷ []
-last_line ReadFault steps = []
-last_line WriteFault steps = []
-last_line NoMemory steps = []
+abbrev pub status_line : Status → ℕ → List ℕ
+status_line Done steps = []
+status_line (Refused rule at) steps = codes "refused E" ++ decimal (rule_no rule) ++ codes " " ++ name_of_rule rule ++ codes " at " ++ decimal at ++ 10 ∷ []
+status_line (BadInput rule line) steps = codes "refused " ++ input_no rule ++ codes " " ++ name_of_input rule ++ line_part line ++ 10 ∷ []
+status_line Usage steps = codes "usage" ++ 10 ∷ []
+status_line (Undefined number line) steps = codes "undefined U" ++ decimal number ++ codes " " ++ name_of_undefined number ++ codes " line " ++ decimal line ++ 10 ∷ []
+status_line OutOfSteps steps = codes "out of steps " ++ decimal steps ++ 10 ∷ []
+status_line (Limit limit) steps = codes "limit L" ++ decimal (limit_no limit) ++ 10 ∷ []
+status_line ReadFault steps = []
+status_line WriteFault steps = []
+status_line NoMemory steps = []

@@ -21,7 +21,7 @@ use Rattle.cxx_program.specs.declared.program.TypedProgram.{TypedProgram}
 use Rattle.cxx_resolve.specs.Programs.{program_of}
 use Rattle.abi_sound.specs.declared.class_layout.ClassLayout.{ClassLayout}
 use Rattle.abi_sound.specs.Places.{places_of}
-use Rattle.abi_tables.specs.Counts.{all_words, most_words}
+use Rattle.abi_tables.specs.Counts.{words_of_all_classes, most_words}
 use Rattle.abi_layout.specs.Layouts.{IsLaid}
 use Rattle.abi_layout.specs.Refusals.{IsLargeClass, HasSharedPlace}
 
@@ -33,7 +33,7 @@ pub record AreLexemes (text : List ℕ) (all : List Lexeme) : Type 0 where
   pub sorted : all ≡ lexemes text source_start tokens bad
 
 -- the text spells the source: the grammar derives its tokens, and they say the source
-pub record IsSource (text : List ℕ) (source : SourceText) : Type 0 where
+pub record SpellsSource (text : List ℕ) (source : SourceText) : Type 0 where
   pub all : List Lexeme
   pub sorts : AreLexemes text all
   pub rest : List Lexeme
@@ -48,32 +48,32 @@ pub record StopsText (text : List ℕ) (stop : Stop) : Type 0 where
 
 -- the condition asked at the spot stops the source: one of the class-meaning pass, the size of a class, or a base of it that
 -- brings one class to one place twice
-pub data Fault (h : Classes) : Spot → Stop → Type 0 where
-  of_meaning : (at : Spot) (stop : Stop) → MeaningFault h at stop → Fault h at stop
-  large : (c : ClassId) → c.0 < length h → IsLargeClass h c → Fault h (spot c size_part 0 0) (Limit L6)
-  shared : (c : ClassId) (class : Class) → class_at h c ≡ Some class → HasSharedPlace h c → Fault h (spot c place_part 0 0) (Refused SharedPlace class.at)
+pub data SourceFault (h : Classes) : Spot → Stop → Type 0 where
+  of_meaning : (at : Spot) (stop : Stop) → MeaningFault h at stop → SourceFault h at stop
+  large : (c : ClassId) → c.0 < length h → IsLargeClass h c → SourceFault h (spot c size_part 0 0) (Limit L6)
+  shared : (c : ClassId) (class : Class) → class_at h c ≡ Some class → HasSharedPlace h c → SourceFault h (spot c place_part 0 0) (Refused SharedPlace class.at)
 
 -- a fault, and none is met before it
-pub record IsFirstFault (h : Classes) (stop : Stop) : Type 0 where
+pub record StopsFirst (h : Classes) (stop : Stop) : Type 0 where
   pub at : Spot
-  pub fault : Fault h at stop
-  pub first : (before : Spot) (other : Stop) → Fault h before other → IsBefore before at → ⊥
+  pub fault : SourceFault h at stop
+  pub first : (before : Spot) (other : Stop) → SourceFault h before other → IsBefore before at → ⊥
 
 -- no fault is met
-pub record HasNoFault (h : Classes) : Type 0 where
-  pub none : (at : Spot) (stop : Stop) → Fault h at stop → ⊥
+pub record MeetsNoFault (h : Classes) : Type 0 where
+  pub none : (at : Spot) (stop : Stop) → SourceFault h at stop → ⊥
 
 -- over their layout, the virtual tables and the VTTs of the classes have more words than the limit
 pub record HasManyWords (h : Classes) : Type 0 where
   pub rows : List ClassLayout
   pub laid : IsLaid h rows
-  pub many : most_words < all_words h (places_of h rows)
+  pub many : most_words < words_of_all_classes h (places_of h rows)
 
 -- they are within it
 pub record HasFewWords (h : Classes) : Type 0 where
   pub rows : List ClassLayout
   pub laid : IsLaid h rows
-  pub few : all_words h (places_of h rows) ≤ most_words
+  pub few : words_of_all_classes h (places_of h rows) ≤ most_words
 
 -- what is said of a source: where it stops, or that it is accepted, with its classes and what its globals and bodies resolve to
 pub data Judgement : Type 0 where
@@ -84,11 +84,11 @@ pub data Judgement : Type 0 where
 -- and bodies, and the words of the tables
 pub data Verdict (text : List ℕ) : Judgement → Type 0 where
   by_text : (stop : Stop) → StopsText text stop → Verdict text (Stops stop)
-  by_records : (source : SourceText) (stop : Stop) → IsSource text source → first_of (faults_of source.records) ≡ Some stop → Verdict text (Stops stop)
-  by_classes : (source : SourceText) (stop : Stop) → IsSource text source → faults_of source.records ≡ [] → IsFirstFault (resolved source.records) stop → Verdict text (Stops stop)
-  by_bodies : (source : SourceText) (stop : Stop) → IsSource text source → faults_of source.records ≡ [] → HasNoFault (resolved source.records) →
+  by_records : (source : SourceText) (stop : Stop) → SpellsSource text source → first_of (faults_of source.records) ≡ Some stop → Verdict text (Stops stop)
+  by_classes : (source : SourceText) (stop : Stop) → SpellsSource text source → faults_of source.records ≡ [] → StopsFirst (resolved source.records) stop → Verdict text (Stops stop)
+  by_bodies : (source : SourceText) (stop : Stop) → SpellsSource text source → faults_of source.records ≡ [] → MeetsNoFault (resolved source.records) →
       program_of (resolved source.records) source ≡ Err stop → Verdict text (Stops stop)
-  by_words : (source : SourceText) (program : TypedProgram) → IsSource text source → faults_of source.records ≡ [] → HasNoFault (resolved source.records) →
+  by_words : (source : SourceText) (program : TypedProgram) → SpellsSource text source → faults_of source.records ≡ [] → MeetsNoFault (resolved source.records) →
       program_of (resolved source.records) source ≡ Ok program → HasManyWords (resolved source.records) → Verdict text (Stops (Limit L7))
-  accepted : (source : SourceText) (program : TypedProgram) → IsSource text source → faults_of source.records ≡ [] → HasNoFault (resolved source.records) →
+  accepted : (source : SourceText) (program : TypedProgram) → SpellsSource text source → faults_of source.records ≡ [] → MeetsNoFault (resolved source.records) →
       program_of (resolved source.records) source ≡ Ok program → HasFewWords (resolved source.records) → Verdict text (Accepts source (resolved source.records) program)

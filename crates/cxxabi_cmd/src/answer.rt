@@ -3,7 +3,7 @@
 ghost use Rattle.std.specs.Prelude.{◌≡◌, ◌≤◌, IfOk, length};
 ghost use Rattle.cxxabi_cmd.specs.Output.{Yields, source_limit};
 ghost use Rattle.cxxabi_cmd.specs.invariants.Listings.{IsReady};
-ghost use Rattle.cxxabi_cmd.specs.invariants.Replies.{answer_of, machine_of, HandsBy};
+ghost use Rattle.cxxabi_cmd.specs.invariants.Replies.{as_answer, machine_of, HandsBy};
 ghost use Rattle.cxxabi_words.specs.invariants.Few.{HasFew};
 
 use crate::class_answer::{array_of, member_of};
@@ -28,7 +28,7 @@ pub(crate) fn answer(
     requires ready { IsReady accepted.now }
     requires short { length front.now ≤ source_limit }
     requires few { HasFew command.now }
-    ensures yields { IfOk result (λ reply. Yields front.now size accepted.now.source accepted.now.hierarchy accepted.now.program command.now (answer_of reply)) }
+    ensures yields { IfOk result (λ reply. Yields front.now size accepted.now.source accepted.now.hierarchy accepted.now.program command.now (as_answer reply)) }
     ensures machine { IfOk result (λ reply. HandsBy command.now front.now accepted.now.source accepted.now.hierarchy accepted.now.program (machine_of reply)) }
 {
     match command {

@@ -1,10 +1,10 @@
 //! What `array` and `memptr` answer: an array of a class, and a pointer to a member.
 
 ghost use Rattle.std.specs.Prelude.{◌≡◌, ◌≤◌, None, IfOk};
-ghost use Rattle.cxxabi_words.specs.Commands.{most_elements};
+ghost use Rattle.cxxabi_words.specs.Commands.{most_asked_elements};
 ghost use Rattle.cxxabi_cmd.specs.Answers.{IsArrayReply, IsMemberReply, member_rule};
 ghost use Rattle.cxxabi_cmd.specs.invariants.Listings.{IsReady};
-ghost use Rattle.cxxabi_cmd.specs.invariants.Replies.{answer_of, machine_of};
+ghost use Rattle.cxxabi_cmd.specs.invariants.Replies.{as_answer, machine_of};
 
 use crate::reply::{Reply, limited, line_alone};
 use crate::status::{InputRule, Status};
@@ -39,8 +39,8 @@ pub(crate) fn array_of(
 ) -> Result<Reply, NoMemory>
     requires ready { IsReady accepted.now }
     requires some { 1 ≤ count }
-    requires few { count ≤ most_elements }
-    ensures reply { IfOk result (λ reply. IsArrayReply size accepted.now.hierarchy name.now count (answer_of reply)) }
+    requires few { count ≤ most_asked_elements }
+    ensures reply { IfOk result (λ reply. IsArrayReply size accepted.now.hierarchy name.now count (as_answer reply)) }
     ensures machine { IfOk result (λ reply. machine_of reply ≡ None) }
 {
     let Some(class) = accepted.hierarchy.find(name) else {
@@ -69,7 +69,7 @@ pub(crate) fn member_of(
     accepted: &Accepted,
 ) -> Result<Reply, NoMemory>
     requires ready { IsReady accepted.now }
-    ensures reply { IfOk result (λ reply. IsMemberReply size accepted.now.hierarchy named.now (answer_of reply)) }
+    ensures reply { IfOk result (λ reply. IsMemberReply size accepted.now.hierarchy named.now (as_answer reply)) }
     ensures machine { IfOk result (λ reply. machine_of reply ≡ None) }
 {
     let Some(class) = accepted.hierarchy.find(named.class.as_slice()) else {

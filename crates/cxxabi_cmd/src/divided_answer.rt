@@ -7,7 +7,7 @@ ghost use Rattle.path_model.specs.States.{is_body};
 ghost use Rattle.abi_sound.specs.declared.class_layout.ClassLayout.{ClassLayout};
 ghost use Rattle.abi_sound.specs.Places.{places_of};
 ghost use Rattle.abi_layout.specs.Layouts.{IsLaid};
-ghost use Rattle.abi_inspect.specs.Faults.{IsFault};
+ghost use Rattle.abi_inspect.specs.Faults.{IsDumpFault};
 ghost use Rattle.abi_foreign.specs.Listings.{IsForeign, IsForeignLayout};
 ghost use Rattle.abi_foreign.specs.Refusals.{IsRefused};
 ghost use Rattle.cxxabi_words.specs.Commands.{most_steps};
@@ -15,7 +15,7 @@ ghost use Rattle.cxxabi_words.specs.declared.command.Command.TheVariants.{Foreig
 ghost use Rattle.cxxabi_cmd.specs.Divided.{IsDumpReply, IsListingReply, listing_rule};
 ghost use Rattle.cxxabi_cmd.specs.Output.{Yields, source_limit};
 ghost use Rattle.cxxabi_cmd.specs.invariants.Listings.{IsReady};
-ghost use Rattle.cxxabi_cmd.specs.invariants.Replies.{answer_of, machine_of, HandsBy, YieldsForeign};
+ghost use Rattle.cxxabi_cmd.specs.invariants.Replies.{as_answer, machine_of, HandsBy, YieldsForeign};
 
 use crate::reply::{Reply, limited, line_alone, stopped};
 use crate::run_answer::run_by_bytes;
@@ -48,7 +48,7 @@ fn listing_rule(rule: ListingRule) -> InputRule
 
 // What is answered to a text that is no dump of the source's classes.
 fn dump_fault(alloc: Global, fault: InspectFault) -> Result<Reply, NoMemory>
-    ensures reply { IfOk result (λ reply. (dump : List ℕ) (h : Classes) (rows : List ClassLayout) → IsLaid h rows → IsFault h (places_of h rows) dump fault → IsDumpReply dump h (answer_of reply)) }
+    ensures reply { IfOk result (λ reply. (dump : List ℕ) (h : Classes) (rows : List ClassLayout) → IsLaid h rows → IsDumpFault h (places_of h rows) dump fault → IsDumpReply dump h (as_answer reply)) }
     ensures machine { IfOk result (λ reply. machine_of reply ≡ None) }
 {
     match fault {
@@ -65,7 +65,7 @@ pub(crate) fn inspect_dump(
     accepted: &Accepted,
 ) -> Result<Reply, NoMemory>
     requires ready { IsReady accepted.now }
-    ensures reply { IfOk result (λ reply. IsDumpReply dump.now accepted.now.hierarchy (answer_of reply)) }
+    ensures reply { IfOk result (λ reply. IsDumpReply dump.now accepted.now.hierarchy (as_answer reply)) }
     ensures machine { IfOk result (λ reply. machine_of reply ≡ None) }
 {
     let h = &accepted.hierarchy;
@@ -107,7 +107,7 @@ fn run_over(
 
 // What is answered to a text that is no listing of a sound layout.
 fn listing_refused(alloc: Global, stop: ListingStop) -> Result<Reply, NoMemory>
-    ensures reply { IfOk result (λ reply. (listing : List ℕ) (h : Classes) → IsRefused h listing stop → IsListingReply listing h (answer_of reply)) }
+    ensures reply { IfOk result (λ reply. (listing : List ℕ) (h : Classes) → IsRefused h listing stop → IsListingReply listing h (as_answer reply)) }
     ensures some { OnOk result (stop ≡ ListingStop.NoMemory → ⊥) }
     ensures machine { IfOk result (λ reply. machine_of reply ≡ None) }
 {
@@ -130,7 +130,7 @@ pub(crate) fn run_foreign(
     requires ready { IsReady accepted.now }
     requires short { length listing.now ≤ source_limit }
     requires few { steps ≤ most_steps }
-    ensures yields { IfOk result (λ reply. Yields listing.now size accepted.now.source accepted.now.hierarchy accepted.now.program (Foreign steps) (answer_of reply)) }
+    ensures yields { IfOk result (λ reply. Yields listing.now size accepted.now.source accepted.now.hierarchy accepted.now.program (Foreign steps) (as_answer reply)) }
     ensures machine { IfOk result (λ reply. HandsBy (Foreign steps) listing.now accepted.now.source accepted.now.hierarchy accepted.now.program (machine_of reply)) }
 {
     if accepted.source.main.is_none() {

@@ -3,8 +3,8 @@
 ghost use Rattle.std.specs.Prelude.{◌≡◌, ◌<◌, ◌∷◌, [], None, All, IfOk, MatchOption, length};
 ghost use Rattle.cxx_hierarchy.specs.declared.records.ClassId.{ClassId};
 ghost use Rattle.cxxabi_cmd.specs.Output.{Lists, first_classes};
-ghost use Rattle.cxxabi_cmd.specs.invariants.Listings.{IsReady, IsListed, IsTooMuch, ListsName};
-ghost use Rattle.cxxabi_cmd.specs.invariants.Replies.{answer_of, machine_of};
+ghost use Rattle.cxxabi_cmd.specs.invariants.Listings.{IsReady, AreListedTexts, IsTooMuch, ListsName};
+ghost use Rattle.cxxabi_cmd.specs.invariants.Replies.{as_answer, machine_of};
 
 use crate::listing::{Listing, append_class};
 use crate::reply::{Reply, TEXT_LIMIT, line_alone};
@@ -24,7 +24,7 @@ fn texts_of(
 ) -> Result<Option<Vec<u8>>, NoMemory>
     requires ready { IsReady accepted.now }
     requires known { All (λ (c : ClassId). c.0 < length accepted.now.hierarchy) classes.now }
-    ensures { IfOk result (λ found. MatchOption found (IsTooMuch accepted.now.hierarchy accepted.now.layout listing classes.now) (λ text. IsListed accepted.now.hierarchy accepted.now.layout listing classes.now text.items)) }
+    ensures { IfOk result (λ found. MatchOption found (IsTooMuch accepted.now.hierarchy accepted.now.layout listing classes.now) (λ text. AreListedTexts accepted.now.hierarchy accepted.now.layout listing classes.now text.items)) }
 {
     some_tables();
     let mut text = Vec::new(alloc);
@@ -46,7 +46,7 @@ fn list(
 ) -> Result<Reply, NoMemory>
     requires ready { IsReady accepted.now }
     requires known { All (λ (c : ClassId). c.0 < length accepted.now.hierarchy) classes.now }
-    ensures lists { IfOk result (λ reply. Lists accepted.now.hierarchy listing classes.now (answer_of reply)) }
+    ensures lists { IfOk result (λ reply. Lists accepted.now.hierarchy listing classes.now (as_answer reply)) }
     ensures machine { IfOk result (λ reply. machine_of reply ≡ None) }
 {
     match texts_of(alloc, accepted, listing, classes)? {
@@ -77,7 +77,7 @@ pub(crate) fn list_all(
     accepted: &Accepted,
 ) -> Result<Reply, NoMemory>
     requires { IsReady accepted.now }
-    ensures lists { IfOk result (λ reply. Lists accepted.now.hierarchy listing (first_classes (length accepted.now.hierarchy)) (answer_of reply)) }
+    ensures lists { IfOk result (λ reply. Lists accepted.now.hierarchy listing (first_classes (length accepted.now.hierarchy)) (as_answer reply)) }
     ensures machine { IfOk result (λ reply. machine_of reply ≡ None) }
 {
     let classes = all_classes(alloc, &accepted.hierarchy)?;
@@ -93,7 +93,7 @@ pub(crate) fn list_one(
     accepted: &Accepted,
 ) -> Result<Reply, NoMemory>
     requires { IsReady accepted.now }
-    ensures lists { IfOk result (λ reply. ListsName size accepted.now.hierarchy listing name.now (answer_of reply)) }
+    ensures lists { IfOk result (λ reply. ListsName size accepted.now.hierarchy listing name.now (as_answer reply)) }
     ensures machine { IfOk result (λ reply. machine_of reply ≡ None) }
 {
     let Some(class) = accepted.hierarchy.find(name) else {

@@ -3,7 +3,7 @@
 ghost use Rattle.std.specs.Prelude.{◌≡◌, None, IfOk};
 ghost use Rattle.cxxabi_cmd.specs.Answers.{limited_answer};
 ghost use Rattle.cxxabi_cmd.specs.Output.{line_alone, count_answer, status_of_stop};
-ghost use Rattle.cxxabi_cmd.specs.invariants.Replies.{answer_of, machine_of};
+ghost use Rattle.cxxabi_cmd.specs.invariants.Replies.{as_answer, machine_of};
 
 use crate::status::{Status, last_line_of};
 use byte_machine::Machine;
@@ -28,7 +28,7 @@ pub(crate) struct Reply {
 
 // An answer that is its last line alone.
 pub(crate) fn line_alone(alloc: Global, status: Status) -> Result<Reply, NoMemory>
-    ensures answer { IfOk result (λ reply. answer_of reply ≡ line_alone status) }
+    ensures answer { IfOk result (λ reply. as_answer reply ≡ line_alone status) }
     ensures machine { IfOk result (λ reply. machine_of reply ≡ None) }
 {
     let line = last_line_of(alloc, status, BUDGET)?;
@@ -41,7 +41,7 @@ pub(crate) fn line_alone(alloc: Global, status: Status) -> Result<Reply, NoMemor
 
 // An answer that is a text, or the limit that it passes.
 pub(crate) fn limited(alloc: Global, text: Vec<u8>) -> Result<Reply, NoMemory>
-    ensures answer { IfOk result (λ reply. answer_of reply ≡ limited_answer text.items) }
+    ensures answer { IfOk result (λ reply. as_answer reply ≡ limited_answer text.items) }
     ensures machine { IfOk result (λ reply. machine_of reply ≡ None) }
 {
     if text.len() > TEXT_LIMIT {
@@ -56,7 +56,7 @@ pub(crate) fn limited(alloc: Global, text: Vec<u8>) -> Result<Reply, NoMemory>
 
 // How many classes there are.
 pub(crate) fn class_count(alloc: Global, h: &Hierarchy) -> Result<Reply, NoMemory>
-    ensures answer { IfOk result (λ reply. answer_of reply ≡ count_answer h.now) }
+    ensures answer { IfOk result (λ reply. as_answer reply ≡ count_answer h.now) }
     ensures machine { IfOk result (λ reply. machine_of reply ≡ None) }
 {
     let count = h.len();
@@ -70,7 +70,7 @@ pub(crate) fn class_count(alloc: Global, h: &Hierarchy) -> Result<Reply, NoMemor
 
 /// What is answered to a source that stops.
 pub(crate) fn stopped(alloc: Global, stop: Stop) -> Result<Reply, NoMemory>
-    ensures answer { IfOk result (λ reply. (stop ≡ Stop.NoMemory → ⊥) × (answer_of reply ≡ line_alone (status_of_stop stop))) }
+    ensures answer { IfOk result (λ reply. (stop ≡ Stop.NoMemory → ⊥) × (as_answer reply ≡ line_alone (status_of_stop stop))) }
     ensures machine { IfOk result (λ reply. machine_of reply ≡ None) }
 {
     match stop {

@@ -2,14 +2,14 @@
 
 ghost use Rattle.std.specs.Prelude.{ℕ, ◌≡◌, ◌↔◌, ◌≤◌, ◌<◌, ◌⊎◌, ◌∷◌, ◌++◌, [], List, Some, None, IsTrue, IfSome, IfOk, IfErr, IsSome, MatchOption, OnOk, take, drop, length, string_bytes};
 ghost use Rattle.std.specs.Option.{option_map};
-ghost use Rattle.cxxabi_streams.specs.Streams.{Rose, IsPartOf};
+ghost use Rattle.cxxabi_streams.specs.Streams.{Rose, AddsFrontOf};
 ghost use Rattle.cxxabi_words.specs.Commands.{Says, IsCommand};
-ghost use Rattle.cxxabi_cmd.specs.Commands.{ReadsSource, Tells, input_of, parts_of};
+ghost use Rattle.cxxabi_cmd.specs.Commands.{ReadsSource, TellsSource, input_of, divided_input};
 ghost use Rattle.cxxabi_cmd.specs.Divided.{undivided_rule};
-ghost use Rattle.cxxabi_cmd.specs.Output.{source_limit, texts_of, Output, Answer, Answers, BreaksOff, IsAnswered, IsSilent};
-ghost use Rattle.cxxabi_cmd.specs.invariants.Replies.{answer_of, machine_of, IsRead};
+ghost use Rattle.cxxabi_cmd.specs.Output.{source_limit, texts_of, Output, Answer, WritesAnswer, BreaksOff, IsAnswerWritten, IsSilent};
+ghost use Rattle.cxxabi_cmd.specs.invariants.Replies.{as_answer, machine_of, IsReadToLimit};
 ghost use Rattle.cxxabi_words.specs.invariants.Few.{HasFew};
-ghost use Rattle.cxxabi_cmd.specs.Handed.{HandsOut, seen_of};
+ghost use Rattle.cxxabi_cmd.specs.Handed.{HandsOut, seen_machine};
 
 use crate::answer::answer;
 use crate::reply::{Reply, line_alone, stopped};
@@ -33,7 +33,7 @@ use std::alloc::Global;
 
 // The parts of the input of a command.
 fn parts_of<'a>(command: &Command, input: &'a [u8]) -> Option<Parts<'a>>
-    ensures { MatchOption result (parts_of command.now input.now ≡ None) (λ parts. parts_of command.now input.now ≡ Some (parts.front.now, parts.source.now)) }
+    ensures { MatchOption result (divided_input command.now input.now ≡ None) (λ parts. divided_input command.now input.now ≡ Some (parts.front.now, parts.source.now)) }
 {
     match command {
         Command::Inspect | Command::Foreign(_) => divide(input),
@@ -58,9 +58,9 @@ fn undivided_rule(command: &Command) -> InputRule
 fn reply_to(alloc: Global, command: &Command, bytes: &[u8]) -> Result<Reply, NoMemory>
     requires short { length bytes.now ≤ source_limit }
     requires few { HasFew command.now }
-    ensures output { IfOk result (λ reply. (words : List (List ℕ)) (given : List ℕ) → Says words command.now → bytes.now ≡ input_of command.now given → Output words given (answer_of reply)) }
+    ensures output { IfOk result (λ reply. (words : List (List ℕ)) (given : List ℕ) → Says words command.now → bytes.now ≡ input_of command.now given → Output words given (as_answer reply)) }
     ensures machine { IfOk result (λ reply. (words : List (List ℕ)) (given : List ℕ) → Says words command.now → bytes.now ≡ input_of command.now given → HandsOut words given (machine_of reply)) }
-    ensures answered { IfOk result (λ reply. IsAnswered reply.status) }
+    ensures answered { IfOk result (λ reply. IsAnswerWritten reply.status) }
 {
     let Some(parts) = parts_of(command, bytes) else {
         let line = line_count(bytes) + 1;
@@ -78,9 +78,9 @@ fn reply_to(alloc: Global, command: &Command, bytes: &[u8]) -> Result<Reply, NoM
 // What a command answers to what was read of its source, up to one byte past the limit.
 fn reply_within(alloc: Global, command: &Command, bytes: &[u8]) -> Result<Reply, NoMemory>
     requires few { HasFew command.now }
-    ensures output { IfOk result (λ reply. (words : List (List ℕ)) (given : List ℕ) → Says words command.now → IsRead bytes.now (input_of command.now given) → Output words given (answer_of reply)) }
-    ensures machine { IfOk result (λ reply. (words : List (List ℕ)) (given : List ℕ) → Says words command.now → IsRead bytes.now (input_of command.now given) → HandsOut words given (machine_of reply)) }
-    ensures answered { IfOk result (λ reply. IsAnswered reply.status) }
+    ensures output { IfOk result (λ reply. (words : List (List ℕ)) (given : List ℕ) → Says words command.now → IsReadToLimit bytes.now (input_of command.now given) → Output words given (as_answer reply)) }
+    ensures machine { IfOk result (λ reply. (words : List (List ℕ)) (given : List ℕ) → Says words command.now → IsReadToLimit bytes.now (input_of command.now given) → HandsOut words given (machine_of reply)) }
+    ensures answered { IfOk result (λ reply. IsAnswerWritten reply.status) }
 {
     if bytes.len() > SOURCE_LIMIT {
         return line_alone(alloc, Status::Limit(LimitNo::L1));
@@ -94,7 +94,7 @@ fn source_for<S: Source>(
     command: &Command,
     source: &mut S,
 ) -> Result<Vec<u8>, ReadStop>
-    ensures read { IfOk result (λ bytes. (given : List ℕ) → (ReadsSource command.now → S.remaining source.old ≡ Some given) → IsRead bytes.items (input_of command.now given)) }
+    ensures read { IfOk result (λ bytes. (given : List ℕ) → (ReadsSource command.now → S.remaining source.old ≡ Some given) → IsReadToLimit bytes.items (input_of command.now given)) }
     ensures left { OnOk result (ReadsSource command.now → IfSome (S.remaining source.old) (λ bytes. S.remaining source.new ≡ Some (drop 262145 bytes))) }
     ensures kept { (ReadsSource command.now → ⊥) → source.new ≡ source.old }
     ensures fault { IfErr result (λ stop. stop ≡ ReadStop.Fault → Rose (S.fault_count source.old) (S.fault_count source.new)) }
@@ -107,11 +107,11 @@ fn source_for<S: Source>(
 
 // What is answered to the words, after the source was read where they are a command that reads it.
 fn respond<S: Source>(alloc: Global, words: &[String], source: &mut S) -> Result<Reply, ReadStop>
-    ensures output { IfOk result (λ reply. (bytes : List ℕ) → Tells (texts_of words.now) (S.remaining source.old) bytes →
-        Output (texts_of words.now) bytes (answer_of reply)) }
-    ensures machine { IfOk result (λ reply. (bytes : List ℕ) → Tells (texts_of words.now) (S.remaining source.old) bytes →
+    ensures output { IfOk result (λ reply. (bytes : List ℕ) → TellsSource (texts_of words.now) (S.remaining source.old) bytes →
+        Output (texts_of words.now) bytes (as_answer reply)) }
+    ensures machine { IfOk result (λ reply. (bytes : List ℕ) → TellsSource (texts_of words.now) (S.remaining source.old) bytes →
         HandsOut (texts_of words.now) bytes (machine_of reply)) }
-    ensures answered { IfOk result (λ reply. IsAnswered reply.status) }
+    ensures answered { IfOk result (λ reply. IsAnswerWritten reply.status) }
     ensures read { OnOk result ((command : Command) → Says (texts_of words.now) command → ReadsSource command → IfSome (S.remaining source.old) (λ bytes. S.remaining source.new ≡ Some (drop 262145 bytes))) }
     ensures kept { ((command : Command) → Says (texts_of words.now) command → ReadsSource command → ⊥) → source.new ≡ source.old }
     ensures fault { IfErr result (λ stop. stop ≡ ReadStop.Fault → Rose (S.fault_count source.old) (S.fault_count source.new)) }
@@ -125,10 +125,10 @@ fn respond<S: Source>(alloc: Global, words: &[String], source: &mut S) -> Result
 
 // Writes a text and says how the call ended.
 fn deliver<K: Sink>(sink: &mut K, text: &[u8], status: Status) -> Status
-    requires { IsAnswered status }
+    requires { IsAnswerWritten status }
     ensures either { (result ≡ status) ⊎ (result ≡ Status.WriteFault) }
     ensures whole { result ≡ status → IfSome (K.contents sink.old) (λ taken. K.contents sink.new ≡ Some (taken ++ text.now)) }
-    ensures part { result ≡ Status.WriteFault → IfSome (K.contents sink.old) (λ taken. IsPartOf taken text.now (K.contents sink.new)) }
+    ensures part { result ≡ Status.WriteFault → IfSome (K.contents sink.old) (λ taken. AddsFrontOf taken text.now (K.contents sink.new)) }
     ensures fault { result ≡ Status.WriteFault → Rose (K.fault_count sink.old) (K.fault_count sink.new) }
 {
     if write_text(sink, text) {
@@ -149,10 +149,10 @@ pub fn run_cxxabi<S: Source, K: Sink>(
     last: &mut Option<Machine<PageMemory>>,
 ) -> Status
     // The text and the status are those of the words and of the source's bytes.
-    ensures answered { (bytes : List ℕ) → Tells (texts_of words.now) (S.remaining source.old) bytes → IsAnswered result →
-        Answers (texts_of words.now) bytes (K.contents sink.old) (K.contents sink.new) result }
+    ensures answered { (bytes : List ℕ) → TellsSource (texts_of words.now) (S.remaining source.old) bytes → IsAnswerWritten result →
+        WritesAnswer (texts_of words.now) bytes (K.contents sink.old) (K.contents sink.new) result }
     // Where the sink fails, it has a front of that text.
-    ensures breaks_off { (bytes : List ℕ) → Tells (texts_of words.now) (S.remaining source.old) bytes → result ≡ Status.WriteFault →
+    ensures breaks_off { (bytes : List ℕ) → TellsSource (texts_of words.now) (S.remaining source.old) bytes → result ≡ Status.WriteFault →
         BreaksOff (texts_of words.now) bytes (K.contents sink.old) (K.contents sink.new) }
     // A fault comes only where the count of the object that was handed in rose.
     ensures read_fault { result ≡ Status.ReadFault → Rose (S.fault_count source.old) (S.fault_count source.new) }
@@ -160,8 +160,8 @@ pub fn run_cxxabi<S: Source, K: Sink>(
     // After a fault of the source, or without memory, the sink is as it was.
     ensures silent { IsSilent result → sink.new ≡ sink.old }
     // The machine that is handed out is that of the run: its own turns made the text, and unless that passed the limit it has ended as the run did.
-    ensures last { (bytes : List ℕ) → Tells (texts_of words.now) (S.remaining source.old) bytes → (IsSilent result → ⊥) →
-        HandsOut (texts_of words.now) bytes (option_map (λ m. seen_of m) last.new) }
+    ensures last { (bytes : List ℕ) → TellsSource (texts_of words.now) (S.remaining source.old) bytes → (IsSilent result → ⊥) →
+        HandsOut (texts_of words.now) bytes (option_map (λ m. seen_machine m) last.new) }
     ensures no_machine { IsSilent result → last.new ≡ None }
     // The source was read to its end, or to one byte past the limit; where the words are no command that reads it, it is as it was.
     ensures read { (command : Command) → Says (texts_of words.now) command → ReadsSource command → (IsSilent result → ⊥) → IfSome (S.remaining source.old) (λ bytes. S.remaining source.new ≡ Some (drop 262145 bytes)) }

@@ -4,14 +4,14 @@ ghost use Rattle.std.specs.Prelude.{◌≡◌, ◌≤◌, ℕ, List, true, false
 ghost use Rattle.std.specs.Option.{option_map};
 ghost use Rattle.path_model.specs.States.{is_body};
 ghost use Rattle.abi_sound.specs.Places.{places_of};
-ghost use Rattle.abi_tables.specs.Counts.{all_words, most_words};
+ghost use Rattle.abi_tables.specs.Counts.{words_of_all_classes, most_words};
 ghost use Rattle.text_told.specs.declared.ending.End.{End};
 ghost use Rattle.cxxabi_words.specs.Commands.{most_steps};
 ghost use Rattle.cxxabi_cmd.specs.Commands.{SumsUp};
 ghost use Rattle.cxxabi_cmd.specs.Output.{IsRunAnswer, Yields, ended_answer, status_of, summary_answer};
-ghost use Rattle.cxxabi_cmd.specs.Handed.{IsMachineOf, seen_of};
+ghost use Rattle.cxxabi_cmd.specs.Handed.{IsMachineOf, seen_machine};
 ghost use Rattle.cxxabi_cmd.specs.invariants.Listings.{IsReady};
-ghost use Rattle.cxxabi_cmd.specs.invariants.Replies.{answer_of, machine_of, HandsBy};
+ghost use Rattle.cxxabi_cmd.specs.invariants.Replies.{as_answer, machine_of, HandsBy};
 
 use crate::reply::{Reply, line_alone};
 use crate::status::{Status, last_line_of, number_of};
@@ -51,8 +51,8 @@ fn ended(
     steps: u32,
     machine: Option<Machine<PageMemory>>,
 ) -> Result<Reply, NoMemory>
-    ensures answer { IfOk result (λ reply. answer_of reply ≡ ended_answer text end steps) }
-    ensures machine { IfOk result (λ reply. machine_of reply ≡ option_map (λ m. seen_of m) machine) }
+    ensures answer { IfOk result (λ reply. as_answer reply ≡ ended_answer text end steps) }
+    ensures machine { IfOk result (λ reply. machine_of reply ≡ option_map (λ m. seen_machine m) machine) }
 {
     let status = status_of(end);
     let mut text = text.into_vec();
@@ -72,8 +72,8 @@ fn summed_up(
     steps: u32,
     machine: Option<Machine<PageMemory>>,
 ) -> Result<Reply, NoMemory>
-    ensures answer { IfOk result (λ reply. answer_of reply ≡ summary_answer h.now steps text.now) }
-    ensures machine { IfOk result (λ reply. machine_of reply ≡ option_map (λ m. seen_of m) machine) }
+    ensures answer { IfOk result (λ reply. as_answer reply ≡ summary_answer h.now steps text.now) }
+    ensures machine { IfOk result (λ reply. machine_of reply ≡ option_map (λ m. seen_machine m) machine) }
 {
     let text = summary(alloc, h.len(), steps, count_lines(text), last_line(text))?;
     Ok(Reply {
@@ -93,10 +93,10 @@ pub(crate) fn run_by_bytes<L: SoundLayout>(
 ) -> Result<Reply, NoMemory>
     requires ready { IsReady accepted.now }
     requires layout { L.lays_out layout.now accepted.now.hierarchy }
-    requires words { all_words accepted.now.hierarchy (places_of accepted.now.hierarchy (L.rows layout.now)) ≤ most_words }
+    requires words { words_of_all_classes accepted.now.hierarchy (places_of accepted.now.hierarchy (L.rows layout.now)) ≤ most_words }
     requires main { is_body accepted.now.program.main ≡ true }
     requires few { steps ≤ most_steps }
-    ensures answer { IfOk result (λ reply. (command : Command) → ((end_is : End) → SumsUp command end_is → ⊥) → IsRunAnswer command accepted.now.hierarchy (L.rows layout.now) accepted.now.program trace steps (answer_of reply)) }
+    ensures answer { IfOk result (λ reply. (command : Command) → ((end_is : End) → SumsUp command end_is → ⊥) → IsRunAnswer command accepted.now.hierarchy (L.rows layout.now) accepted.now.program trace steps (as_answer reply)) }
     ensures machine { IfOk result (λ reply. MatchOption (machine_of reply) ⊥ (IsMachineOf accepted.now.hierarchy (L.rows layout.now) accepted.now.program trace steps)) }
 {
     let execution = execute(
@@ -122,7 +122,7 @@ pub(crate) fn run_by_bytes<L: SoundLayout>(
 fn generated_by_bytes(alloc: Global, accepted: &Accepted) -> Result<Reply, NoMemory>
     requires ready { IsReady accepted.now }
     requires main { is_body accepted.now.program.main ≡ true }
-    ensures answer { IfOk result (λ reply. (n : ℕ) → IsRunAnswer (Command.Gen n) accepted.now.hierarchy accepted.now.layout accepted.now.program false most_steps (answer_of reply)) }
+    ensures answer { IfOk result (λ reply. (n : ℕ) → IsRunAnswer (Command.Gen n) accepted.now.hierarchy accepted.now.layout accepted.now.program false most_steps (as_answer reply)) }
     ensures machine { IfOk result (λ reply. MatchOption (machine_of reply) ⊥ (IsMachineOf accepted.now.hierarchy accepted.now.layout accepted.now.program false most_steps)) }
 {
     let execution = execute(
@@ -160,7 +160,7 @@ fn run_by_paths(alloc: Global, steps: u32, accepted: &Accepted) -> Result<Reply,
     requires ready { IsReady accepted.now }
     requires main { is_body accepted.now.program.main ≡ true }
     requires few { steps ≤ most_steps }
-    ensures answer { IfOk result (λ reply. IsRunAnswer (Command.Paths steps) accepted.now.hierarchy accepted.now.layout accepted.now.program false steps (answer_of reply)) }
+    ensures answer { IfOk result (λ reply. IsRunAnswer (Command.Paths steps) accepted.now.hierarchy accepted.now.layout accepted.now.program false steps (as_answer reply)) }
     ensures machine { IfOk result (λ reply. machine_of reply ≡ None) }
 {
     let PathRun { text, end } = run_paths(
@@ -186,7 +186,7 @@ pub(crate) fn run_on_bytes(
 ) -> Result<Reply, NoMemory>
     requires ready { IsReady accepted.now }
     requires few { steps ≤ most_steps }
-    ensures yields { IfOk result (λ reply. (front : List ℕ) → Yields front size accepted.now.source accepted.now.hierarchy accepted.now.program (Command.Run steps trace) (answer_of reply)) }
+    ensures yields { IfOk result (λ reply. (front : List ℕ) → Yields front size accepted.now.source accepted.now.hierarchy accepted.now.program (Command.Run steps trace) (as_answer reply)) }
     ensures machine { IfOk result (λ reply. (front : List ℕ) → HandsBy (Command.Run steps trace) front accepted.now.source accepted.now.hierarchy accepted.now.program (machine_of reply)) }
 {
     if accepted.source.main.is_none() {
@@ -202,7 +202,7 @@ pub(crate) fn run_generated(
     accepted: &Accepted,
 ) -> Result<Reply, NoMemory>
     requires ready { IsReady accepted.now }
-    ensures yields { IfOk result (λ reply. (n : ℕ) (front : List ℕ) → Yields front size accepted.now.source accepted.now.hierarchy accepted.now.program (Command.Gen n) (answer_of reply)) }
+    ensures yields { IfOk result (λ reply. (n : ℕ) (front : List ℕ) → Yields front size accepted.now.source accepted.now.hierarchy accepted.now.program (Command.Gen n) (as_answer reply)) }
     ensures machine { IfOk result (λ reply. (n : ℕ) (front : List ℕ) → HandsBy (Command.Gen n) front accepted.now.source accepted.now.hierarchy accepted.now.program (machine_of reply)) }
 {
     if accepted.source.main.is_none() {
@@ -220,7 +220,7 @@ pub(crate) fn run_on_paths(
 ) -> Result<Reply, NoMemory>
     requires ready { IsReady accepted.now }
     requires few { steps ≤ most_steps }
-    ensures yields { IfOk result (λ reply. (front : List ℕ) → Yields front size accepted.now.source accepted.now.hierarchy accepted.now.program (Command.Paths steps) (answer_of reply)) }
+    ensures yields { IfOk result (λ reply. (front : List ℕ) → Yields front size accepted.now.source accepted.now.hierarchy accepted.now.program (Command.Paths steps) (as_answer reply)) }
     ensures machine { IfOk result (λ reply. machine_of reply ≡ None) }
 {
     if accepted.source.main.is_none() {

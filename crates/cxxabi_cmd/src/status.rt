@@ -3,7 +3,7 @@
 ghost use Rattle.std.specs.Prelude.{◌≡◌, ◌++◌, ◌∷◌, [], IfOk, codes, string_bytes};
 ghost use Rattle.std.specs.Fmt.{decimal};
 ghost use Rattle.path_rules.specs.Rules.{undefined_no};
-ghost use Rattle.cxxabi_cmd.specs.Statuses.{code_of, input_no, last_line, line_part, name_of_input, name_of_rule, name_of_undefined};
+ghost use Rattle.cxxabi_cmd.specs.Statuses.{exit_status, input_no, status_line, line_part, name_of_input, name_of_rule, name_of_undefined};
 
 use cxx_hierarchy::{LimitNo, Rule};
 use foundation::NoMemory;
@@ -74,11 +74,11 @@ pub enum Status {
 
 impl Status {
     ghost use Rattle.std.specs.Prelude.{◌≡◌};
-    ghost use Rattle.cxxabi_cmd.specs.Statuses.{code_of};
+    ghost use Rattle.cxxabi_cmd.specs.Statuses.{exit_status};
 
     /// The exit status of the process.
     pub fn code(&self) -> u8
-        ensures { result ≡ code_of self.now }
+        ensures { result ≡ exit_status self.now }
     {
         match self {
             Status::Done => 0,
@@ -260,7 +260,7 @@ fn input_line(alloc: Global, rule: InputRule, line: u32) -> Result<String, Alloc
 
 // The line that ends an answer of this status, or nothing; `steps` is the budget of the run.
 pub(crate) fn last_line_of(alloc: Global, status: Status, steps: u32) -> Result<String, AllocError>
-    ensures { IfOk result (λ line. string_bytes line ≡ last_line status steps) }
+    ensures { IfOk result (λ line. string_bytes line ≡ status_line status steps) }
 {
     match status {
         Status::Refused(rule, at) => {

@@ -8,7 +8,7 @@ ghost use Rattle.abi_slots.specs.Slots.{AreSlots};
 ghost use Rattle.abi_layout.specs.AbiLayouts.{IsAbiLayout};
 ghost use Rattle.cxxabi_cmd.specs.invariants.Listings.{IsReady};
 ghost use Rattle.cxxabi_cmd.specs.Output.{source_limit};
-ghost use Rattle.cxxabi_cmd.specs.Verdict.{Verdict, Stops, Accepts, IsFirstFault, HasNoFault, HasManyWords, HasFewWords};
+ghost use Rattle.cxxabi_cmd.specs.Verdict.{Verdict, Stops, Accepts, StopsFirst, MeetsNoFault, HasManyWords, HasFewWords};
 
 use abi_layout::{AbiLayout, lay_out, lay_out_first};
 use abi_slots::Slots;
@@ -39,7 +39,7 @@ pub struct Accepted {
 fn first_refusal(alloc: Global, h: &Hierarchy, refused: ClassStop) -> Stop
     requires stops { StopsIn h.now refused.class refused.stop }
     requires refuses { refused.stop ≡ Stop.NoMemory → ⊥ }
-    ensures { (result ≡ Stop.NoMemory) ⊎ IsFirstFault h.now result }
+    ensures { (result ≡ Stop.NoMemory) ⊎ StopsFirst h.now result }
 {
     h.keeps();
     match lay_out_first(alloc, h, refused.class.0) {
@@ -52,7 +52,7 @@ fn first_refusal(alloc: Global, h: &Hierarchy, refused: ClassStop) -> Stop
 // The first fault of classes whose meanings are not passed, or want of memory.
 fn first_stop(alloc: Global, h: &Hierarchy, refused: ClassStop) -> Stop
     requires { StopsIn h.now refused.class refused.stop }
-    ensures { (result ≡ Stop.NoMemory) ⊎ IsFirstFault h.now result }
+    ensures { (result ≡ Stop.NoMemory) ⊎ StopsFirst h.now result }
 {
     match refused.stop {
         Stop::NoMemory => Stop::NoMemory,
@@ -62,10 +62,10 @@ fn first_stop(alloc: Global, h: &Hierarchy, refused: ClassStop) -> Stop
 
 // Makes the pass over the classes: their meanings and their layout.
 fn check_classes(alloc: Global, h: &Hierarchy) -> Result<(Overriders, AbiLayout), Stop>
-    ensures none { OnOk result (HasNoFault h.now) }
+    ensures none { OnOk result (MeetsNoFault h.now) }
     ensures overriders { IfOk result (λ passed. AreOverriders h.now passed.0) }
     ensures layout { IfOk result (λ passed. IsAbiLayout h.now passed.1) }
-    ensures err { IfErr result (λ stop. (stop ≡ Stop.NoMemory) ⊎ IsFirstFault h.now stop) }
+    ensures err { IfErr result (λ stop. (stop ≡ Stop.NoMemory) ⊎ StopsFirst h.now stop) }
 {
     h.keeps();
     match check_by_class(alloc, h) {

@@ -4,7 +4,7 @@ use Rattle.std.specs.Prelude.{IfSome}
 use Rattle.std.proofs.Math.Seq.{take-append_seam, drop-append_seam}
 use Rattle.std.proofs.Math.ListN.{drop_of_length-le}
 use Rattle.std.proofs.lemmas.List.{append-nil}
-use Rattle.cxxabi_streams.specs.Streams.{Reads, IsPartOf}
+use Rattle.cxxabi_streams.specs.Streams.{Reads, AddsFrontOf}
 
 -- the bytes are those read so far and those that are left
 pub record SoFar (bytes text : List ℕ) (after : Option (List ℕ)) : Type 0 where
@@ -53,7 +53,7 @@ pub record IsGiven (bytes text rest : List ℕ) (after : Option (List ℕ)) : Ty
   pub all : text ≡ front ++ rest
 
 -- a failed write leaves what was given so far
-pub part_given : (told : Option (List ℕ)) (text rest : List ℕ) (before after : Option (List ℕ)) → IfSome told (λ bytes. IsGiven bytes text rest before) → after ≡ before → IfSome told (λ bytes. IsPartOf bytes text after)
+pub part_given : (told : Option (List ℕ)) (text rest : List ℕ) (before after : Option (List ℕ)) → IfSome told (λ bytes. IsGiven bytes text rest before) → after ≡ before → IfSome told (λ bytes. AddsFrontOf bytes text after)
 part_given None text rest before after given kept = given
 part_given (Some bytes) text rest before after given kept =
     record { count = length given.front; taken = kept ∙ given.taken ∙ ap (λ f. Some (bytes ++ f)) (rw given.all (sym (take-append_seam given.front rest))) }

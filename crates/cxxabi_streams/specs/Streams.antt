@@ -22,6 +22,6 @@ Writes None after n piece = Unit {0}
 Writes (Some bytes) after n piece = after ≡ Some (bytes ++ take n piece)
 
 -- after is these bytes and then a front of the text
-pub record IsPartOf (bytes text : List ℕ) (after : Option (List ℕ)) : Type 0 where
+pub record AddsFrontOf (bytes text : List ℕ) (after : Option (List ℕ)) : Type 0 where
   pub count : ℕ
   pub taken : after ≡ Some (bytes ++ take count text)

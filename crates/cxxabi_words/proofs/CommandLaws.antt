@@ -4,7 +4,7 @@ use Rattle.std.specs.Prelude.{unwrap_or}
 use Rattle.clap.specs.Words.{Kinds, Text, fault_of}
 use Rattle.cxxabi_words.specs.declared.command.Command.{Command}
 use Rattle.cxxabi_words.specs.Commands as commands
-use Rattle.cxxabi_words.specs.Commands.{Given, IsForm, IsBudget, Says, IsCommand, given, simple_command, budget, most_steps, most_classes}
+use Rattle.cxxabi_words.specs.Commands.{Given, IsForm, IsBudget, Says, IsCommand, given, simple_command, budget, most_steps, most_asked_classes}
 use Rattle.cxxabi_words.specs.invariants.Asked.{asked}
 use Rattle.cxxabi_words.specs.invariants.Few.{HasFew}
 use Rattle.cxxabi_words.proofs.Forms.{asked_sound, asked_complete}

@@ -10,7 +10,7 @@ use Rattle.std.proofs.lemmas.Str.Parse.{IsDigitsTest, IsNumeralModel, numerals_b
 use Rattle.clap.specs.Words.{Text}
 use Rattle.foundation.proofs.Truth.{is_false, not_both, split}
 use Rattle.cxxabi_words.specs.Commands.{IsCount, IsBudget, budget, most_steps}
-use Rattle.cxxabi_words.specs.invariants.Asked.{is_count, counted, budgeted}
+use Rattle.cxxabi_words.specs.invariants.Asked.{is_count, count_in_digits, budgeted}
 
 digits_test : IsDigitsTest (λ ds. list_all is_ascii_digit ds ≡ true)
 digits_test = search rules
@@ -38,8 +38,8 @@ passed places most digits h =
     }
 
 -- what the function gives is what the digits say
-pub counted_sound : (places most : ℕ) (digits : Text) (n : ℕ) → counted places most digits ≡ Some n → IsCount places most digits n
-unfolding counted
+pub counted_sound : (places most : ℕ) (digits : Text) (n : ℕ) → count_in_digits places most digits ≡ Some n → IsCount places most digits n
+unfolding count_in_digits
 counted_sound places most digits n =
     split (is_count places most digits) (λ b. (if b then Some (digits_value 10 digits) else None) ≡ Some n → IsCount places most digits n)
     (λ is same. let one : digits_value 10 digits ≡ n = cc in subst (λ k. IsCount places most digits k) one (passed places most digits is))
@@ -57,8 +57,8 @@ passes places most digits n is =
     rw (short, all, low, high) refl
 
 -- what the digits say is what the function gives
-pub counted_complete : (places most : ℕ) (digits : Text) (n : ℕ) → IsCount places most digits n → counted places most digits ≡ Some n
-unfolding counted
+pub counted_complete : (places most : ℕ) (digits : Text) (n : ℕ) → IsCount places most digits n → count_in_digits places most digits ≡ Some n
+unfolding count_in_digits
 counted_complete places most digits n is = rw (passes places most digits n is) (ap Some (sym is.value))
 
 pub budgeted_sound : (steps : Option Text) (n : ℕ) → budgeted steps ≡ Some n → IsBudget steps n
@@ -70,32 +70,32 @@ budgeted_complete None n is = ap Some (sym is)
 budgeted_complete (Some digits) n is = counted_complete 7 most_steps digits n is
 
 -- digits that are no number from one to the most
-pub not_counted : (places most : ℕ) (digits : Text) → (IsCount places most digits (digits_value 10 digits) → ⊥) → None ≡ counted places most digits
-unfolding counted
+pub not_counted : (places most : ℕ) (digits : Text) → (IsCount places most digits (digits_value 10 digits) → ⊥) → None ≡ count_in_digits places most digits
+unfolding count_in_digits
 not_counted places most digits none = let off = is_false (is_count places most digits) (λ on. none (passed places most digits on)) in rw off refl
 
 -- a word that is too long, or that has another byte than a digit
-pub too_long : (places most : ℕ) (digits : Text) → places < length digits → None ≡ counted places most digits
+pub too_long : (places most : ℕ) (digits : Text) → places < length digits → None ≡ count_in_digits places most digits
 too_long places most digits long = not_counted places most digits (λ is. let short = is.short in omega arith)
 
-pub no_digits : (places most : ℕ) (digits : Text) → list_all is_ascii_digit digits ≡ false → None ≡ counted places most digits
+pub no_digits : (places most : ℕ) (digits : Text) → list_all is_ascii_digit digits ≡ false → None ≡ count_in_digits places most digits
 no_digits places most digits off = not_counted places most digits (λ is. not_both (digits_by_test.from digits is.numeral.1) off)
 
 module _ (places most : ℕ) (digits : Text) (all : list_all is_ascii_digit digits ≡ true) where
   -- the number that is read of digits
-  pub number_read : (n : ℕ) → ParsesUnsigned {E = ParseIntError} 32 10 digits (Ok n) → length digits ≤ places → 1 ≤ n → n ≤ most → Some n ≡ counted places most digits
+  pub number_read : (n : ℕ) → ParsesUnsigned {E = ParseIntError} 32 10 digits (Ok n) → length digits ≤ places → 1 ≤ n → n ≤ most → Some n ≡ count_in_digits places most digits
   number_read n read short least within =
       let is = parse_digits digits_by_test {E = ParseIntError} 32 digits (Ok n) read all in
       sym (counted_complete places most digits n (record { numeral = (is.0.0, digits_by_test.to digits all); short = short; value = is.1; least = least; within = within }))
 
   -- the number is none from one to the most
-  pub number_off : (n : ℕ) → ParsesUnsigned {E = ParseIntError} 32 10 digits (Ok n) → (1 ≤ n → n ≤ most → ⊥) → None ≡ counted places most digits
+  pub number_off : (n : ℕ) → ParsesUnsigned {E = ParseIntError} 32 10 digits (Ok n) → (1 ≤ n → n ≤ most → ⊥) → None ≡ count_in_digits places most digits
   number_off n read off =
       let same = (parse_digits digits_by_test {E = ParseIntError} 32 digits (Ok n) read all).1 in
       not_counted places most digits (λ is. let least = is.least in let within = is.within in off (omega arith) (omega arith))
 
   -- no number is read, since it is too large
-  pub no_number : (e : ParseIntError) → ParsesUnsigned {E = ParseIntError} 32 10 digits (Err e) → most < 2 ^ 32 → None ≡ counted places most digits
+  pub no_number : (e : ParseIntError) → ParsesUnsigned {E = ParseIntError} 32 10 digits (Err e) → most < 2 ^ 32 → None ≡ count_in_digits places most digits
   no_number e read few =
       let none = parse_digits digits_by_test {E = ParseIntError} 32 digits (Err e) read all in
       not_counted places most digits (λ is. let within = is.within in none (is.numeral.0, omega arith))

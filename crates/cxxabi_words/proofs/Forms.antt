@@ -10,8 +10,8 @@ use Rattle.foundation.proofs.Truth.{is_false, split}
 use Rattle.cxxabi_words.specs.declared.command.Command.{Command}
 use Rattle.cxxabi_words.specs.declared.command.Command.TheVariants.{Check, Layout, LayoutOf, Tables, TablesOf, Run, Paths, Gen, Array, MemberPointer, Inspect, Foreign}
 use Rattle.cxxabi_words.specs.Commands as commands
-use Rattle.cxxabi_words.specs.Commands.{Given, IsForm, IsBudget, IsCount, IsName, word_alone, word_with, most_classes, most_elements}
-use Rattle.cxxabi_words.specs.invariants.Asked.{array_form, array_of, asked, budgeted, check_form, counted, cut_at, cut_scope, foreign_form, form_of, gen_form, inspect_form, is_name, layout_form, member_cut, member_form, member_in, member_of, paths_form, plain_form, run_form, tables_form}
+use Rattle.cxxabi_words.specs.Commands.{Given, IsForm, IsBudget, IsCount, IsNameWord, word_alone, word_with, most_asked_classes, most_asked_elements}
+use Rattle.cxxabi_words.specs.invariants.Asked.{array_form, array_of, asked, budgeted, check_form, count_in_digits, cut_at, cut_scope, foreign_form, command_form, gen_form, inspect_form, is_name_word, layout_form, member_cut, member_form, qualified_member_command, member_pointer_command, paths_form, plain_form, run_form, tables_form}
 use Rattle.cxxabi_words.proofs.Counts.{budgeted_sound, budgeted_complete, counted_sound, counted_complete}
 use Rattle.cxxabi_words.proofs.NameCuts.{Lacks, cut_nowhere, cut_sound, cut_whole, name_complete, name_lacks, name_sound, scope_lacks, scope_sound, scope_whole}
 
@@ -53,15 +53,15 @@ made (Some n) f c same = (n, refl, cc)
 gen_sound : (arg : Option Text) (c : Command) → gen_form arg ≡ Some c → IsForm (with_arg (codes "gen") arg) c
 gen_sound None c same = cc
 gen_sound (Some digits) c same =
-    let number = made (counted 4 most_classes digits) Gen c same in
-    subst (λ d. IsForm (word_with (codes "gen") digits) d) number.2 (commands.gen digits number.0 (counted_sound 4 most_classes digits number.0 number.1))
+    let number = made (count_in_digits 4 most_asked_classes digits) Gen c same in
+    subst (λ d. IsForm (word_with (codes "gen") digits) d) number.2 (commands.gen digits number.0 (counted_sound 4 most_asked_classes digits number.0 number.1))
 
 array_parts : (class digits : Text) (c : Command) → array_of class digits ≡ Some c → IsForm (word_with (codes "array") (class ++ (codes "@" ++ digits))) c
 array_parts class digits c =
-    split (is_name class) (λ b. (if b then option_map (λ n. Array class n) (counted 4 most_elements digits) else None) ≡ Some c → IsForm (word_with (codes "array") (class ++ (codes "@" ++ digits))) c)
+    split (is_name_word class) (λ b. (if b then option_map (λ n. Array class n) (count_in_digits 4 most_asked_elements digits) else None) ≡ Some c → IsForm (word_with (codes "array") (class ++ (codes "@" ++ digits))) c)
     (λ is same.
-    let number = made (counted 4 most_elements digits) (λ n. Array class n) c same in
-    subst (λ d. IsForm (word_with (codes "array") (class ++ (codes "@" ++ digits))) d) number.2 (commands.array class digits number.0 (name_sound class is) (counted_sound 4 most_elements digits number.0 number.1)))
+    let number = made (count_in_digits 4 most_asked_elements digits) (λ n. Array class n) c same in
+    subst (λ d. IsForm (word_with (codes "array") (class ++ (codes "@" ++ digits))) d) number.2 (commands.array class digits number.0 (name_sound class is) (counted_sound 4 most_asked_elements digits number.0 number.1)))
     (λ other same. cc)
 
 array_sound : (arg : Option Text) (c : Command) → array_form arg ≡ Some c → IsForm (with_arg (codes "array") arg) c
@@ -72,32 +72,32 @@ array_sound (Some arg) c same = by_cut (cut_at 64 arg) refl same
     by_cut None is none = cc
     by_cut (Some p) is same = subst (λ (a : Text). IsForm (word_with (codes "array") a) c) (sym (cut_sound 64 arg p is)) (array_parts p.0 p.1 c same)
 
-array_complete : (class digits : Text) (n : ℕ) → IsName class → IsCount 4 most_elements digits n → array_form (Some (class ++ (codes "@" ++ digits))) ≡ Some (Array class n)
+array_complete : (class digits : Text) (n : ℕ) → IsNameWord class → IsCount 4 most_asked_elements digits n → array_form (Some (class ++ (codes "@" ++ digits))) ≡ Some (Array class n)
 array_complete class digits n name is =
     ap (option_and_then (λ (p : Text × Text). array_of p.0 p.1)) (cut_whole 64 class digits (name_lacks 64 class refl name))
-    ∙ rw (name_complete class name, counted_complete 4 most_elements digits n is) refl
+    ∙ rw (name_complete class name, counted_complete 4 most_asked_elements digits n is) refl
 
 -- the three names of a member pointer
 record AreNames (class member whole : Text) (c : Command) : Type 0 where
-  class_is : IsName class
-  member_is : IsName member
-  whole_is : IsName whole
+  class_is : IsNameWord class
+  member_is : IsNameWord member
+  whole_is : IsNameWord whole
   same : MemberPointer (record { class = class; member = member; whole = whole }) ≡ c
 
-names_sound : (class member whole : Text) (c : Command) → member_of class member whole ≡ Some c → AreNames class member whole c
+names_sound : (class member whole : Text) (c : Command) → member_pointer_command class member whole ≡ Some c → AreNames class member whole c
 names_sound class member whole c =
-    split (is_name class && (is_name member && is_name whole))
+    split (is_name_word class && (is_name_word member && is_name_word whole))
     (λ b. (if b then Some (MemberPointer (record { class = class; member = member; whole = whole })) else None) ≡ Some c → AreNames class member whole c)
     (λ is same.
-    let first = and_parts (is_name class) _ is in
-    let rest = and_parts (is_name member) (is_name whole) first.1 in
+    let first = and_parts (is_name_word class) _ is in
+    let rest = and_parts (is_name_word member) (is_name_word whole) first.1 in
     record { class_is = name_sound class first.0; member_is = name_sound member rest.0; whole_is = name_sound whole rest.1; same = cc })
     (λ other same. cc)
 
-member_own : (name : Text) (c : Command) → member_in name None ≡ Some c → IsForm (word_with (codes "memptr") name) c
+member_own : (name : Text) (c : Command) → qualified_member_command name None ≡ Some c → IsForm (word_with (codes "memptr") name) c
 member_own name c = by_cut (cut_scope name) refl
   where
-    by_cut : (found : Option (Text × Text)) → cut_scope name ≡ found → option_and_then (λ (p : Text × Text). member_of p.0 p.1 (unwrap_or None p.0)) found ≡ Some c → IsForm (word_with (codes "memptr") name) c
+    by_cut : (found : Option (Text × Text)) → cut_scope name ≡ found → option_and_then (λ (p : Text × Text). member_pointer_command p.0 p.1 (unwrap_or None p.0)) found ≡ Some c → IsForm (word_with (codes "memptr") name) c
     by_cut None is none = cc
     by_cut (Some p) is same =
         let names = names_sound p.0 p.1 p.0 c same in
@@ -107,10 +107,10 @@ member_own name c = by_cut (cut_scope name) refl
 regrouped : (class member whole : Text) → (class ++ 58 ∷ 58 ∷ member) ++ 64 ∷ whole ≡ class ++ (codes "::" ++ (member ++ (codes "@" ++ whole)))
 regrouped class member whole = append_assoc class (58 ∷ 58 ∷ member) (64 ∷ whole)
 
-member_for : (name whole : Text) (c : Command) → member_in name (Some whole) ≡ Some c → IsForm (word_with (codes "memptr") (name ++ 64 ∷ whole)) c
+member_for : (name whole : Text) (c : Command) → qualified_member_command name (Some whole) ≡ Some c → IsForm (word_with (codes "memptr") (name ++ 64 ∷ whole)) c
 member_for name whole c = by_cut (cut_scope name) refl
   where
-    by_cut : (found : Option (Text × Text)) → cut_scope name ≡ found → option_and_then (λ (p : Text × Text). member_of p.0 p.1 (unwrap_or (Some whole) p.0)) found ≡ Some c → IsForm (word_with (codes "memptr") (name ++ 64 ∷ whole)) c
+    by_cut : (found : Option (Text × Text)) → cut_scope name ≡ found → option_and_then (λ (p : Text × Text). member_pointer_command p.0 p.1 (unwrap_or (Some whole) p.0)) found ≡ Some c → IsForm (word_with (codes "memptr") (name ++ 64 ∷ whole)) c
     by_cut None is none = cc
     by_cut (Some p) is same =
         let names = names_sound p.0 p.1 whole c same in
@@ -127,20 +127,20 @@ member_sound (Some arg) c same = by_cut (cut_at 64 arg) refl same
     by_cut None is same = member_own arg c same
     by_cut (Some p) is same = subst (λ (a : Text). IsForm (word_with (codes "memptr") a) c) (sym (cut_sound 64 arg p is)) (member_for p.0 p.1 c same)
 
-names_complete : (class member whole : Text) → IsName class → IsName member → IsName whole → member_of class member whole ≡ Some (MemberPointer (record { class = class; member = member; whole = whole }))
+names_complete : (class member whole : Text) → IsNameWord class → IsNameWord member → IsNameWord whole → member_pointer_command class member whole ≡ Some (MemberPointer (record { class = class; member = member; whole = whole }))
 names_complete class member whole one two three = rw (name_complete class one, name_complete member two, name_complete whole three) refl
 
-in_complete : (class member : Text) (whole : Option Text) → IsName class → IsName member → IsName (unwrap_or whole class) →
-    member_in (class ++ 58 ∷ 58 ∷ member) whole ≡ Some (MemberPointer (record { class = class; member = member; whole = unwrap_or whole class }))
+in_complete : (class member : Text) (whole : Option Text) → IsNameWord class → IsNameWord member → IsNameWord (unwrap_or whole class) →
+    qualified_member_command (class ++ 58 ∷ 58 ∷ member) whole ≡ Some (MemberPointer (record { class = class; member = member; whole = unwrap_or whole class }))
 in_complete class member whole one two three =
-    ap (option_and_then (λ (p : Text × Text). member_of p.0 p.1 (unwrap_or whole p.0))) (scope_whole class member (name_lacks 58 class refl one))
+    ap (option_and_then (λ (p : Text × Text). member_pointer_command p.0 p.1 (unwrap_or whole p.0))) (scope_whole class member (name_lacks 58 class refl one))
     ∙ names_complete class member (unwrap_or whole class) one two three
 
-own_complete : (class member : Text) → IsName class → IsName member → member_form (Some (class ++ (codes "::" ++ member))) ≡ Some (MemberPointer (record { class = class; member = member; whole = class }))
+own_complete : (class member : Text) → IsNameWord class → IsNameWord member → member_form (Some (class ++ (codes "::" ++ member))) ≡ Some (MemberPointer (record { class = class; member = member; whole = class }))
 own_complete class member one two =
     ap (member_cut (class ++ 58 ∷ 58 ∷ member)) (cut_nowhere 64 (class ++ 58 ∷ 58 ∷ member) (scope_lacks class member one two)) ∙ in_complete class member None one two one
 
-for_complete : (class member whole : Text) → IsName class → IsName member → IsName whole →
+for_complete : (class member whole : Text) → IsNameWord class → IsNameWord member → IsNameWord whole →
     member_form (Some (class ++ (codes "::" ++ (member ++ (codes "@" ++ whole))))) ≡ Some (MemberPointer (record { class = class; member = member; whole = whole }))
 for_complete class member whole one two three =
     ap (λ (t : Text). member_form (Some t)) (sym (regrouped class member whole))
@@ -187,7 +187,7 @@ without_option word arg None false c same = plain_sound word arg c same
 without_option word arg None true c same = cc
 without_option word arg (Some digits) trace c same = cc
 
-form_sound : (word : Text) (arg steps : Option Text) (trace : Bool) (c : Command) → form_of word arg steps trace ≡ Some c → IsForm (with_all word arg steps trace) c
+form_sound : (word : Text) (arg steps : Option Text) (trace : Bool) (c : Command) → command_form word arg steps trace ≡ Some c → IsForm (with_all word arg steps trace) c
 form_sound word arg steps trace c =
     let P : Text → Type 0 = λ w. IsForm (with_all w arg steps trace) c in
     by_word word (codes "run") (run_form arg steps trace) _ c P (run_sound arg steps trace c)
@@ -198,7 +198,7 @@ form_sound word arg steps trace c =
 pub asked_sound : (g : Given) (c : Command) → asked g ≡ Some c → IsForm g c
 asked_sound g c = at g.command refl
   where
-    at : (word : Option Text) → g.command ≡ word → option_and_then (λ w. form_of w g.arg g.steps g.trace) word ≡ Some c → IsForm (record g { command = word }) c
+    at : (word : Option Text) → g.command ≡ word → option_and_then (λ w. command_form w g.arg g.steps g.trace) word ≡ Some c → IsForm (record g { command = word }) c
     at None is same = cc
     at (Some word) is same = form_sound word g.arg g.steps g.trace c same
 
@@ -211,7 +211,7 @@ asked_complete _ _ commands.tables = refl
 asked_complete _ _ (commands.tables_of class) = refl
 asked_complete _ _ (commands.run steps n trace is) = ap (option_map (λ k. Run k trace)) (budgeted_complete steps n is)
 asked_complete _ _ (commands.paths steps n is) = ap (option_map Paths) (budgeted_complete steps n is)
-asked_complete _ _ (commands.gen digits n is) = ap (option_map Gen) (counted_complete 4 most_classes digits n is)
+asked_complete _ _ (commands.gen digits n is) = ap (option_map Gen) (counted_complete 4 most_asked_classes digits n is)
 asked_complete _ _ (commands.array class digits n name is) = array_complete class digits n name is
 asked_complete _ _ commands.inspect = refl
 asked_complete _ _ (commands.foreign steps n is) = ap (option_map Foreign) (budgeted_complete steps n is)

@@ -10,12 +10,12 @@ use Rattle.cxx_text.specs.declared.token.Kind.{Kind}
 use Rattle.cxx_text.specs.declared.token.Kind.TheVariants.{Word, Number, Sign}
 use Rattle.cxx_text.specs.Bytes.{begins, is_letter, is_word_byte}
 use Rattle.cxx_text.specs.OneToken.{IsToken, word, number, one_byte_sign, two_byte_sign}
-use Rattle.cxxabi_words.specs.Commands.{IsName}
-use Rattle.cxxabi_words.specs.invariants.Asked.{is_name, cut_at, behind, cut_scope}
+use Rattle.cxxabi_words.specs.Commands.{IsNameWord}
+use Rattle.cxxabi_words.specs.invariants.Asked.{is_name_word, cut_at, behind_byte, cut_scope}
 
 -- what passes the test is a name
-pub name_sound : (text : Text) → is_name text ≡ true → IsName text
-unfolding is_name
+pub name_sound : (text : Text) → is_name_word text ≡ true → IsNameWord text
+unfolding is_name_word
 name_sound [] h = absurd (cc)
 name_sound (b ∷ bs) h =
     let first = and_parts (is_letter b) _ h in
@@ -24,33 +24,33 @@ name_sound (b ∷ bs) h =
     word b bs first.0 all.1 (leb-true (length (b ∷ bs)) 255 rest.1)
 
 -- a text that begins as a name, and has the bytes of one, is a name where it is short
-pub name_by_length : (text : Text) → begins is_letter text ≡ true → list_all is_word_byte text ≡ true → nat_le (length text) 255 ≡ is_name text
-unfolding is_name
+pub name_by_length : (text : Text) → begins is_letter text ≡ true → list_all is_word_byte text ≡ true → nat_le (length text) 255 ≡ is_name_word text
+unfolding is_name_word
 name_by_length text first all = rw (first, all) refl
 
-pub no_name_first : (text : Text) → begins is_letter text ≡ false → false ≡ is_name text
-unfolding is_name
+pub no_name_first : (text : Text) → begins is_letter text ≡ false → false ≡ is_name_word text
+unfolding is_name_word
 no_name_first text first = rw first refl
 
-pub no_name_bytes : (text : Text) → begins is_letter text ≡ true → list_all is_word_byte text ≡ false → false ≡ is_name text
-unfolding is_name
+pub no_name_bytes : (text : Text) → begins is_letter text ≡ true → list_all is_word_byte text ≡ false → false ≡ is_name_word text
+unfolding is_name_word
 no_name_bytes text first all = rw (first, all) refl
 
 letter_in_words : (b : ℕ) → is_letter b ≡ true → is_word_byte b ≡ true
 letter_in_words b letter = rw letter refl
 
-word_passes : (b : ℕ) (bs : List ℕ) → is_letter b ≡ true → list_all is_word_byte bs ≡ true → length (b ∷ bs) ≤ 255 → is_name (b ∷ bs) ≡ true
-unfolding is_name
+word_passes : (b : ℕ) (bs : List ℕ) → is_letter b ≡ true → list_all is_word_byte bs ≡ true → length (b ∷ bs) ≤ 255 → is_name_word (b ∷ bs) ≡ true
+unfolding is_name_word
 word_passes b bs letter all short = let low = le-leb (length (b ∷ bs)) 255 short in rw (letter, all, low) refl
 
-passes : (text : Text) (kind : Kind) (value : ℕ) → IsToken text kind value → kind ≡ Word → is_name text ≡ true
+passes : (text : Text) (kind : Kind) (value : ℕ) → IsToken text kind value → kind ≡ Word → is_name_word text ≡ true
 passes _ _ _ (word b bs letter all short) same = word_passes b bs letter all short
 passes _ _ _ (number ds numeral few) same = absurd (cc)
 passes _ _ _ (one_byte_sign a is) same = absurd (cc)
 passes _ _ _ (two_byte_sign a b is) same = absurd (cc)
 
 -- a name passes the test
-pub name_complete : (text : Text) → IsName text → is_name text ≡ true
+pub name_complete : (text : Text) → IsNameWord text → is_name_word text ≡ true
 name_complete text is = passes text Word 0 is refl
 
 -- a text has no byte of this kind
@@ -84,8 +84,8 @@ words_lack c (b ∷ bs) outside all =
     let parts = and_parts (is_word_byte b) (list_all is_word_byte bs) all in
     lacks_more c b bs (no_byte c b parts.0 outside) (words_lack c bs outside parts.1)
 
-pub name_lacks : (c : ℕ) (text : Text) → is_word_byte c ≡ false → IsName text → Lacks c text
-unfolding is_name
+pub name_lacks : (c : ℕ) (text : Text) → is_word_byte c ≡ false → IsNameWord text → Lacks c text
+unfolding is_name_word
 name_lacks c text outside is =
     let first = and_parts (begins is_letter text) _ (name_complete text is) in
     let rest = and_parts (list_all is_word_byte text) (nat_le (length text) 255) first.1 in
@@ -137,7 +137,7 @@ cut_sound c (b ∷ bs) p is =
     subst (λ (q : Text × Text). b ∷ bs ≡ q.0 ++ c ∷ q.1) two (ap (λ n. n ∷ bs) one))
     (λ other cut. further b c bs p (cut_at c bs) (λ q. cut_sound c bs q) cut) is
 
-behind_sound : (c : ℕ) (bs rest : List ℕ) → behind c bs ≡ Some rest → bs ≡ c ∷ rest
+behind_sound : (c : ℕ) (bs rest : List ℕ) → behind_byte c bs ≡ Some rest → bs ≡ c ∷ rest
 behind_sound c [] rest is = absurd (cc)
 behind_sound c (b ∷ bs) rest is =
     split (b == c) (λ t. (if t then Some bs else None) ≡ Some rest → b ∷ bs ≡ c ∷ rest)
@@ -146,25 +146,25 @@ behind_sound c (b ∷ bs) rest is =
 
 -- a qualified name is a class, two colons and a member
 module _ (text : Text) (p : Text × Text) where
-  with_member : (q : Text × Text) (member : Option Text) → cut_at 58 text ≡ Some q → behind 58 q.1 ≡ member → option_map (λ m. (q.0, m)) member ≡ Some p → text ≡ p.0 ++ 58 ∷ 58 ∷ p.1
+  with_member : (q : Text × Text) (member : Option Text) → cut_at 58 text ≡ Some q → behind_byte 58 q.1 ≡ member → option_map (λ m. (q.0, m)) member ≡ Some p → text ≡ p.0 ++ 58 ∷ 58 ∷ p.1
   with_member q None is there same = absurd (cc)
   with_member q (Some m) is there same =
       let two : (q.0, m) ≡ p = cc in
       subst (λ (r : Text × Text). text ≡ r.0 ++ 58 ∷ 58 ∷ r.1) two
       (cut_sound 58 text q is ∙ ap (λ (t : List ℕ). q.0 ++ 58 ∷ t) (behind_sound 58 q.1 m there))
 
-  with_cut : (found : Option (Text × Text)) → cut_at 58 text ≡ found → option_and_then (λ (q : Text × Text). option_map (λ member. (q.0, member)) (behind 58 q.1)) found ≡ Some p → text ≡ p.0 ++ 58 ∷ 58 ∷ p.1
+  with_cut : (found : Option (Text × Text)) → cut_at 58 text ≡ found → option_and_then (λ (q : Text × Text). option_map (λ member. (q.0, member)) (behind_byte 58 q.1)) found ≡ Some p → text ≡ p.0 ++ 58 ∷ 58 ∷ p.1
   with_cut None is same = absurd (cc)
-  with_cut (Some q) is same = with_member q (behind 58 q.1) is refl same
+  with_cut (Some q) is same = with_member q (behind_byte 58 q.1) is refl same
 
 pub scope_sound : (text : Text) (p : Text × Text) → cut_scope text ≡ Some p → text ≡ p.0 ++ 58 ∷ 58 ∷ p.1
 scope_sound text p is = with_cut text p (cut_at 58 text) refl is
 
 pub scope_whole : (class member : Text) → Lacks 58 class → cut_scope (class ++ 58 ∷ 58 ∷ member) ≡ Some (class, member)
-scope_whole class member lacks = ap (option_and_then (λ (p : Text × Text). option_map (λ m. (p.0, m)) (behind 58 p.1))) (cut_whole 58 class (58 ∷ member) lacks)
+scope_whole class member lacks = ap (option_and_then (λ (p : Text × Text). option_map (λ m. (p.0, m)) (behind_byte 58 p.1))) (cut_whole 58 class (58 ∷ member) lacks)
 
 -- a qualified name has no `@`
-pub scope_lacks : (class member : Text) → IsName class → IsName member → Lacks 64 (class ++ 58 ∷ 58 ∷ member)
+pub scope_lacks : (class member : Text) → IsNameWord class → IsNameWord member → Lacks 64 (class ++ 58 ∷ 58 ∷ member)
 scope_lacks class member one two =
     let other : 58 ≢ 64 = λ (same : 58 ≡ 64). omega (arith, same) in
     lacks_append 64 class (58 ∷ 58 ∷ member) (name_lacks 64 class refl one) (lacks_more 64 58 (58 ∷ member) other (lacks_more 64 58 member other (name_lacks 64 member refl two)))

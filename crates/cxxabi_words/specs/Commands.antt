@@ -20,12 +20,12 @@ abbrev pub most_steps : ℕ
 most_steps = 4000000
 
 -- the most classes that the words may ask for
-abbrev pub most_classes : ℕ
-most_classes = 1000
+abbrev pub most_asked_classes : ℕ
+most_asked_classes = 1000
 
 -- the most elements of an array that the words may ask for
-abbrev pub most_elements : ℕ
-most_elements = 4096
+abbrev pub most_asked_elements : ℕ
+most_asked_elements = 4096
 
 -- ---- the simple command
 
@@ -90,8 +90,8 @@ IsBudget None n = n ≡ budget
 IsBudget (Some digits) n = IsCount 7 most_steps digits n
 
 -- a word of the source's grammar: a letter or `_`, and then letters, digits and `_`, 255 bytes at most
-abbrev pub IsName : Text → Type 0
-IsName text = IsToken text Word 0
+abbrev pub IsNameWord : Text → Type 0
+IsNameWord text = IsToken text Word 0
 
 -- a command's word alone
 abbrev pub word_alone : Text → Given
@@ -112,11 +112,11 @@ pub data IsForm : Given → Command → Type 0 where
       IsForm (record { command = Some (codes "run"); arg = None; steps = steps; trace = trace }) (Run n trace)
   paths : (steps : Option Text) (n : ℕ) → IsBudget steps n →
       IsForm (record { command = Some (codes "paths"); arg = None; steps = steps; trace = false }) (Paths n)
-  gen : (digits : Text) (n : ℕ) → IsCount 4 most_classes digits n → IsForm (word_with (codes "gen") digits) (Gen n)
-  array : (class digits : Text) (n : ℕ) → IsName class → IsCount 4 most_elements digits n → IsForm (word_with (codes "array") (class ++ (codes "@" ++ digits))) (Array class n)
-  member : (class member : Text) → IsName class → IsName member →
+  gen : (digits : Text) (n : ℕ) → IsCount 4 most_asked_classes digits n → IsForm (word_with (codes "gen") digits) (Gen n)
+  array : (class digits : Text) (n : ℕ) → IsNameWord class → IsCount 4 most_asked_elements digits n → IsForm (word_with (codes "array") (class ++ (codes "@" ++ digits))) (Array class n)
+  member : (class member : Text) → IsNameWord class → IsNameWord member →
       IsForm (word_with (codes "memptr") (class ++ (codes "::" ++ member))) (MemberPointer (record { class = class; member = member; whole = class }))
-  member_for : (class member whole : Text) → IsName class → IsName member → IsName whole →
+  member_for : (class member whole : Text) → IsNameWord class → IsNameWord member → IsNameWord whole →
       IsForm (word_with (codes "memptr") (class ++ (codes "::" ++ (member ++ (codes "@" ++ whole))))) (MemberPointer (record { class = class; member = member; whole = whole }))
   inspect : IsForm (word_alone (codes "inspect")) Inspect
   foreign : (steps : Option Text) (n : ℕ) → IsBudget steps n →

@@ -2,7 +2,7 @@
 
 ghost use Rattle.std.specs.Prelude.{◌≡◌, IfOk, MatchOption, map, option_map, string_bytes};
 ghost use Rattle.cxxabi_words.specs.Commands.{IsCommand, Says};
-ghost use Rattle.cxxabi_words.specs.invariants.Asked.{array_form, array_of, check_form, foreign_form, form_of, gen_form, inspect_form, layout_form, member_form, member_in, member_of, paths_form, plain_form, run_form, tables_form};
+ghost use Rattle.cxxabi_words.specs.invariants.Asked.{array_form, array_of, check_form, foreign_form, command_form, gen_form, inspect_form, layout_form, member_form, qualified_member_command, member_pointer_command, paths_form, plain_form, run_form, tables_form};
 
 use crate::names::{cut_at, cut_scope, is_name};
 use crate::numbers::{budget_of, count_of};
@@ -142,7 +142,7 @@ fn member_of(
     member: &str,
     whole: &str,
 ) -> Result<Option<Command>, NoMemory>
-    ensures { IfOk result (λ found. found ≡ member_of class.now member.now whole.now) }
+    ensures { IfOk result (λ found. found ≡ member_pointer_command class.now member.now whole.now) }
 {
     if !is_name(class) || !is_name(member) || !is_name(whole) {
         return Ok(None);
@@ -159,7 +159,7 @@ fn member_of(
 
 // The command `memptr` of a qualified name, for a class of its own or for the class of the name.
 fn member_in(alloc: Global, name: &str, whole: Option<&str>) -> Result<Option<Command>, NoMemory>
-    ensures { IfOk result (λ found. found ≡ member_in name.now (option_map (λ s. s.now) whole.entry)) }
+    ensures { IfOk result (λ found. found ≡ qualified_member_command name.now (option_map (λ s. s.now) whole.entry)) }
 {
     let Some((class, member)) = cut_scope(name) else {
         return Ok(None);
@@ -247,7 +247,7 @@ fn form_of(
     steps: Option<&str>,
     trace: bool,
 ) -> Result<Option<Command>, NoMemory>
-    ensures { IfOk result (λ found. found ≡ form_of word.now (option_map (λ s. s.now) arg.entry) (option_map (λ s. s.now) steps.entry) trace) }
+    ensures { IfOk result (λ found. found ≡ command_form word.now (option_map (λ s. s.now) arg.entry) (option_map (λ s. s.now) steps.entry) trace) }
 {
     match word {
         "run" => Ok(run_form(arg, steps, trace)),

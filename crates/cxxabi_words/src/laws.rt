@@ -1,7 +1,7 @@
 //! Laws of words and commands. Each function is a law: its contract holds of all words.
 
 ghost use Rattle.std.specs.Prelude.{◌≡◌, ◌≤◌, ◌⊎◌, ℕ, Bool, List};
-ghost use Rattle.cxxabi_words.specs.Commands.{IsCommand, Says, most_classes, most_elements, most_steps};
+ghost use Rattle.cxxabi_words.specs.Commands.{IsCommand, Says, most_asked_classes, most_asked_elements, most_steps};
 ghost use Rattle.cxxabi_words.specs.declared.command.Command.{Command};
 ghost use Rattle.cxxabi_words.specs.declared.command.Command.TheVariants.{Array, Foreign, Gen, Paths, Run};
 
@@ -20,6 +20,6 @@ pub fn few_said()
     ensures steps { (words : List (List ℕ)) (n : ℕ) (trace : Bool) → Says words (Run n trace) → (1 ≤ n) × (n ≤ most_steps) }
     ensures path_steps { (words : List (List ℕ)) (n : ℕ) → Says words (Paths n) → (1 ≤ n) × (n ≤ most_steps) }
     ensures foreign_steps { (words : List (List ℕ)) (n : ℕ) → Says words (Foreign n) → (1 ≤ n) × (n ≤ most_steps) }
-    ensures classes { (words : List (List ℕ)) (n : ℕ) → Says words (Gen n) → (1 ≤ n) × (n ≤ most_classes) }
-    ensures elements { (words : List (List ℕ)) (class : List ℕ) (n : ℕ) → Says words (Array class n) → (1 ≤ n) × (n ≤ most_elements) }
+    ensures classes { (words : List (List ℕ)) (n : ℕ) → Says words (Gen n) → (1 ≤ n) × (n ≤ most_asked_classes) }
+    ensures elements { (words : List (List ℕ)) (class : List ℕ) (n : ℕ) → Says words (Array class n) → (1 ≤ n) × (n ≤ most_asked_elements) }
 {}

@@ -3,7 +3,7 @@
 ghost use Rattle.std.specs.Prelude.{◌≡◌, option_map};
 ghost use Rattle.std.specs.List.{list_all};
 ghost use Rattle.cxx_text.specs.Bytes.{begins, is_letter, is_word_byte};
-ghost use Rattle.cxxabi_words.specs.invariants.Asked.{cut_at, cut_scope, is_name};
+ghost use Rattle.cxxabi_words.specs.invariants.Asked.{cut_at, cut_scope, is_name_word};
 
 /// The most bytes of a name.
 const NAME_BYTES: usize = 255;
@@ -40,9 +40,9 @@ fn has_word_bytes(word: &str) -> bool
 }
 
 // Whether a word is a name of the source: a letter or `_`, and then letters, digits and `_`, 255 bytes at most.
-#[tactic(auto, unfolding(crate::specs::invariants::Asked::is_name))]
+#[tactic(auto, unfolding(crate::specs::invariants::Asked::is_name_word))]
 pub(crate) fn is_name(word: &str) -> bool
-    ensures { result ≡ is_name word.now }
+    ensures { result ≡ is_name_word word.now }
 {
     if !begins_name(word.as_bytes()) {
         return false;

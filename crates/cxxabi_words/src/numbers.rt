@@ -3,7 +3,7 @@
 ghost use Rattle.std.specs.Prelude.{◌≡◌, option_map};
 ghost use Rattle.std.specs.Char.{is_ascii_digit};
 ghost use Rattle.std.specs.List.{list_all};
-ghost use Rattle.cxxabi_words.specs.invariants.Asked.{budgeted, counted};
+ghost use Rattle.cxxabi_words.specs.invariants.Asked.{budgeted, count_in_digits};
 
 /// The steps that a run may take where the words say none.
 const BUDGET: u32 = 1_000_000;
@@ -23,7 +23,7 @@ fn are_digits(word: &str) -> bool
 
 // The number that at most so many digits say, and None where it is not from one to the most.
 pub(crate) fn count_of(word: &str, places: usize, most: u32) -> Option<u32>
-    ensures { result ≡ counted places most word.now }
+    ensures { result ≡ count_in_digits places most word.now }
 {
     if word.len() > places || !are_digits(word) {
         return None;

@@ -15,20 +15,20 @@ use Rattle.path_bodies.specs.declared.table.PlaceTable.{PlaceTable}
 use Rattle.path_bodies.specs.declared.index.BodyIndex.{BodyIndex}
 
 -- two keys are one
-abbrev pub same_key : MemberKey → MemberKey → Bool
-same_key a b = nat_eq a.class b.class && nat_eq a.index b.index
+abbrev pub same_member_key : MemberKey → MemberKey → Bool
+same_member_key a b = nat_eq a.class b.class && nat_eq a.index b.index
 
 -- the place under a key
-abbrev pub place_of : PlaceTable → MemberKey → Option ℕ
-place_of table q = get_by (same_key q) table.places
+abbrev pub place_by_key : PlaceTable → MemberKey → Option ℕ
+place_by_key table q = get_by (same_member_key q) table.places
 
 -- the place of the first item that passes
 abbrev pub first_place : {X : Type 0} → (X → Bool) → List X → Option ℕ
 first_place test items = position_from test 0 items
 
 -- what a class declares under a number
-abbrev pub key : ClassId → ℕ → MemberKey
-key c index = record { class = c.0; index = index }
+abbrev pub member_key : ClassId → ℕ → MemberKey
+member_key c index = record { class = c.0; index = index }
 
 -- the body is that of the owner
 abbrev pub is_of : Owner → TypedBody → Bool
@@ -41,8 +41,8 @@ sets m init = nat_eq init.member m
 -- the index has the place of the first body of each owner, and of the first initializer of each member in the first
 -- constructor of its class
 pub record IsIndexOf (program : TypedProgram) (index : BodyIndex) : Type 0 where
-  pub functions : (f : FunctionId) → place_of index.functions (key f.class f.index) ≡ first_place (is_of (Function f)) program.bodies
-  pub constructors : (c : ClassId) → place_of index.constructors (key c 0) ≡ first_place (is_of (Constructor c)) program.bodies
-  pub destructors : (c : ClassId) → place_of index.destructors (key c 0) ≡ first_place (is_of (Destructor c)) program.bodies
-  pub inits : (c : ClassId) (m : ℕ) → place_of index.inits (key c m) ≡ first_place (sets m) (inits_in (find (is_of (Constructor c)) program.bodies))
+  pub functions : (f : FunctionId) → place_by_key index.functions (member_key f.class f.index) ≡ first_place (is_of (Function f)) program.bodies
+  pub constructors : (c : ClassId) → place_by_key index.constructors (member_key c 0) ≡ first_place (is_of (Constructor c)) program.bodies
+  pub destructors : (c : ClassId) → place_by_key index.destructors (member_key c 0) ≡ first_place (is_of (Destructor c)) program.bodies
+  pub inits : (c : ClassId) (m : ℕ) → place_by_key index.inits (member_key c m) ≡ first_place (sets m) (inits_in (find (is_of (Constructor c)) program.bodies))
   pub main : index.has_main ≡ is_body program.main

@@ -6,10 +6,10 @@ ghost use Rattle.cxx_program.specs.declared.program.Owner.TheVariants.{Construct
 ghost use Rattle.cxx_program.specs.declared.program.TypedInit.{TypedInit};
 ghost use Rattle.cxx_program.specs.declared.program.TypedBody.{TypedBody};
 ghost use Rattle.cxx_program.specs.declared.program.TypedProgram.{TypedProgram};
-ghost use Rattle.path_model.specs.States.{body_of, is_body, init_of, is_init};
+ghost use Rattle.path_model.specs.States.{owned_body, is_body, member_init, is_init};
 ghost use Rattle.path_bodies.specs.declared.table.MemberKey.{MemberKey};
-ghost use Rattle.path_bodies.specs.Places.{place_of, first_place, key, sets, IsIndexOf};
-ghost use Rattle.path_bodies.specs.invariants.Firsts.{first_or, item_at, IndexesBodies};
+ghost use Rattle.path_bodies.specs.Places.{place_by_key, first_place, member_key, sets, IsIndexOf};
+ghost use Rattle.path_bodies.specs.invariants.Firsts.{first_or, item_at_place, IndexesBodies};
 
 use crate::table::{MemberKey, PlaceTable};
 use cxx_hierarchy::ClassId;
@@ -19,14 +19,14 @@ use std::alloc::Global;
 
 /// The key of what a class declares under a number.
 fn key_of(c: ClassId, index: u32) -> MemberKey
-    ensures { result ≡ key c index }
+    ensures { result ≡ member_key c index }
 {
     MemberKey { class: c.0, index }
 }
 
 /// Puts the initializers of the constructor of a class, each by its member.
 fn put_initializers(table: &mut PlaceTable, c: ClassId, inits: &[TypedInit]) -> Result<(), NoMemory>
-    ensures { OnOk result ((q : MemberKey) → place_of table.new q ≡ first_or (place_of table.old q) (if nat_eq q.class c.0 then first_place (sets q.index) inits.now else None)) }
+    ensures { OnOk result ((q : MemberKey) → place_by_key table.new q ≡ first_or (place_by_key table.old q) (if nat_eq q.class c.0 then first_place (sets q.index) inits.now else None)) }
 {
     for (place, init) in inits.iter().enumerate() {
         table.put_first(key_of(c, init.member), place)?;
@@ -36,7 +36,7 @@ fn put_initializers(table: &mut PlaceTable, c: ClassId, inits: &[TypedInit]) -> 
 
 /// The item at a place that may be there.
 fn item_at<T>(items: &[T], place: Option<usize>) -> Option<&T>
-    ensures { option_copied result ≡ item_at items.now place }
+    ensures { option_copied result ≡ item_at_place items.now place }
 {
     match place {
         None => None,
@@ -125,7 +125,7 @@ impl BodyIndex {
     /// The body of an owner.
     pub fn body<'p>(&self, program: &'p TypedProgram, owner: Owner) -> Option<&'p TypedBody>
         requires { IsIndexOf program.now self.now }
-        ensures { option_copied result ≡ body_of program.now owner }
+        ensures { option_copied result ≡ owned_body program.now owner }
     {
         match owner {
             Owner::Main => program.main.as_ref(),
@@ -152,7 +152,7 @@ impl BodyIndex {
         m: u32,
     ) -> Option<&'p TypedInit>
         requires { IsIndexOf program.now self.now }
-        ensures { option_copied result ≡ init_of program.now c m }
+        ensures { option_copied result ≡ member_init program.now c m }
     {
         match self.body(program, Owner::Constructor(c)) {
             None => None,
@@ -162,7 +162,7 @@ impl BodyIndex {
 
     /// Whether an owner has a body.
     pub fn has_body(&self, owner: Owner) -> bool
-        ensures { (program : TypedProgram) → IsIndexOf program self.now → result ≡ is_body (body_of program owner) }
+        ensures { (program : TypedProgram) → IsIndexOf program self.now → result ≡ is_body (owned_body program owner) }
     {
         match owner {
             Owner::Main => self.has_main,
@@ -174,7 +174,7 @@ impl BodyIndex {
 
     /// Whether the constructor of a class has an initializer of a member.
     pub fn has_initializer(&self, c: ClassId, m: u32) -> bool
-        ensures { (program : TypedProgram) → IsIndexOf program self.now → result ≡ is_init (init_of program c m) }
+        ensures { (program : TypedProgram) → IsIndexOf program self.now → result ≡ is_init (member_init program c m) }
     {
         self.inits.find(key_of(c, m)).is_some()
     }

@@ -2,7 +2,7 @@
 
 ghost use Rattle.std.specs.Prelude.{◌≡◌, None, OnOk};
 ghost use Rattle.path_bodies.specs.declared.table.MemberKey.{MemberKey};
-ghost use Rattle.path_bodies.specs.Places.{place_of, same_key};
+ghost use Rattle.path_bodies.specs.Places.{place_by_key, same_member_key};
 ghost use Rattle.path_bodies.specs.invariants.Firsts.{first_or, only_if};
 
 use foundation::NoMemory;
@@ -25,7 +25,7 @@ pub struct PlaceTable {
 impl PlaceTable {
     /// The empty table, which takes no memory.
     pub fn new(alloc: Global) -> PlaceTable
-        ensures { (q : MemberKey) → place_of result q ≡ None }
+        ensures { (q : MemberKey) → place_by_key result q ≡ None }
     {
         PlaceTable {
             places: IndexMap::new(alloc),
@@ -34,7 +34,7 @@ impl PlaceTable {
 
     /// The place under a key.
     pub fn find(&self, key: MemberKey) -> Option<usize>
-        ensures { result ≡ place_of self.now key }
+        ensures { result ≡ place_by_key self.now key }
     {
         self.places.get(&key).copied()
     }
@@ -43,7 +43,7 @@ impl PlaceTable {
     ///
     /// Errors: want of memory.
     pub fn put_first(&mut self, key: MemberKey, place: usize) -> Result<(), NoMemory>
-        ensures { OnOk result ((q : MemberKey) → place_of self.new q ≡ first_or (place_of self.old q) (only_if (same_key q key) place)) }
+        ensures { OnOk result ((q : MemberKey) → place_by_key self.new q ≡ first_or (place_by_key self.old q) (only_if (same_member_key q key) place)) }
     {
         if self.find(key).is_none() {
             self.places.insert(key, place)?;

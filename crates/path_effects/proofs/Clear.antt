@@ -20,7 +20,7 @@ use Rattle.path_plan.specs.Views.{Settled}
 use Rattle.path_plan.proofs.Uses.{complete_ready}
 use Rattle.path_model.specs.Values.{Pointer, Objects, inner_part}
 use Rattle.path_model.specs.Places.{passed_part}
-use Rattle.path_model.specs.Uses.{Use, Guards, Passes, is_shared, views, passes}
+use Rattle.path_model.specs.Uses.{StatementUse, Guards, Passes, is_shared, uses_of_view, path_uses}
 use Rattle.path_model.specs.Rules.{breaks, is_broken, refused, is_nothing, is_clear, IsLeast}
 use Rattle.path_model.proofs.Least.{refused_least}
 use Rattle.path_model.proofs.Facts.{base_done, ready_of}
@@ -28,26 +28,26 @@ use Rattle.path_model.proofs.TypedUses.{unbroken}
 use Rattle.path_heap.specs.Stands.{HasBegun}
 use Rattle.path_values.specs.Open.{OpensTo, IsOpen}
 
-none_least : (h : Classes) (s : Objects) (us vs : List Use) → refused h s us ≡ None → ((u : Use) → Has vs u → Has us u) → (o : Option Undefined) → IsLeast (is_broken h s vs) o → o ≡ None
+none_least : (h : Classes) (s : Objects) (us vs : List StatementUse) → refused h s us ≡ None → ((u : StatementUse) → Has vs u → Has us u) → (o : Option Undefined) → IsLeast (is_broken h s vs) o → o ≡ None
 none_least h s us vs clear inside None least = refl
 none_least h s us vs clear inside (Some r) least =
     let a = any_has (breaks h s r) vs least.0 in
     absurd (not_both a.passes (unbroken h s us clear a.item (inside a.item a.has) r))
 
 -- uses among those that break no rule break none
-pub clear_among : (h : Classes) (s : Objects) (us vs : List Use) → refused h s us ≡ None → ((u : Use) → Has vs u → Has us u) → refused h s vs ≡ None
+pub clear_among : (h : Classes) (s : Objects) (us vs : List StatementUse) → refused h s us ≡ None → ((u : StatementUse) → Has vs u → Has us u) → refused h s vs ≡ None
 clear_among h s us vs clear inside = none_least h s us vs clear inside (refused h s vs) (refused_least h s vs)
 
-pub clear_front : (h : Classes) (s : Objects) (us vs : List Use) → refused h s (us ++ vs) ≡ None → refused h s us ≡ None
+pub clear_front : (h : Classes) (s : Objects) (us vs : List StatementUse) → refused h s (us ++ vs) ≡ None → refused h s us ≡ None
 clear_front h s us vs clear = clear_among h s (us ++ vs) us clear (λ u has. has_left us vs u has)
 
-pub clear_back : (h : Classes) (s : Objects) (us vs : List Use) → refused h s (us ++ vs) ≡ None → refused h s vs ≡ None
+pub clear_back : (h : Classes) (s : Objects) (us vs : List StatementUse) → refused h s (us ++ vs) ≡ None → refused h s vs ≡ None
 clear_back h s us vs clear = clear_among h s (us ++ vs) vs clear (λ u has. has_right us vs u has)
 
-pub clear_rest : (h : Classes) (s : Objects) (u : Use) (us : List Use) → refused h s (u ∷ us) ≡ None → refused h s us ≡ None
+pub clear_rest : (h : Classes) (s : Objects) (u : StatementUse) (us : List StatementUse) → refused h s (u ∷ us) ≡ None → refused h s us ≡ None
 clear_rest h s u us clear = clear_among h s (u ∷ us) us clear (λ v has. inr has)
 
-pub is_clear_by : (h : Classes) (s : Objects) (us : List Use) → refused h s us ≡ None → is_clear h s us ≡ true
+pub is_clear_by : (h : Classes) (s : Objects) (us : List StatementUse) → refused h s us ≡ None → is_clear h s us ≡ true
 is_clear_by h s us clear = ap is_nothing clear
 
 -- a part that is ready has begun
@@ -55,11 +55,11 @@ pub ready_begun : (s : Objects) (p : ObjectPart) → is_ready (s.phases.phase p)
 ready_begun s p ready = λ raw. let f : false ≡ true = sym (ap is_ready raw) ∙ ready in absurd (cc)
 
 -- what is guarded is ready
-pub guarded : (h : Classes) (s : Objects) (us : List Use) → refused h s us ≡ None → (p : ObjectPart) → Has us (Guards (Pointer p)) → is_ready (s.phases.phase p) ≡ true
+pub guarded : (h : Classes) (s : Objects) (us : List StatementUse) → refused h s us ≡ None → (p : ObjectPart) → Has us (Guards (Pointer p)) → is_ready (s.phases.phase p) ≡ true
 guarded h s us clear p has = ready_of s p (unbroken h s us clear (Guards (Pointer p)) has NotReady)
 
 -- and so is what is passed through
-pub passed_ready : (h : Classes) (s : Objects) (us : List Use) → refused h s us ≡ None → (p : ObjectPart) → Has us (Passes p) → is_ready (s.phases.phase p) ≡ true
+pub passed_ready : (h : Classes) (s : Objects) (us : List StatementUse) → refused h s us ≡ None → (p : ObjectPart) → Has us (Passes p) → is_ready (s.phases.phase p) ≡ true
 passed_ready h s us clear p has = ready_of s p (unbroken h s us clear (Passes p) has NotReady)
 
 -- the bases of a part that is ready are ready
@@ -80,13 +80,13 @@ opens_to h s p c i class settled valid ready = record {
 
 -- a path can be followed from what is ready
 pub path_open : (h : Classes) (s : Objects) (p : ObjectPart) (c : ClassId) (xs : List PassedMember) (last : Subobject) → class_of p.at ≡ Some c → Settled h p.object s.phases → IsPath h c xs last → is_ready (s.phases.phase p) ≡ true
-    → refused h s (passes p xs last) ≡ None → IsOpen h s p c xs last
+    → refused h s (path_uses p xs last) ≡ None → IsOpen h s p c xs last
 path_open h s p c [] last class settled path ready clear = opens_to h s p c last class settled path ready
 path_open h s p c (x ∷ rest) last class settled path ready clear =
-    let v = views (is_shared x.base) (Pointer p) in
+    let v = uses_of_view (is_shared x.base) (Pointer p) in
     let q = passed_part p x in
-    let behind = clear_back h s v (Passes q ∷ passes q rest last) clear in (
+    let behind = clear_back h s v (Passes q ∷ path_uses q rest last) clear in (
       opens_to h s p c x.base class settled path.0.valid ready,
       path.0,
-      path_open h s q x.class rest last refl settled path.1 (passed_ready h s (Passes q ∷ passes q rest last) behind q (inl refl)) (clear_rest h s (Passes q) (passes q rest last) behind),
+      path_open h s q x.class rest last refl settled path.1 (passed_ready h s (Passes q ∷ path_uses q rest last) behind q (inl refl)) (clear_rest h s (Passes q) (path_uses q rest last) behind),
     )

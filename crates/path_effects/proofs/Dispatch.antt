@@ -9,18 +9,18 @@ use Rattle.cxx_program.specs.declared.statement.TypedCall.{TypedCall}
 use Rattle.cxx_program.specs.Typed.{Scope, IsCall}
 use Rattle.path_plan.specs.Places.{ObjectPart}
 use Rattle.path_model.specs.Values.{Sight}
-use Rattle.path_model.specs.Effects.{dispatched, runs}
+use Rattle.path_model.specs.Effects.{overrider_in_view, runs}
 use Rattle.path_heap.specs.declared.heap.Heap.{Heap}
 use Rattle.path_heap.specs.Stands.{HeapStands}
 use Rattle.path_views.specs.declared.views.Found.{Found}
-use Rattle.path_views.specs.Views.{IsPartAt, IsCallable, IsRun}
+use Rattle.path_views.specs.Views.{IsPartAt, IsCallable, RunsByView}
 use Rattle.path_effects.proofs.Pointers.{IsAt}
 
 pub by_view : (h : Classes) (heap : Heap) (e : Scope) (s : Sight) (call : TypedCall) (f : Function ClassId) (p : ObjectPart) (n : ℕ) → IsCall h e call f → call.is_dispatched ≡ true → HeapStands h heap s.objects → IsAt h s.objects n p call.function.class
-    → (found : Option Found) → ((p : ObjectPart) → IsPartAt h heap s.objects n p → IsCallable h p call.function → IsRun h s.objects.classes found (dispatched h s.objects p call.function)) → IsRun h s.objects.classes found (runs h s.objects call p)
+    → (found : Option Found) → ((p : ObjectPart) → IsPartAt h heap s.objects n p → IsCallable h p call.function → RunsByView h s.objects.classes found (overrider_in_view h s.objects p call.function)) → RunsByView h s.objects.classes found (runs h s.objects call p)
 by_view h heap e s call f p n is flag stands r found told =
     let a = told p (record { heap_stands = stands; points = r.points; begun = r.begun }) (record { of_class = r.of_class; virtual_function = test_virtual h call.function (is.dispatched flag).1 }) in
-    subst (λ (b : Bool). IsRun h s.objects.classes found (if b then dispatched h s.objects p call.function else Some (p, call.function))) (sym flag) a
+    subst (λ (b : Bool). RunsByView h s.objects.classes found (if b then overrider_in_view h s.objects p call.function else Some (p, call.function))) (sym flag) a
 
-pub by_name : (h : Classes) (s : Sight) (call : TypedCall) (p : ObjectPart) (n : ℕ) → call.is_dispatched ≡ false → IsAt h s.objects n p call.function.class → IsRun h s.objects.classes (Some (record { this = n; function = call.function })) (runs h s.objects call p)
-by_name h s call p n flag r = subst (λ (b : Bool). IsRun h s.objects.classes (Some (record { this = n; function = call.function })) (if b then dispatched h s.objects p call.function else Some (p, call.function))) (sym flag) (r.points, refl)
+pub by_name : (h : Classes) (s : Sight) (call : TypedCall) (p : ObjectPart) (n : ℕ) → call.is_dispatched ≡ false → IsAt h s.objects n p call.function.class → RunsByView h s.objects.classes (Some (record { this = n; function = call.function })) (runs h s.objects call p)
+by_name h s call p n flag r = subst (λ (b : Bool). RunsByView h s.objects.classes (Some (record { this = n; function = call.function })) (if b then overrider_in_view h s.objects p call.function else Some (p, call.function))) (sym flag) (r.points, refl)

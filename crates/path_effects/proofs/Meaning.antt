@@ -6,7 +6,7 @@ use Rattle.cxx_hierarchy.specs.declared.records.ValueType.TheVariants.{Pointer a
 use Rattle.cxx_hierarchy.specs.Classes.{Classes}
 use Rattle.path_plan.specs.Places.{ObjectPart}
 use Rattle.path_model.specs.Values.{Value, Unset, Number, Null, Pointer, Objects}
-use Rattle.path_model.specs.Uses.{Use, Guards}
+use Rattle.path_model.specs.Uses.{StatementUse, Guards}
 use Rattle.path_model.specs.Rules.{refused}
 use Rattle.path_model.specs.TypedStates.{IsValue}
 use Rattle.path_heap.specs.declared.state.Value.{Value as ValueCode}
@@ -28,7 +28,7 @@ has_number h cs NullCode w p m is other = subst (λ (x : Value). Means h cs Null
 has_number h cs (PointerCode n) w p m is other = other n refl
 
 -- what is guarded has begun
-pub guard_begun : (h : Classes) (s : Objects) (us : List Use) → refused h s us ≡ None → (w : Value) → Has us (Guards w) → IsBegun s w
+pub guard_begun : (h : Classes) (s : Objects) (us : List StatementUse) → refused h s us ≡ None → (w : Value) → Has us (Guards w) → IsBegun s w
 guard_begun h s us clear Unset has = tt
 guard_begun h s us clear (Number z) has = tt
 guard_begun h s us clear Null has = tt

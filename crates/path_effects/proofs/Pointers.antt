@@ -16,8 +16,8 @@ use Rattle.cxx_hierarchy.specs.declared.records.Function.{Function}
 use Rattle.cxx_program.specs.Typed.{Scope, HasType, IsPlace, IsWay, IsCall}
 use Rattle.path_plan.specs.Phases.{is_ready}
 use Rattle.path_plan.specs.Views.{Settled}
-use Rattle.path_model.specs.Values.{Value, Pointer, Objects, Sight, value, inner_part, to_base as moved}
-use Rattle.path_model.specs.Uses.{Use, Reads, Follows, Guards, arrow, of_part, passes, place_uses, goes_to, receiver}
+use Rattle.path_model.specs.Values.{Value, Pointer, Objects, Sight, value_of_operand, inner_part, to_base as moved}
+use Rattle.path_model.specs.Uses.{StatementUse, Reads, Follows, Guards, arrow, of_part, path_uses, place_uses, goes_to, receiver_value}
 use Rattle.path_model.specs.Rules.{refused}
 use Rattle.path_model.specs.Typed.{AllSettled}
 use Rattle.path_model.specs.TypedStates.{IsPartMade, IsValue}
@@ -28,11 +28,11 @@ use Rattle.path_heap.specs.Points.{Points}
 use Rattle.path_heap.specs.Stands.{HasBegun, Means}
 use Rattle.path_values.specs.Open.{IsOpen}
 use Rattle.path_values.specs.Conversions.{CanReach, CanGo}
-use Rattle.path_values.specs.Given.{IsSeen}
+use Rattle.path_values.specs.Given.{HasTypesOfScope}
 use Rattle.path_values.proofs.Seen.{sight_typed}
 use Rattle.path_effects.proofs.Clear.{clear_back, ready_begun, guarded, inner_ready, path_open}
 
-pub seen_value : (h : Classes) (e : Scope) (s : Sight) → IsSeen h e s → (x : TypedOperand) (t : ValueType ClassId) → HasType e x t → IsValue h s.objects.classes (value s x) t
+pub seen_value : (h : Classes) (e : Scope) (s : Sight) → HasTypesOfScope h e s → (x : TypedOperand) (t : ValueType ClassId) → HasType e x t → IsValue h s.objects.classes (value_of_operand s x) t
 seen_value h e s a x t has = operand_typed h e s (sight_typed h e s a) x t has
 
 -- the value is a pointer to a part that is ready, of class c
@@ -43,12 +43,12 @@ pub record NamesReady (h : Classes) (s : Objects) (v : Value) (c : ClassId) : Ty
   pub ready : is_ready (s.phases.phase part) ≡ true
 
 -- what is read, followed and guarded
-pub names_ready : (h : Classes) (s : Objects) (us : List Use) → refused h s us ≡ None → (v : Value) → Has us (Reads v) → Has us (Follows v) → Has us (Guards v) → (c : ClassId) → IsValue h s.classes v (PointerType c) → NamesReady h s v c
+pub names_ready : (h : Classes) (s : Objects) (us : List StatementUse) → refused h s us ≡ None → (v : Value) → Has us (Reads v) → Has us (Follows v) → Has us (Guards v) → (c : ClassId) → IsValue h s.classes v (PointerType c) → NamesReady h s v c
 names_ready h s us clear v reads follows guards c a =
     let n = followed h s us clear v reads follows c a in
     record { part = n.part; is = n.is; made = n.made; ready = guarded h s us clear n.part (subst (λ (w : Value). Has us (Guards w)) n.is guards) }
 
-pub arrow_ready : (h : Classes) (s : Objects) (v : Value) (more : List Use) → refused h s (arrow v ++ more) ≡ None → (c : ClassId) → IsValue h s.classes v (PointerType c) → NamesReady h s v c
+pub arrow_ready : (h : Classes) (s : Objects) (v : Value) (more : List StatementUse) → refused h s (arrow v ++ more) ≡ None → (c : ClassId) → IsValue h s.classes v (PointerType c) → NamesReady h s v c
 arrow_ready h s v more clear c a = names_ready h s (arrow v ++ more) clear v (inl refl) (inr (inl refl)) (inr (inr (inl refl))) c a
 
 -- a number of a part that has begun, of the class c
@@ -82,16 +82,16 @@ inner_names h s all p c d i made ready valid class = record {
 
 -- the pointer of a place, and its path
 pub record IsPlaceReady (h : Classes) (s : Sight) (place : TypedPlace) : Type 0 where
-  pub names : NamesReady h s.objects (value s place.pointer) place.class
+  pub names : NamesReady h s.objects (value_of_operand s place.pointer) place.class
   pub path : IsOpen h s.objects names.part place.class place.passed place.base
 
-pub place_ready : (h : Classes) (e : Scope) (s : Sight) → IsSeen h e s → (place : TypedPlace) (t : FieldType ClassId) → IsPlace h e place t → refused h s.objects (place_uses s place) ≡ None → IsPlaceReady h s place
+pub place_ready : (h : Classes) (e : Scope) (s : Sight) → HasTypesOfScope h e s → (place : TypedPlace) (t : FieldType ClassId) → IsPlace h e place t → refused h s.objects (place_uses s place) ≡ None → IsPlaceReady h s place
 place_ready h e s a place t is clear =
-    let v = value s place.pointer in
-    let rest = λ (w : Value). of_part (λ p. passes p place.passed place.base) w in
+    let v = value_of_operand s place.pointer in
+    let rest = λ (w : Value). of_part (λ p. path_uses p place.passed place.base) w in
     let n = arrow_ready h s.objects v (rest v) clear place.class (seen_value h e s a place.pointer (PointerType place.class) is.pointer) in
     let behind : refused h s.objects (rest v) ≡ None = clear_back h s.objects (arrow v) (rest v) clear in
-    let here : refused h s.objects (passes n.part place.passed place.base) ≡ None = subst (λ (w : Value). refused h s.objects (rest w) ≡ None) n.is behind in
+    let here : refused h s.objects (path_uses n.part place.passed place.base) ≡ None = subst (λ (w : Value). refused h s.objects (rest w) ≡ None) n.is behind in
     record {
       names = n;
       path = path_open h s.objects n.part place.class place.passed place.base n.made.of_class (settled_at h s.objects a.settled n.part place.class n.made) is.path n.ready here;
@@ -104,9 +104,9 @@ can_reach_ready h s v c i n valid = subst (λ (w : Value). CanReach h s w i) (sy
 
 -- the pointer of a call, what stands before `::`, and the receiver
 pub record IsCallReady (h : Classes) (s : Sight) (call : TypedCall) : Type 0 where
-  pub goes : CanGo h s.objects (value s call.pointer) call.qualifier
-  pub reaches : CanReach h s.objects (goes_to call.qualifier (value s call.pointer)) call.base
-  pub this : NamesReady h s.objects (receiver s call) call.function.class
+  pub goes : CanGo h s.objects (value_of_operand s call.pointer) call.qualifier
+  pub reaches : CanReach h s.objects (goes_to call.qualifier (value_of_operand s call.pointer)) call.base
+  pub this : NamesReady h s.objects (receiver_value s call) call.function.class
 
 way_ready : (h : Classes) (s : Objects) → AllSettled h s → (v : Value) (c d : ClassId) (q : Option Subobject) → IsWay h c q d → NamesReady h s v c → NamesReady h s (goes_to q v) d
 way_ready h s all v c d None way n = subst (λ (k : ClassId). NamesReady h s v k) way n
@@ -116,9 +116,9 @@ can_go : (h : Classes) (s : Objects) (v : Value) (c d : ClassId) (q : Option Sub
 can_go h s v c d None way n = tt
 can_go h s v c d (Some i) way n = can_reach_ready h s v c i n way.valid
 
-pub call_ready : (h : Classes) (e : Scope) (s : Sight) → IsSeen h e s → (call : TypedCall) (f : Function ClassId) → IsCall h e call f → (more : List Use) → refused h s.objects (arrow (value s call.pointer) ++ more) ≡ None → IsCallReady h s call
+pub call_ready : (h : Classes) (e : Scope) (s : Sight) → HasTypesOfScope h e s → (call : TypedCall) (f : Function ClassId) → IsCall h e call f → (more : List StatementUse) → refused h s.objects (arrow (value_of_operand s call.pointer) ++ more) ≡ None → IsCallReady h s call
 call_ready h e s a call f is more clear =
-    let v = value s call.pointer in
+    let v = value_of_operand s call.pointer in
     let n = arrow_ready h s.objects v more clear call.class (seen_value h e s a call.pointer (PointerType call.class) is.pointer) in
     let w = way_ready h s.objects a.settled v call.class is.through call.qualifier is.way n in
     let r = inner_names h s.objects a.settled w.part is.through call.function.class call.base w.made w.ready is.base is.of_class in

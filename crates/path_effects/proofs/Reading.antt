@@ -17,7 +17,7 @@ use Rattle.path_heap.specs.declared.heap.Heap.{Heap}
 use Rattle.path_heap.specs.declared.state.Value.{Value as ValueCode}
 use Rattle.path_heap.specs.Stands.{Means}
 use Rattle.path_values.specs.Scenes.{SceneStands}
-use Rattle.path_values.specs.Given.{IsSeen}
+use Rattle.path_values.specs.Given.{HasTypesOfScope}
 use Rattle.path_effects.specs.invariants.Arguments.{AreRead}
 use Rattle.path_effects.proofs.Clear.{clear_among}
 use Rattle.path_values.specs.declared.scene.Scene.{Scene}
@@ -36,7 +36,7 @@ means_more h cs s (w ∷ values) [] v a each m = absurd each
 means_more h cs s (w ∷ values) (b ∷ done) v a each m = (each.0, means_more h cs s values done v a each.1 m)
 
 pub one_more_read : (h : Classes) (heap : Heap) (scene : Scene) (list : List Argument) (values new : List ValueCode) (i : ℕ) (v : ValueCode) (a : Argument) → i < length list → a ≡ get_or list i a → new ≡ values ++ v ∷ []
-    → ((e : Scope) (s : Sight) (t : ValueType ClassId) → SceneStands h heap scene s → IsSeen h e s → IsArgument h e a t → refused h s.objects (argument_uses s a) ≡ None → Means h s.objects.classes v (argument_value s a))
+    → ((e : Scope) (s : Sight) (t : ValueType ClassId) → SceneStands h heap scene s → HasTypesOfScope h e s → IsArgument h e a t → refused h s.objects (argument_uses s a) ≡ None → Means h s.objects.classes v (argument_value s a))
     → AreRead h heap scene list (take i list) values → AreRead h heap scene list (take (i + 1) list) new
 one_more_read h heap scene list values new i v a lt is grown told before e s types stands seen each clear =
     let at : slice_get list i ≡ Some a = slice_get-get_or list i a lt ∙ ap (λ (x : Argument). Some x) (sym is) in

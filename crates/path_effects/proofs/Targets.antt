@@ -19,10 +19,10 @@ use Rattle.cxx_program.specs.declared.statement.TypedCast.{TypedCast}
 use Rattle.cxx_program.specs.declared.statement.TypedPlace.{TypedPlace}
 use Rattle.cxx_program.specs.declared.statement.TypedRight.{TypedRight}
 use Rattle.cxx_program.specs.Typed.{Scope, Casts, cast_same, cast_up, cast_down as down_cast, cast_dynamic, HasRight, an_operand, a_calculation, a_comparison, a_negation, a_read, an_address, a_result, an_object, a_cast, a_type_test, IsPlace}
-use Rattle.path_model.specs.Values.{Value, Unset, Number, Null, Pointer, Objects, Sight, value}
+use Rattle.path_model.specs.Values.{Value, Unset, Number, Null, Pointer, Objects, Sight, value_of_operand}
 use Rattle.path_model.specs.Places.{address_value, leaf_value, leaf_at}
 use Rattle.path_model.specs.Uses.{cast_value, view_cast, view_of, value_or, derived_of, class_of_owner}
-use Rattle.path_model.specs.Effects.{right_value}
+use Rattle.path_model.specs.Effects.{right_side_value}
 use Rattle.path_model.specs.TypedStates.{IsValue}
 use Rattle.path_model.proofs.TypedValues.{IsTypedSight, operand_typed}
 use Rattle.path_model.proofs.TypedPlaces.{leaf_made, object_made}
@@ -113,21 +113,21 @@ read_to h e s a place c (Number z) f = tt
 read_to h e s a place c Null f = tt
 read_to h e s a place c (Pointer p) f = typed_to h s.objects.classes (s.objects.leaf (leaf_at p place)) c (f p refl)
 
-pub right_to : (h : Classes) (e : Scope) (s : Sight) → IsTypedSight h e s → (r : TypedRight) (u : ValueType ClassId) → HasRight h e r u → (c : ClassId) → u ≡ PointerType c → IsTo (right_value h s r) c
-right_to h e s a _ _ (an_operand x t has) c is = typed_to h s.objects.classes (value s x) c (subst (λ (u : ValueType ClassId). IsValue h s.objects.classes (value s x) u) is (operand_typed h e s a x t has))
+pub right_to : (h : Classes) (e : Scope) (s : Sight) → IsTypedSight h e s → (r : TypedRight) (u : ValueType ClassId) → HasRight h e r u → (c : ClassId) → u ≡ PointerType c → IsTo (right_side_value h s r) c
+right_to h e s a _ _ (an_operand x t has) c is = typed_to h s.objects.classes (value_of_operand s x) c (subst (λ (u : ValueType ClassId). IsValue h s.objects.classes (value_of_operand s x) u) is (operand_typed h e s a x t has))
 right_to h e s a _ _ (a_calculation op u t x y left right) c is = absurd (cc)
 right_to h e s a _ _ (a_comparison differ x y k left right) c is = tt
 right_to h e s a _ _ (a_negation x t has) c is = absurd (cc)
-right_to h e s a _ _ (a_read place t b) c is = read_to h e s a place c (value s place.pointer) (λ p at.
+right_to h e s a _ _ (a_read place t b) c is = read_to h e s a place c (value_of_operand s place.pointer) (λ p at.
     subst (λ (u : ValueType ClassId). IsValue h s.objects.classes (s.objects.leaf (leaf_at p place)) u) is
     (a.leaves (leaf_at p place) t (leaf_made h s.objects.classes e place t p (subst (λ (v : Value). IsValue h s.objects.classes v (PointerType place.class)) at (operand_typed h e s a place.pointer (PointerType place.class) b.pointer)) b)))
 right_to h e s a _ _ (an_address place d b) c is =
     let same : d ≡ c = cc in
-    subst (λ (k : ClassId). IsTo (address_value place d (value s place.pointer)) k) same (address_to h e s.objects.classes place d b (value s place.pointer) (operand_typed h e s a place.pointer (PointerType place.class) b.pointer))
+    subst (λ (k : ClassId). IsTo (address_value place d (value_of_operand s place.pointer)) k) same (address_to h e s.objects.classes place d b (value_of_operand s place.pointer) (operand_typed h e s a place.pointer (PointerType place.class) b.pointer))
 right_to h e s a _ _ (a_result call f t k ret) c is = tt
 right_to h e s a _ _ (an_object k known) c is = tt
 right_to h e s a _ _ (a_cast cast x k d has casts) c is =
     let same : d ≡ c = cc in
-    subst (λ (j : ClassId). IsTo (cast_value h s.objects cast (value s x)) j) same
-    (cast_to h s.objects cast k d casts (value s x) (typed_to h s.objects.classes (value s x) k (operand_typed h e s a x (PointerType k) has)))
+    subst (λ (j : ClassId). IsTo (cast_value h s.objects cast (value_of_operand s x)) j) same
+    (cast_to h s.objects cast k d casts (value_of_operand s x) (typed_to h s.objects.classes (value_of_operand s x) k (operand_typed h e s a x (PointerType k) has)))
 right_to h e s a _ _ (a_type_test x k d has poly known) c is = absurd (cc)

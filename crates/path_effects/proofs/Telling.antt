@@ -11,13 +11,13 @@ use Rattle.path_numbers.proofs.Heap.{at_good}
 use Rattle.path_model.specs.declared.outs.Out.{Out}
 use Rattle.path_model.specs.Values.{Value, Unset, Number, Null, Pointer, Objects}
 use Rattle.path_model.specs.Outs.{class_or_first}
-use Rattle.path_model.specs.Uses.{Use, Reads, Guards, Views, arrow, view_of}
+use Rattle.path_model.specs.Uses.{StatementUse, Reads, Guards, Views, arrow, view_of}
 use Rattle.path_model.specs.Rules.{refused}
 use Rattle.path_model.specs.Steps.{class_of_part}
-use Rattle.path_model.specs.Effects.{part_at, part_out, view_out, class_out, type_of, type_out}
+use Rattle.path_model.specs.Effects.{part_in_same_object, part_out, view_out, class_out, typeid_class, type_out}
 use Rattle.path_heap.specs.declared.state.Part.{Part}
 use Rattle.path_heap.specs.declared.state.Value.TheVariants.{Pointer as PointerCode}
-use Rattle.path_heap.specs.Points.{Points, PointsView, IsPart}
+use Rattle.path_heap.specs.Points.{Points, PointsView, StandsForPart}
 use Rattle.path_heap.specs.Stands.{HasBegun, Means}
 use Rattle.path_effects.proofs.Clear.{ready_begun, guarded}
 
@@ -31,26 +31,26 @@ when_ok (Ok t) P Q f a = f a
 when_ok (Err e) P Q f a = tt
 
 -- the class of a part by its number
-pub part_class : (h : Classes) (classes : List ClassId) (code : Part) (p : ObjectPart) → IsPart h classes code p → code.class ≡ class_of_part p
+pub part_class : (h : Classes) (classes : List ClassId) (code : Part) (p : ObjectPart) → StandsForPart h classes code p → code.class ≡ class_of_part p
 part_class h classes code p a =
     sym a.is_class ∙ sym (ap class_or_first (sym (ap (λ (t : ObjectPart). class_of t.at) a.is_part) ∙ (at_good h (sizes_of h) classes a.node a.at).class))
 
 -- the view of a part that is asked for
-pub view_is_told : (h : Classes) (s : Objects) (n : ℕ) (v : Option ℕ) (out : Option Out) → ((p : ObjectPart) (x : Option Subobject) → PointsView h s.classes p v x → out ≡ part_out s (part_at p x))
+pub view_is_told : (h : Classes) (s : Objects) (n : ℕ) (v : Option ℕ) (out : Option Out) → ((p : ObjectPart) (x : Option Subobject) → PointsView h s.classes p v x → out ≡ part_out s (part_in_same_object p x))
     → ((p : ObjectPart) → Points h s.classes n p → HasBegun s p → PointsView h s.classes p v (view_of h s p)) → (w : Value) → Means h s.classes (PointerCode n) w → refused h s (Reads w ∷ Guards w ∷ Views w ∷ []) ≡ None → out ≡ view_out h s w
 view_is_told h s n v out told seen Unset m clear = absurd m
 view_is_told h s n v out told seen (Number z) m clear = absurd m
 view_is_told h s n v out told seen Null m clear = absurd m
 view_is_told h s n v out told seen (Pointer p) m clear =
-    let us : List Use = Reads (Pointer p) ∷ Guards (Pointer p) ∷ Views (Pointer p) ∷ [] in
+    let us : List StatementUse = Reads (Pointer p) ∷ Guards (Pointer p) ∷ Views (Pointer p) ∷ [] in
     told p (view_of h s p) (seen p m (ready_begun s p (guarded h s us clear p (inr (inl refl)))))
 
 -- the class of the view
-pub type_is_told : (h : Classes) (s : Objects) (n : ℕ) (c : Option ClassId) → ((p : ObjectPart) → Points h s.classes n p → HasBegun s p → c ≡ type_of h s p) → (w : Value) → Means h s.classes (PointerCode n) w
+pub type_is_told : (h : Classes) (s : Objects) (n : ℕ) (c : Option ClassId) → ((p : ObjectPart) → Points h s.classes n p → HasBegun s p → c ≡ typeid_class h s p) → (w : Value) → Means h s.classes (PointerCode n) w
     → refused h s (arrow w ++ Views w ∷ []) ≡ None → class_out c ≡ type_out h s w
 type_is_told h s n c told Unset m clear = absurd m
 type_is_told h s n c told (Number z) m clear = absurd m
 type_is_told h s n c told Null m clear = absurd m
 type_is_told h s n c told (Pointer p) m clear =
-    let us : List Use = arrow (Pointer p) ++ Views (Pointer p) ∷ [] in
+    let us : List StatementUse = arrow (Pointer p) ++ Views (Pointer p) ∷ [] in
     ap class_out (told p m (ready_begun s p (guarded h s us clear p (inr (inr (inl refl))))))

@@ -6,7 +6,7 @@ use Rattle.path_plan.specs.Places.{ObjectPart}
 use Rattle.path_plan.specs.Whole.{whole_part}
 use Rattle.path_model.specs.Values.{Value, Null, Pointer}
 use Rattle.path_heap.specs.declared.state.Part.{Part}
-use Rattle.path_heap.specs.Points.{IsPart}
+use Rattle.path_heap.specs.Points.{StandsForPart}
 
 -- the value names a part, and the code the whole of its heap object
 pub record EndsObject (h : Classes) (classes : List ClassId) (code : Part) (v : Value) : Type 0 where
@@ -14,7 +14,7 @@ pub record EndsObject (h : Classes) (classes : List ClassId) (code : Part) (v : 
   pub is : v ≡ Pointer part
   pub class : ClassId
   pub made : slice_get classes part.object ≡ Some class
-  pub whole : IsPart h classes code (whole_part part.object class)
+  pub whole : StandsForPart h classes code (whole_part part.object class)
 
 -- `delete` of null ends nothing
 abbrev pub Ends : Classes → List ClassId → Option Part → Value → Type 0

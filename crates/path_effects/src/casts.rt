@@ -1,7 +1,7 @@
 //! Casts of pointers (ISO C++03 5.2.7, 5.2.9, 5.4).
 
 ghost use Rattle.std.specs.Prelude.{IfOk};
-ghost use Rattle.path_model.specs.Values.{Value as ValueOf, Objects, value};
+ghost use Rattle.path_model.specs.Values.{Value as ValueOf, Objects, value_of_operand};
 ghost use Rattle.path_model.specs.Uses.{down_value, dynamic_value};
 ghost use Rattle.path_tables.specs.Asked.{AreAnswers};
 ghost use Rattle.path_heap.specs.Stands.{HeapStands, Means};

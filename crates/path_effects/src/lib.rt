@@ -6,7 +6,7 @@
 //! `value_out` and the others); this crate owns only what `delete` ends (`Ends`).
 //!
 //! The layer above may rely on the clauses: each holds of every sight that the scene stands for (`SceneStands`) and that fits
-//! the scope of a typed statement (`IsSeen`), where the uses of the statement break no rule (`refused`). Then its pointers name
+//! the scope of a typed statement (`HasTypesOfScope`), where the uses of the statement break no rule (`refused`). Then its pointers name
 //! parts that have begun and its paths can be followed, which this crate proves. A call answers want of memory alone: what was
 //! kept is then still right, and after a `write` or a `copy` the heap is of no use.
 #![tactic(auto)]

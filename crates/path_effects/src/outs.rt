@@ -10,8 +10,8 @@ ghost use Rattle.path_model.specs.Outs.{location_of};
 ghost use Rattle.path_model.specs.Uses.{Reads, Guards, Views, arrow};
 ghost use Rattle.path_model.specs.Rules.{refused};
 ghost use Rattle.path_model.specs.Steps.{class_of_part};
-ghost use Rattle.path_model.specs.Effects.{value_out, part_at, part_out, view_out, class_out, type_out, dump_out};
-ghost use Rattle.path_heap.specs.Points.{Points, PointsView, IsPart};
+ghost use Rattle.path_model.specs.Effects.{value_out, part_in_same_object, part_out, view_out, class_out, type_out, dump_out};
+ghost use Rattle.path_heap.specs.Points.{Points, PointsView, StandsForPart};
 ghost use Rattle.path_heap.specs.Stands.{HeapStands, Means};
 ghost use Rattle.path_tables.specs.Worlds.{IsWorld};
 
@@ -52,7 +52,7 @@ fn part_told(
     n: Option<u32>,
 ) -> Result<Option<Out>, NoMemory>
     requires world { IsWorld world.now }
-    ensures { IfOk result (λ out. (s : Objects) (p : ObjectPart) (x : Option Subobject) → HeapStands world.now.h.now heap.now s → PointsView world.now.h.now s.classes p n x → out ≡ part_out s (part_at p x)) }
+    ensures { IfOk result (λ out. (s : Objects) (p : ObjectPart) (x : Option Subobject) → HeapStands world.now.h.now heap.now s → PointsView world.now.h.now s.classes p n x → out ≡ part_out s (part_in_same_object p x)) }
 {
     match n {
         None => Ok(None),
@@ -132,7 +132,7 @@ pub fn call_told(alloc: Global, world: &World, heap: &Heap, found: Found) -> Res
 /// Errors: want of memory.
 pub fn built_told(alloc: Global, world: &World, heap: &Heap, part: Part) -> Result<Out, NoMemory>
     requires world { IsWorld world.now }
-    ensures { IfOk result (λ out. (s : Objects) (p : ObjectPart) → HeapStands world.now.h.now heap.now s → IsPart world.now.h.now s.classes part p → out ≡ Built (class_of_part p) (location_of s p)) }
+    ensures { IfOk result (λ out. (s : Objects) (p : ObjectPart) → HeapStands world.now.h.now heap.now s → StandsForPart world.now.h.now s.classes part p → out ≡ Built (class_of_part p) (location_of s p)) }
 {
     Ok(Out::Built(part.class, location(alloc, world, heap, part.number)?))
 }
@@ -142,7 +142,7 @@ pub fn built_told(alloc: Global, world: &World, heap: &Heap, part: Part) -> Resu
 /// Errors: want of memory.
 pub fn ending_told(alloc: Global, world: &World, heap: &Heap, part: Part) -> Result<Out, NoMemory>
     requires world { IsWorld world.now }
-    ensures { IfOk result (λ out. (s : Objects) (p : ObjectPart) → HeapStands world.now.h.now heap.now s → IsPart world.now.h.now s.classes part p → out ≡ Ending (class_of_part p) (location_of s p)) }
+    ensures { IfOk result (λ out. (s : Objects) (p : ObjectPart) → HeapStands world.now.h.now heap.now s → StandsForPart world.now.h.now s.classes part p → out ≡ Ending (class_of_part p) (location_of s p)) }
 {
     Ok(Out::Ending(part.class, location(alloc, world, heap, part.number)?))
 }

@@ -11,7 +11,7 @@ use Rattle.path_numbers.specs.Sizes.{sizes_of}
 use Rattle.path_numbers.specs.Nodes.{Node}
 use Rattle.path_numbers.specs.Heap.{IsAt}
 use Rattle.path_heap.specs.declared.state.Part.{Part}
-use Rattle.path_heap.specs.Points.{IsOwner}
+use Rattle.path_heap.specs.Points.{HasOwner}
 use Rattle.path_events.specs.declared.frame.Form.{Form as FormCode}
 use Rattle.path_events.specs.declared.frame.Form.TheVariants.{InFull as InFullCode, AsBase as AsBaseCode}
 use Rattle.path_events.specs.declared.frame.Stage.{Stage}
@@ -30,7 +30,7 @@ pub record StandsAs (h : Classes) (classes : List ClassId) (code : Part) (form :
   pub is_part : node.part ≡ p
   pub is_number : node.number ≡ code.number
   pub is_class : node.class ≡ code.class
-  pub owned : IsOwner h classes node code.whole code.owner
+  pub owned : HasOwner h classes node code.whole code.owner
   pub room : node.number + sizes_of h node.form node.class ≤ 2 ^ 32
 
 -- a construction from each of its points on: the body, the members from m on (the first from its element i on), the bases, the

@@ -2,7 +2,7 @@
 
 ghost use Rattle.std.specs.Prelude.{◌≡◌, ◌+◌, Some, true, slice_get};
 ghost use Rattle.cxx_hierarchy.specs.Classes.{members_of};
-ghost use Rattle.path_numbers.specs.Numbers.{AreNumbers};
+ghost use Rattle.path_numbers.specs.Numbers.{AreClassNumbers};
 ghost use Rattle.path_events.specs.declared.frame.Stage.TheVariants.{Shared, Bases, Members, Body};
 ghost use Rattle.path_events.specs.invariants.Steps.{GivesNext, MayGiveNext};
 
@@ -16,7 +16,7 @@ use cxx_program::Owner;
 
 /// The virtual base at place j, where the part is a complete object and has one there.
 fn built_shared(course: &Course, j: usize) -> Option<Step>
-    requires { AreNumbers course.now.h.now course.now.numbers.now }
+    requires { AreClassNumbers course.now.h.now course.now.numbers.now }
     ensures { MayGiveNext course.now true (Shared j) (Bases 0) result }
 {
     match course.frame.form {
@@ -33,7 +33,7 @@ fn built_shared(course: &Course, j: usize) -> Option<Step>
 
 /// The direct base at place i, unless it is virtual.
 fn built_base(course: &Course, i: usize) -> Option<Step>
-    requires { AreNumbers course.now.h.now course.now.numbers.now }
+    requires { AreClassNumbers course.now.h.now course.now.numbers.now }
     ensures { MayGiveNext course.now true (Bases i) (Bases (i + 1)) result }
 {
     course.h.keeps();
@@ -51,7 +51,7 @@ fn built_base(course: &Course, i: usize) -> Option<Step>
 
 /// The first base from place i on, and behind them that the part is ready.
 fn built_bases(course: &Course, i: usize) -> Step
-    requires { AreNumbers course.now.h.now course.now.numbers.now }
+    requires { AreClassNumbers course.now.h.now course.now.numbers.now }
     ensures { GivesNext course.now true (Bases i) result }
 {
     for place in i..bases_of(course.h, course.frame.part.class).len() {
@@ -65,7 +65,7 @@ fn built_bases(course: &Course, i: usize) -> Step
 
 /// The element of a member of class type at place i, or the initializer of a member that is a number or a pointer.
 fn member_step(course: &Course, m: usize, member: &Member<ClassId>, i: u32) -> Option<Step>
-    requires numbers { AreNumbers course.now.h.now course.now.numbers.now }
+    requires numbers { AreClassNumbers course.now.h.now course.now.numbers.now }
     requires listed { slice_get (members_of course.now.h.now course.now.frame.part.class) m ≡ Some member.now }
     ensures { MayGiveNext course.now true (Members m i) (Members (m + 1) 0) result }
 {
@@ -93,7 +93,7 @@ fn member_step(course: &Course, m: usize, member: &Member<ClassId>, i: u32) -> O
 
 /// The member at place m from its element i on.
 fn built_member(course: &Course, m: usize, i: u32) -> Option<Step>
-    requires { AreNumbers course.now.h.now course.now.numbers.now }
+    requires { AreClassNumbers course.now.h.now course.now.numbers.now }
     ensures { MayGiveNext course.now true (Members m i) (Members (m + 1) 0) result }
 {
     match member_at(course.h, course.frame.part.class, m) {
@@ -104,7 +104,7 @@ fn built_member(course: &Course, m: usize, i: u32) -> Option<Step>
 
 /// The first member from place m on, the first of them from its element i on, and behind them the body.
 fn built_members(course: &Course, m: usize, i: u32) -> Step
-    requires { AreNumbers course.now.h.now course.now.numbers.now }
+    requires { AreClassNumbers course.now.h.now course.now.numbers.now }
     ensures { GivesNext course.now true (Members m i) result }
 {
     let mut element = i;
@@ -133,7 +133,7 @@ fn built_body(course: &Course) -> Step
 
 /// What comes next.
 pub(crate) fn built_step(course: &Course) -> Step
-    requires { AreNumbers course.now.h.now course.now.numbers.now }
+    requires { AreClassNumbers course.now.h.now course.now.numbers.now }
     ensures { GivesNext course.now true course.now.frame.stage result }
 {
     match course.frame.stage {

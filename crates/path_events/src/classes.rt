@@ -3,7 +3,7 @@
 ghost use Rattle.std.specs.Prelude.{◌≡◌, ◌<◌, Some, option_copied, length, slice_get};
 ghost use Rattle.cxx_hierarchy.specs.Classes.{bases_of, members_of};
 ghost use Rattle.path_plan.specs.Plans.{virtual_order};
-ghost use Rattle.path_numbers.specs.Numbers.{AreNumbers};
+ghost use Rattle.path_numbers.specs.Numbers.{AreClassNumbers};
 
 use cxx_hierarchy::{Base, ClassId, Hierarchy, Member};
 use path_numbers::Numbers;
@@ -30,7 +30,7 @@ pub(crate) fn members_of(h: &Hierarchy, c: ClassId) -> &[Member<ClassId>]
 
 /// The virtual bases of a class, in the order in which they are built (ISO C++03 12.6.2 p5).
 pub(crate) fn order_of<'n>(h: &Hierarchy, numbers: &'n Numbers, c: ClassId) -> &'n [ClassId]
-    requires { AreNumbers h.now numbers.now }
+    requires { AreClassNumbers h.now numbers.now }
     ensures { result.now ≡ virtual_order h.now c }
 {
     h.keeps();

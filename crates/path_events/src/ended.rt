@@ -1,7 +1,7 @@
 //! What comes next in a part under destruction: its construction backwards (ISO C++03 12.4 p6).
 
 ghost use Rattle.std.specs.Prelude.{◌≡◌, ◌+◌, false};
-ghost use Rattle.path_numbers.specs.Numbers.{AreNumbers};
+ghost use Rattle.path_numbers.specs.Numbers.{AreClassNumbers};
 ghost use Rattle.path_events.specs.declared.frame.Stage.TheVariants.{Shared, Bases, Members, Body};
 ghost use Rattle.path_events.specs.invariants.Steps.{GivesNext, MayGiveNext, elements_at};
 
@@ -15,7 +15,7 @@ use cxx_program::Owner;
 
 /// The virtual base before place j, and the end where there is none.
 fn ended_shared(course: &Course, j: usize) -> Step
-    requires { AreNumbers course.now.h.now course.now.numbers.now }
+    requires { AreClassNumbers course.now.h.now course.now.numbers.now }
     ensures { GivesNext course.now false (Shared j) result }
 {
     match course.frame.form {
@@ -36,7 +36,7 @@ fn ended_shared(course: &Course, j: usize) -> Step
 
 /// The direct base at place i, unless it is virtual.
 fn ended_base(course: &Course, i: usize) -> Option<Step>
-    requires { AreNumbers course.now.h.now course.now.numbers.now }
+    requires { AreClassNumbers course.now.h.now course.now.numbers.now }
     ensures { MayGiveNext course.now false (Bases (i + 1)) (Bases i) result }
 {
     match base_at(course.h, course.frame.part.class, i) {
@@ -53,7 +53,7 @@ fn ended_base(course: &Course, i: usize) -> Option<Step>
 
 /// The last base before place i, and behind them the virtual bases.
 fn ended_bases(course: &Course, i: usize) -> Step
-    requires { AreNumbers course.now.h.now course.now.numbers.now }
+    requires { AreClassNumbers course.now.h.now course.now.numbers.now }
     ensures { GivesNext course.now false (Bases i) result }
 {
     let mut left = i;
@@ -70,7 +70,7 @@ fn ended_bases(course: &Course, i: usize) -> Step
 
 /// The last of the i elements that are left of the member at place m.
 fn ended_element(course: &Course, m: usize, i: u32) -> Option<Step>
-    requires { AreNumbers course.now.h.now course.now.numbers.now }
+    requires { AreClassNumbers course.now.h.now course.now.numbers.now }
     ensures { MayGiveNext course.now false (Members m i) (Members m 0) result }
 {
     course.h.keeps();
@@ -111,7 +111,7 @@ fn elements_at(h: &Hierarchy, c: ClassId, m: usize) -> u32
 
 /// The last element of the member at place m, after it those of the members before, and behind them the bases.
 fn ended_members(course: &Course, m: usize, i: u32) -> Step
-    requires { AreNumbers course.now.h.now course.now.numbers.now }
+    requires { AreClassNumbers course.now.h.now course.now.numbers.now }
     ensures { GivesNext course.now false (Members m i) result }
 {
     match ended_element(course, m, i) {
@@ -133,7 +133,7 @@ fn ended_members(course: &Course, m: usize, i: u32) -> Step
 
 /// The body of the destructor where it is declared, and else the members.
 fn ended_body(course: &Course) -> Step
-    requires { AreNumbers course.now.h.now course.now.numbers.now }
+    requires { AreClassNumbers course.now.h.now course.now.numbers.now }
     ensures { GivesNext course.now false Body result }
 {
     let members = members_of(course.h, course.frame.part.class).len();
@@ -152,7 +152,7 @@ fn ended_body(course: &Course) -> Step
 
 /// What comes next.
 pub(crate) fn ended_step(course: &Course) -> Step
-    requires { AreNumbers course.now.h.now course.now.numbers.now }
+    requires { AreClassNumbers course.now.h.now course.now.numbers.now }
     ensures { GivesNext course.now false course.now.frame.stage result }
 {
     match course.frame.stage {

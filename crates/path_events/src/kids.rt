@@ -9,7 +9,7 @@ ghost use Rattle.cxx_hierarchy.specs.Declarations.{elements_of};
 ghost use Rattle.cxx_hierarchy.specs.Classes.{bases_of, members_of};
 ghost use Rattle.path_plan.specs.Places.{ObjectPart, base_part, shared_part, element};
 ghost use Rattle.path_plan.specs.Plans.{Form, InFull, AsBase, virtual_order};
-ghost use Rattle.path_numbers.specs.Numbers.{AreNumbers};
+ghost use Rattle.path_numbers.specs.Numbers.{AreClassNumbers};
 ghost use Rattle.path_events.specs.Frames.{StandsAs};
 
 use cxx_hierarchy::{Base, ClassId, Hierarchy, Member};
@@ -24,7 +24,7 @@ pub(crate) fn base_kid(
     i: usize,
     base: &Base<ClassId>,
 ) -> Part
-    requires numbers { AreNumbers h.now numbers.now }
+    requires numbers { AreClassNumbers h.now numbers.now }
     requires listed { slice_get (bases_of h.now part.class) i ≡ Some base.now }
     ensures part { (classes : List ClassId) (form : Form) (p : ObjectPart) → StandsAs h.now classes part form p → base.now.is_virtual ≡ false → StandsAs h.now classes result AsBase (base_part p base.now) }
     ensures class { result.class ≡ base.now.class }
@@ -40,7 +40,7 @@ pub(crate) fn base_kid(
 
 /// A virtual base of a complete object, by its place in their order.
 pub(crate) fn shared_kid(numbers: &Numbers, h: &Hierarchy, part: Part, j: usize, v: ClassId) -> Part
-    requires numbers { AreNumbers h.now numbers.now }
+    requires numbers { AreClassNumbers h.now numbers.now }
     requires listed { slice_get (virtual_order h.now part.class) j ≡ Some v }
     ensures part { (classes : List ClassId) (p : ObjectPart) → StandsAs h.now classes part InFull p → StandsAs h.now classes result AsBase (shared_part p v) }
     ensures class { result.class ≡ v }
@@ -65,7 +65,7 @@ pub(crate) fn element_kid(
     i: u32,
     d: ClassId,
 ) -> Part
-    requires numbers { AreNumbers h.now numbers.now }
+    requires numbers { AreClassNumbers h.now numbers.now }
     requires listed { slice_get (members_of h.now part.class) m ≡ Some member.now }
     requires object { member.now.ty ≡ Object d }
     requires within { i < elements_of member.now.count }

@@ -4,8 +4,8 @@ ghost use Rattle.std.specs.Prelude.{◌≡◌, ◌∷◌, List, Some, OnOk, IfOk
 ghost use Rattle.cxx_hierarchy.specs.declared.records.ClassId.{ClassId};
 ghost use Rattle.cxx_hierarchy.specs.Classes.{Classes};
 ghost use Rattle.cxx_program.specs.declared.program.TypedProgram.{TypedProgram};
-ghost use Rattle.path_plan.specs.Phases.{Event};
-ghost use Rattle.path_numbers.specs.Numbers.{AreNumbers};
+ghost use Rattle.path_plan.specs.Phases.{PartEvent};
+ghost use Rattle.path_numbers.specs.Numbers.{AreClassNumbers};
 ghost use Rattle.path_bodies.specs.Places.{IsIndexOf};
 ghost use Rattle.path_events.specs.Plans.{MeansNext, PlanStands, IsWholePlan};
 ghost use Rattle.path_events.specs.invariants.Steps.{GivesNext, first_event, first_stage, at_stage, event_in, stack_behind};
@@ -66,7 +66,7 @@ fn first_stage(is_building: bool) -> Stage
 
 /// What a part gives next.
 fn next_step(course: &Course, is_building: bool) -> Step
-    requires { AreNumbers course.now.h.now course.now.numbers.now }
+    requires { AreClassNumbers course.now.h.now course.now.numbers.now }
     ensures { GivesNext course.now is_building course.now.frame.stage result }
 {
     if is_building {
@@ -123,7 +123,7 @@ impl Plan {
 
     /// The upcoming event, and None where there is none.
     pub fn upcoming(&self) -> Option<PlanEvent>
-        ensures { (h : Classes) (program : TypedProgram) (classes : List ClassId) (events : List Event) → PlanStands h program classes self.now events → MeansNext h program classes result events }
+        ensures { (h : Classes) (program : TypedProgram) (classes : List ClassId) (events : List PartEvent) → PlanStands h program classes self.now events → MeansNext h program classes result events }
     {
         self.upcoming
     }
@@ -162,8 +162,8 @@ impl Plan {
         numbers: &Numbers,
         index: &BodyIndex,
     ) -> Result<(), NoMemory>
-        requires { AreNumbers h.now numbers.now }
-        ensures { IfOk result (λ _. (program : TypedProgram) (classes : List ClassId) (e : Event) (rest : List Event) → IsIndexOf program index.now → PlanStands h.now program classes self.old (e ∷ rest) → PlanStands h.now program classes self.new rest) }
+        requires { AreClassNumbers h.now numbers.now }
+        ensures { IfOk result (λ _. (program : TypedProgram) (classes : List ClassId) (e : PartEvent) (rest : List PartEvent) → IsIndexOf program index.now → PlanStands h.now program classes self.old (e ∷ rest) → PlanStands h.now program classes self.new rest) }
     {
         h.keeps();
         match self.stack.pop() {

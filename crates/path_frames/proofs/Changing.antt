@@ -8,9 +8,9 @@ use Rattle.cxx_program.specs.declared.program.TypedProgram.{TypedProgram}
 use Rattle.std.proofs.lemmas.List.Sums.{sum_by-append}
 use Rattle.foundation.proofs.Places.{get_front}
 use Rattle.path_model.specs.Values.{Value}
-use Rattle.path_model.specs.Effects.{made}
-use Rattle.path_model.specs.States.{State, Running, Frame, InBody, InPlan, with_local, with_local_in, with_frames, with_objects}
-use Rattle.path_model.specs.Runs.{heap_total, rounded, most_heap_bytes}
+use Rattle.path_model.specs.Effects.{with_new_object}
+use Rattle.path_model.specs.States.{ProgramState, RunningBody, Frame, InBody, InPlan, with_local, with_local_in, with_frames, with_objects}
+use Rattle.path_model.specs.Runs.{heap_total, size_in_heap, most_heap_bytes}
 use Rattle.path_heap.specs.declared.heap.Heap.{Heap}
 use Rattle.path_heap.specs.declared.state.Value.{Value as ValueCode}
 use Rattle.path_plan.specs.Whole.{whole_part}
@@ -21,9 +21,9 @@ use Rattle.path_frames.specs.declared.frames.BodyFrame.{BodyFrame}
 use Rattle.path_frames.specs.declared.frames.Frame.{Frame as FrameCode}
 use Rattle.path_frames.specs.declared.frames.Frame.TheVariants.{Body, Plan}
 use Rattle.path_frames.specs.declared.machine.Machine.{Machine}
-use Rattle.path_frames.specs.Frames.{target_of, BodyStands, FrameStands, FramesStand}
+use Rattle.path_frames.specs.Frames.{target_of_code, BodyStands, FrameStands, FramesStand}
 use Rattle.path_frames.specs.Machines.{MachineStands, stack}
-use Rattle.path_frames.specs.invariants.Changes.{IsSameBut}
+use Rattle.path_frames.specs.invariants.Changes.{DiffersInLocals}
 
 -- values
 
@@ -43,28 +43,28 @@ zip_more R S f (v ∷ xs) [] a = absurd a
 zip_more R S f (v ∷ xs) (w ∷ ys) a = (f v w a.0, zip_more R S f xs ys a.1)
 
 -- the local of a body
-pub local_set : (h : Classes) (classes : List ClassId) (code new : BodyFrame) (f : Running) (n : ℕ) (value : ValueCode) (v : Value) →
-    IsSameBut code new → new.locals.items ≡ slice_set code.locals.items n value → BodyStands h classes code f → Means h classes value v → BodyStands h classes new (with_local f n v)
+pub local_set : (h : Classes) (classes : List ClassId) (code new : BodyFrame) (f : RunningBody) (n : ℕ) (value : ValueCode) (v : Value) →
+    DiffersInLocals code new → new.locals.items ≡ slice_set code.locals.items n value → BodyStands h classes code f → Means h classes value v → BodyStands h classes new (with_local f n v)
 local_set h classes code new f n value v same is b m = record {
   same_owner = same.owner ∙ b.same_owner;
   this_means = subst (λ x. Means h classes x f.this) (sym same.this) b.this_means;
   locals_mean = subst (λ xs. AllZip (Means h classes) xs (slice_set f.locals n v)) (sym is) (zip_set (Means h classes) code.locals.items f.locals n value v b.locals_mean m);
   same_next = same.next ∙ b.same_next;
   same_found = same.found ∙ b.same_found;
-  same_target = ap target_of same.target ∙ b.same_target;
+  same_target = ap target_of_code same.target ∙ b.same_target;
   plain_main = b.plain_main;
 }
 
 -- the local of a body on top
 frames_set : (h : Classes) (program : TypedProgram) (classes : List ClassId) (code new : BodyFrame) (under : List FrameCode) (frames : List Frame) (n : ℕ) (value : ValueCode) (v : Value) →
-    IsSameBut code new → new.locals.items ≡ slice_set code.locals.items n value → FramesStand h program classes (Body code ∷ under) frames → Means h classes value v → FramesStand h program classes (Body new ∷ under) (with_local_in frames n v)
+    DiffersInLocals code new → new.locals.items ≡ slice_set code.locals.items n value → FramesStand h program classes (Body code ∷ under) frames → Means h classes value v → FramesStand h program classes (Body new ∷ under) (with_local_in frames n v)
 frames_set h program classes code new under [] n value v same is a m = absurd a
 frames_set h program classes code new under (InPlan f ∷ below) n value v same is a m = absurd a.0
 frames_set h program classes code new under (InBody f ∷ below) n value v same is (b, depth, rest) m = (local_set h classes code new f n value v same is b m, same.depth ∙ depth, rest)
 
 -- a local of a machine
-pub machine_local_set : (h : Classes) (sizes : ClassId → ℕ) (program : TypedProgram) (machine after : Machine) (code new : BodyFrame) (s : State) (n : ℕ) (value : ValueCode) (v : Value) → MachineStands h sizes program machine s → Means h s.objects.classes value v →
-    machine.top ≡ Some (Body code) → after.top ≡ Some (Body new) → IsSameBut code new → new.locals.items ≡ slice_set code.locals.items n value →
+pub machine_local_set : (h : Classes) (sizes : ClassId → ℕ) (program : TypedProgram) (machine after : Machine) (code new : BodyFrame) (s : ProgramState) (n : ℕ) (value : ValueCode) (v : Value) → MachineStands h sizes program machine s → Means h s.objects.classes value v →
+    machine.top ≡ Some (Body code) → after.top ≡ Some (Body new) → DiffersInLocals code new → new.locals.items ≡ slice_set code.locals.items n value →
     after.heap ≡ machine.heap → after.globals ≡ machine.globals → after.below ≡ machine.below → after.bytes ≡ machine.bytes →
     MachineStands h sizes program after (with_frames s (with_local_in s.frames n v))
 machine_local_set h sizes program machine after code new s n value v a m top new_top same is e1 e2 e3 e4 = record {
@@ -78,7 +78,7 @@ machine_local_set h sizes program machine after code new s n value v a m top new
 }
 
 -- a global of a machine
-pub global_set : (h : Classes) (sizes : ClassId → ℕ) (program : TypedProgram) (machine new : Machine) (s : State) (n : ℕ) (value : ValueCode) (v : Value) → MachineStands h sizes program machine s → Means h s.objects.classes value v →
+pub global_set : (h : Classes) (sizes : ClassId → ℕ) (program : TypedProgram) (machine new : Machine) (s : ProgramState) (n : ℕ) (value : ValueCode) (v : Value) → MachineStands h sizes program machine s → Means h s.objects.classes value v →
     new.heap ≡ machine.heap → new.globals.items ≡ slice_set machine.globals.items n value → new.top ≡ machine.top → new.below ≡ machine.below → new.bytes ≡ machine.bytes →
     MachineStands h sizes program new (record { objects = s.objects; globals = slice_set s.globals n v; frames = s.frames })
 global_set h sizes program machine new s n value v a m e1 e2 e3 e4 e5 = record {
@@ -113,17 +113,17 @@ frames_grown h program classes c (code ∷ under) (f ∷ below) (a, depth, rest)
 none_before : (n : ℕ) → 0 + n ≡ n
 none_before n = omega arith
 
-total_grown : (sizes : ClassId → ℕ) (classes : List ClassId) (c : ClassId) → heap_total sizes (classes ++ c ∷ []) ≡ heap_total sizes classes + rounded (sizes c)
-total_grown sizes classes c = sum_by-append (λ x. rounded (sizes x)) classes (c ∷ []) ∙ ap (λ x. heap_total sizes classes + x) (none_before (rounded (sizes c)))
+total_grown : (sizes : ClassId → ℕ) (classes : List ClassId) (c : ClassId) → heap_total sizes (classes ++ c ∷ []) ≡ heap_total sizes classes + size_in_heap (sizes c)
+total_grown sizes classes c = sum_by-append (λ x. size_in_heap (sizes x)) classes (c ∷ []) ∙ ap (λ x. heap_total sizes classes + x) (none_before (size_in_heap (sizes c)))
 
-pub object_made : (h : Classes) (sizes : ClassId → ℕ) (program : TypedProgram) (machine : Machine) (heap : Heap) (s : State) (c : ClassId) (size bytes : ℕ) → sizes c ≡ size → MachineStands h sizes program machine s → HeapStands h heap (made s.objects c) →
-    bytes ≡ rounded size → machine.bytes + bytes ≤ most_heap_bytes →
-    MachineStands h sizes program (record { heap = heap; globals = machine.globals; top = machine.top; below = machine.below; bytes = machine.bytes + bytes }) (with_objects s (made s.objects c))
+pub object_made : (h : Classes) (sizes : ClassId → ℕ) (program : TypedProgram) (machine : Machine) (heap : Heap) (s : ProgramState) (c : ClassId) (size bytes : ℕ) → sizes c ≡ size → MachineStands h sizes program machine s → HeapStands h heap (with_new_object s.objects c) →
+    bytes ≡ size_in_heap size → machine.bytes + bytes ≤ most_heap_bytes →
+    MachineStands h sizes program (record { heap = heap; globals = machine.globals; top = machine.top; below = machine.below; bytes = machine.bytes + bytes }) (with_objects s (with_new_object s.objects c))
 object_made h sizes program machine heap s c size bytes of_class a stands is room = record {
   heap_stands = stands;
   globals_mean = zip_grown h s.objects.classes c machine.globals.items s.globals a.globals_mean;
   frames_stand = frames_grown h program s.objects.classes c (stack machine.top machine.below.items) s.frames a.frames_stand;
   none_below = a.none_below;
-  bytes_are = ap (λ x. x + bytes) a.bytes_are ∙ (ap (λ x. heap_total sizes s.objects.classes + x) (is ∙ ap rounded (sym of_class)) ∙ sym (total_grown sizes s.objects.classes c));
+  bytes_are = ap (λ x. x + bytes) a.bytes_are ∙ (ap (λ x. heap_total sizes s.objects.classes + x) (is ∙ ap size_in_heap (sym of_class)) ∙ sym (total_grown sizes s.objects.classes c));
   few_bytes = room;
 }

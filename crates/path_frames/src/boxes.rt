@@ -3,11 +3,11 @@
 ghost use Rattle.std.specs.Prelude.{◌≡◌, ◌∷◌, slice_set, List, IfOk};
 ghost use Rattle.cxx_hierarchy.specs.declared.records.ClassId.{ClassId};
 ghost use Rattle.cxx_program.specs.declared.program.TypedProgram.{TypedProgram};
-ghost use Rattle.path_plan.specs.Phases.{Event};
-ghost use Rattle.path_numbers.specs.Numbers.{AreNumbers};
+ghost use Rattle.path_plan.specs.Phases.{PartEvent};
+ghost use Rattle.path_numbers.specs.Numbers.{AreClassNumbers};
 ghost use Rattle.path_bodies.specs.Places.{IsIndexOf};
 ghost use Rattle.path_events.specs.Plans.{PlanStands};
-ghost use Rattle.path_frames.specs.invariants.Changes.{IsSameBut, at_next, with_plan};
+ghost use Rattle.path_frames.specs.invariants.Changes.{DiffersInLocals, at_next, with_plan};
 
 use crate::frames::{BodyFrame, PlanFrame};
 use crate::lists::set;
@@ -60,7 +60,7 @@ impl BodyBox {
 
     /// A local takes a value.
     pub fn put_local(&mut self, n: usize, value: Value)
-        ensures same { IsSameBut self.old self.new }
+        ensures same { DiffersInLocals self.old self.new }
         ensures locals { self.new.locals.items ≡ slice_set self.old.locals.items n value }
     {
         set(&mut self.it.locals, n, value);
@@ -108,9 +108,9 @@ impl PlanBox {
         numbers: &Numbers,
         index: &BodyIndex,
     ) -> Result<(), NoMemory>
-        requires { AreNumbers h.now numbers.now }
+        requires { AreClassNumbers h.now numbers.now }
         ensures same { IfOk result (λ _. self.new ≡ with_plan self.old self.new.plan) }
-        ensures plan { IfOk result (λ _. (program : TypedProgram) (classes : List ClassId) (e : Event) (rest : List Event) → IsIndexOf program index.now → PlanStands h.now program classes self.old.plan (e ∷ rest) → PlanStands h.now program classes self.new.plan rest) }
+        ensures plan { IfOk result (λ _. (program : TypedProgram) (classes : List ClassId) (e : PartEvent) (rest : List PartEvent) → IsIndexOf program index.now → PlanStands h.now program classes self.old.plan (e ∷ rest) → PlanStands h.now program classes self.new.plan rest) }
     {
         let frame = &mut *self.it;
         frame.plan.advance(h, numbers, index)?;

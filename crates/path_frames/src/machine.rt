@@ -5,11 +5,11 @@ ghost use Rattle.cxx_hierarchy.specs.declared.records.ClassId.{ClassId};
 ghost use Rattle.cxx_hierarchy.specs.Classes.{Classes};
 ghost use Rattle.cxx_program.specs.declared.program.TypedProgram.{TypedProgram};
 ghost use Rattle.path_model.specs.Values.{Value as ValueOf};
-ghost use Rattle.path_model.specs.States.{State, assigned, with_frames, with_objects, with_local_in};
+ghost use Rattle.path_model.specs.States.{ProgramState, assigned, with_frames, with_objects, with_local_in};
 ghost use Rattle.path_plan.specs.Whole.{whole_part};
-ghost use Rattle.path_numbers.specs.Numbers.{AreNumbers};
-ghost use Rattle.path_model.specs.Effects.{made};
-ghost use Rattle.path_model.specs.Runs.{open_count, rounded, heap_total, most_heap_bytes};
+ghost use Rattle.path_numbers.specs.Numbers.{AreClassNumbers};
+ghost use Rattle.path_model.specs.Effects.{with_new_object};
+ghost use Rattle.path_model.specs.Runs.{open_count, size_in_heap, heap_total, most_heap_bytes};
 ghost use Rattle.path_heap.specs.Points.{Points};
 ghost use Rattle.path_heap.specs.Stands.{Means};
 ghost use Rattle.path_frames.specs.Machines.{MachineStands, PushesFrame};
@@ -42,7 +42,7 @@ pub struct Machine {
 impl Machine {
     /// How many calls, `new` and `delete` are open.
     pub fn depth(&self) -> u32
-        ensures { (h : Classes) (sizes : ClassId → ℕ) (program : TypedProgram) (s : State) → MachineStands h sizes program self.now s → result ≡ open_count s.frames }
+        ensures { (h : Classes) (sizes : ClassId → ℕ) (program : TypedProgram) (s : ProgramState) → MachineStands h sizes program self.now s → result ≡ open_count s.frames }
     {
         match &self.top {
             Some(frame) => frame.depth(),
@@ -64,7 +64,7 @@ impl Machine {
 
     /// Takes the frame on top, if there is one.
     pub fn pop(&mut self) -> Option<Frame>
-        ensures { (h : Classes) (sizes : ClassId → ℕ) (program : TypedProgram) (s : State) → MachineStands h sizes program self.old s → Pops h sizes program self.new s result s.frames }
+        ensures { (h : Classes) (sizes : ClassId → ℕ) (program : TypedProgram) (s : ProgramState) → MachineStands h sizes program self.old s → Pops h sizes program self.new s result s.frames }
     {
         let top = self.top.take();
         self.top = self.below.pop();
@@ -73,7 +73,7 @@ impl Machine {
 
     /// A local of the body on top takes a value.
     fn set_local(&mut self, n: usize, value: Value)
-        ensures { (h : Classes) (sizes : ClassId → ℕ) (program : TypedProgram) (s : State) (v : ValueOf) → MachineStands h sizes program self.old s → Means h s.objects.classes value v → MachineStands h sizes program self.new (with_frames s (with_local_in s.frames n v)) }
+        ensures { (h : Classes) (sizes : ClassId → ℕ) (program : TypedProgram) (s : ProgramState) (v : ValueOf) → MachineStands h sizes program self.old s → Means h s.objects.classes value v → MachineStands h sizes program self.new (with_frames s (with_local_in s.frames n v)) }
     {
         if let Some(Frame::Body(frame)) = &mut self.top {
             frame.put_local(n, value);
@@ -82,7 +82,7 @@ impl Machine {
 
     /// A variable takes a value: a global, or a local of the body on top.
     pub fn assign(&mut self, variable: Variable, value: Value)
-        ensures { (h : Classes) (sizes : ClassId → ℕ) (program : TypedProgram) (s : State) (v : ValueOf) → MachineStands h sizes program self.old s → Means h s.objects.classes value v → MachineStands h sizes program self.new (assigned s variable v) }
+        ensures { (h : Classes) (sizes : ClassId → ℕ) (program : TypedProgram) (s : ProgramState) (v : ValueOf) → MachineStands h sizes program self.old s → Means h s.objects.classes value v → MachineStands h sizes program self.new (assigned s variable v) }
     {
         match variable {
             Variable::Global(n) => set(&mut self.globals, n, value),
@@ -92,8 +92,8 @@ impl Machine {
 
     /// Whether one more object of a size, in bytes, is more than the heap holds (64 MiB).
     pub fn is_full(&self, size: u32) -> bool
-        ensures is { (h : Classes) (sizes : ClassId → ℕ) (program : TypedProgram) (s : State) → MachineStands h sizes program self.now s → result ≡ nat_lt most_heap_bytes (heap_total sizes s.objects.classes + rounded size) }
-        ensures room { result ≡ false → self.now.bytes + rounded size ≤ most_heap_bytes }
+        ensures is { (h : Classes) (sizes : ClassId → ℕ) (program : TypedProgram) (s : ProgramState) → MachineStands h sizes program self.now s → result ≡ nat_lt most_heap_bytes (heap_total sizes s.objects.classes + size_in_heap size) }
+        ensures room { result ≡ false → self.now.bytes + size_in_heap size ≤ most_heap_bytes }
     {
         self.bytes.saturating_add(rounded(size)) > MOST_HEAP_BYTES
     }
@@ -103,9 +103,9 @@ impl Machine {
     /// Errors: want of memory. The machine is then of no use.
     pub fn make(&mut self, numbers: &Numbers, c: ClassId, size: u32) -> Result<u32, NoMemory>
         requires known { c.0 < length numbers.now }
-        requires room { self.old.bytes + rounded size ≤ most_heap_bytes }
-        ensures stands { IfOk result (λ n. (h : Classes) (sizes : ClassId → ℕ) (program : TypedProgram) (s : State) → AreNumbers h numbers.now → sizes c ≡ size → MachineStands h sizes program self.old s → MachineStands h sizes program self.new (with_objects s (made s.objects c))) }
-        ensures whole { IfOk result (λ n. (h : Classes) (sizes : ClassId → ℕ) (program : TypedProgram) (s : State) → AreNumbers h numbers.now → MachineStands h sizes program self.old s → Points h (made s.objects c).classes n (whole_part (length s.objects.classes) c)) }
+        requires room { self.old.bytes + size_in_heap size ≤ most_heap_bytes }
+        ensures stands { IfOk result (λ n. (h : Classes) (sizes : ClassId → ℕ) (program : TypedProgram) (s : ProgramState) → AreClassNumbers h numbers.now → sizes c ≡ size → MachineStands h sizes program self.old s → MachineStands h sizes program self.new (with_objects s (with_new_object s.objects c))) }
+        ensures whole { IfOk result (λ n. (h : Classes) (sizes : ClassId → ℕ) (program : TypedProgram) (s : ProgramState) → AreClassNumbers h numbers.now → MachineStands h sizes program self.old s → Points h (with_new_object s.objects c).classes n (whole_part (length s.objects.classes) c)) }
     {
         let n = self.heap.make(numbers, c)?;
         self.bytes += rounded(size);

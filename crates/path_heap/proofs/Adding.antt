@@ -20,7 +20,7 @@ use Rattle.path_numbers.proofs.Sized.{sizes_are}
 use Rattle.path_numbers.proofs.Leaves.{leaf_own}
 use Rattle.path_numbers.proofs.Heap.{at_within, at_range, at_object, before_more}
 use Rattle.path_model.specs.Values.{Value, Unset, Leaf, Objects}
-use Rattle.path_model.specs.Effects.{made}
+use Rattle.path_model.specs.Effects.{with_new_object}
 use Rattle.path_heap.specs.declared.state.Value.TheVariants.{Unset as UnsetCode}
 use Rattle.path_heap.specs.declared.heap.Heap.{Heap}
 use Rattle.path_heap.specs.Blanks.{no_cell}
@@ -76,11 +76,11 @@ size_new h classes c xs ys x size have is e =
 is_new_object : (k n : ℕ) → k ≡ n → nat_eq k n ≡ true
 is_new_object k n e = eq-eqb k n e
 
-cell_made : (h : Classes) (heap new : Heap) (s : Objects) → HeapStands h heap s → (c : ClassId) (size start : ℕ) → size ≡ sizes_of h InFull c → Made heap new c size start → (y : Node) → IsAt h (sizes_of h) (s.classes ++ c ∷ []) y → CellStands h (made s c) new.cells.items y
+cell_made : (h : Classes) (heap new : Heap) (s : Objects) → HeapStands h heap s → (c : ClassId) (size start : ℕ) → size ≡ sizes_of h InFull c → Made heap new c size start → (y : Node) → IsAt h (sizes_of h) (s.classes ++ c ∷ []) y → CellStands h (with_new_object s c) new.cells.items y
 cell_made h heap new s stands c size start is did y at = ⊎_elim
     (λ before.
     let old = stands.cells y before in
-    let as_before : (made s c).phases.phase y.part ≡ s.phases.phase y.part = ap (λ b. if b then Raw else s.phases.phase y.part) (part_before h s.classes y before) in
+    let as_before : (with_new_object s c).phases.phase y.part ≡ s.phases.phase y.part = ap (λ b. if b then Raw else s.phases.phase y.part) (part_before h s.classes y before) in
     record {
       cell = old.cell;
       listed = ap (λ t. slice_get t y.number) did.cells ∙ get_front heap.cells.items (replicate size no_cell) y.number old.cell old.listed;
@@ -89,7 +89,7 @@ cell_made h heap new s stands c size start is did y at = ⊎_elim
       owner = λ begun. owner_more h s.classes c y old.cell.whole old.cell.owner (old.owner (λ raw. begun (as_before ∙ raw)));
     })
     (λ object.
-    let raw : (made s c).phases.phase y.part ≡ Raw = ap (λ b. if b then Raw else s.phases.phase y.part) (is_new_object y.part.object (length s.classes) object) in
+    let raw : (with_new_object s c).phases.phase y.part ≡ Raw = ap (λ b. if b then Raw else s.phases.phase y.part) (is_new_object y.part.object (length s.classes) object) in
     record {
       cell = no_cell;
       listed = ap (λ t. slice_get t y.number) did.cells ∙ item_new h s.classes c heap.cells.items no_cell size y.number stands.counts.cells is (number_new h stands.hierarchy s.classes c y at object);
@@ -99,11 +99,11 @@ cell_made h heap new s stands c size start is did y at = ⊎_elim
     })
     (old_or_new h s.classes c y at)
 
-leaf_made : (h : Classes) (heap new : Heap) (s : Objects) → HeapStands h heap s → (c : ClassId) (size start : ℕ) → size ≡ sizes_of h InFull c → Made heap new c size start → (n : ℕ) (l : Leaf) → PointsLeaf h (s.classes ++ c ∷ []) n l → LeafStands h (made s c) new.leaves.items n l
+leaf_made : (h : Classes) (heap new : Heap) (s : Objects) → HeapStands h heap s → (c : ClassId) (size start : ℕ) → size ≡ sizes_of h InFull c → Made heap new c size start → (n : ℕ) (l : Leaf) → PointsLeaf h (s.classes ++ c ∷ []) n l → LeafStands h (with_new_object s c) new.leaves.items n l
 leaf_made h heap new s stands c size start is did n l q = ⊎_elim
     (λ before.
     let old = stands.leaves n l (record { node = q.node; at = before; is_part = q.is_part; leaf = q.leaf }) in
-    let as_before : (made s c).leaf l ≡ s.leaf l = ap (λ (t : ObjectPart). if nat_eq t.object (length s.classes) then Unset else s.leaf l) (sym q.is_part) ∙ ap (λ b. if b then Unset else s.leaf l) (part_before h s.classes q.node before) in
+    let as_before : (with_new_object s c).leaf l ≡ s.leaf l = ap (λ (t : ObjectPart). if nat_eq t.object (length s.classes) then Unset else s.leaf l) (sym q.is_part) ∙ ap (λ b. if b then Unset else s.leaf l) (part_before h s.classes q.node before) in
     record {
       value = old.value;
       listed = ap (λ t. slice_get t n) did.leaves ∙ get_front heap.leaves.items (replicate size UnsetCode) n old.value old.listed;
@@ -111,7 +111,7 @@ leaf_made h heap new s stands c size start is did n l q = ⊎_elim
     })
     (λ object.
     let own = leaf_own h (sizes_of h) (sizes_are h stands.hierarchy) q.node l.member l.index n q.leaf in
-    let raw : (made s c).leaf l ≡ Unset = ap (λ b. if b then Unset else s.leaf l) (is_new_object l.part.object (length s.classes) (ap (λ (t : ObjectPart). t.object) (sym q.is_part) ∙ object)) in
+    let raw : (with_new_object s c).leaf l ≡ Unset = ap (λ b. if b then Unset else s.leaf l) (is_new_object l.part.object (length s.classes) (ap (λ (t : ObjectPart). t.object) (sym q.is_part) ∙ object)) in
     record {
       value = UnsetCode;
       listed = ap (λ t. slice_get t n) did.leaves ∙ item_new h s.classes c heap.leaves.items UnsetCode size n stands.counts.leaves is (range_new h stands.hierarchy s.classes c q.node q.at object n own.low own.high);
@@ -119,7 +119,7 @@ leaf_made h heap new s stands c size start is did n l q = ⊎_elim
     })
     (old_or_new h s.classes c q.node q.at)
 
-row_made : (h : Classes) (heap new : Heap) (s : Objects) → HeapStands h heap s → (c : ClassId) (size start : ℕ) → Made heap new c size start → (k : ℕ) (d : ClassId) → slice_get (s.classes ++ c ∷ []) k ≡ Some d → ObjectStands h (made s c) new.objects.items k d
+row_made : (h : Classes) (heap new : Heap) (s : Objects) → HeapStands h heap s → (c : ClassId) (size start : ℕ) → Made heap new c size start → (k : ℕ) (d : ClassId) → slice_get (s.classes ++ c ∷ []) k ≡ Some d → ObjectStands h (with_new_object s c) new.objects.items k d
 row_made h heap new s stands c size start did k d listed = ⊎_elim
     (λ before.
     let o = stands.objects k d before in
@@ -139,27 +139,27 @@ row_made h heap new s stands c size start did k d listed = ⊎_elim
     })
     (get_pushed s.classes c k d listed)
 
-views_made : (h : Classes) (heap new : Heap) (s : Objects) → HeapStands h heap s → (c : ClassId) (size start : ℕ) → size ≡ sizes_of h InFull c → Made heap new c size start → ViewsStand h (s.classes ++ c ∷ []) (made s c).phases new.tops.items new.around.items
+views_made : (h : Classes) (heap new : Heap) (s : Objects) → HeapStands h heap s → (c : ClassId) (size start : ℕ) → size ≡ sizes_of h InFull c → Made heap new c size start → ViewsStand h (s.classes ++ c ∷ []) (with_new_object s c).phases new.tops.items new.around.items
 views_made h heap new s stands c size start is did = record {
-  running = λ k o. split (nat_eq k (length s.classes)) (λ b. AreRunning (made s c).phases.phase k o (if b then [] else s.phases.running k o))
+  running = λ k o. split (nat_eq k (length s.classes)) (λ b. AreRunning (with_new_object s c).phases.phase k o (if b then [] else s.phases.running k o))
       (λ e. tt)
       (λ e. running_renewed s.phases.phase (length s.classes) k o (s.phases.running k o) e (stands.views.running k o));
   stacks = λ w at full.
-      subst (λ (t : List (Option ℕ)). StackStands h (s.classes ++ c ∷ []) t w.part.object w.part.owner (entry_at new.tops.items w.number) ((made s c).phases.running w.part.object w.part.owner)) (sym did.around)
-      (subst (λ (t : List (Option ℕ)). StackStands h (s.classes ++ c ∷ []) (heap.around.items ++ replicate size None) w.part.object w.part.owner (entry_at t w.number) ((made s c).phases.running w.part.object w.part.owner)) (sym did.tops)
+      subst (λ (t : List (Option ℕ)). StackStands h (s.classes ++ c ∷ []) t w.part.object w.part.owner (entry_at new.tops.items w.number) ((with_new_object s c).phases.running w.part.object w.part.owner)) (sym did.around)
+      (subst (λ (t : List (Option ℕ)). StackStands h (s.classes ++ c ∷ []) (heap.around.items ++ replicate size None) w.part.object w.part.owner (entry_at t w.number) ((with_new_object s c).phases.running w.part.object w.part.owner)) (sym did.tops)
       (⊎_elim
       (λ before.
       let lt : w.number < length heap.tops.items = subst (λ m. w.number < m) (sym stands.counts.tops) (at_less h stands.hierarchy s.classes w before) in
-      subst (λ n. StackStands h (s.classes ++ c ∷ []) (heap.around.items ++ replicate size None) w.part.object w.part.owner n ((made s c).phases.running w.part.object w.part.owner)) (sym (ap entry_in (get_kept heap.tops.items (replicate size None) w.number lt)))
+      subst (λ n. StackStands h (s.classes ++ c ∷ []) (heap.around.items ++ replicate size None) w.part.object w.part.owner n ((with_new_object s c).phases.running w.part.object w.part.owner)) (sym (ap entry_in (get_kept heap.tops.items (replicate size None) w.number lt)))
       (subst (λ (b : Bool). StackStands h (s.classes ++ c ∷ []) (heap.around.items ++ replicate size None) w.part.object w.part.owner (entry_at heap.tops.items w.number) (if b then [] else s.phases.running w.part.object w.part.owner)) (sym (part_before h s.classes w before))
       (stack_more h stands.hierarchy s.classes c heap.around.items (replicate size None) stands.counts.around w.part.object w.part.owner (entry_at heap.tops.items w.number) (s.phases.running w.part.object w.part.owner) (stands.views.stacks w before full))))
       (λ object.
-      subst (λ n. StackStands h (s.classes ++ c ∷ []) (heap.around.items ++ replicate size None) w.part.object w.part.owner n ((made s c).phases.running w.part.object w.part.owner)) (sym (ap entry_in (item_new h s.classes c heap.tops.items None size w.number stands.counts.tops is (number_new h stands.hierarchy s.classes c w at object))))
+      subst (λ n. StackStands h (s.classes ++ c ∷ []) (heap.around.items ++ replicate size None) w.part.object w.part.owner n ((with_new_object s c).phases.running w.part.object w.part.owner)) (sym (ap entry_in (item_new h s.classes c heap.tops.items None size w.number stands.counts.tops is (number_new h stands.hierarchy s.classes c w at object))))
       (subst (λ (b : Bool). StackStands h (s.classes ++ c ∷ []) (heap.around.items ++ replicate size None) w.part.object w.part.owner None (if b then [] else s.phases.running w.part.object w.part.owner)) (sym (is_new_object w.part.object (length s.classes) object)) tt))
       (old_or_new h s.classes c w at)));
 }
 
-pub made_stands : (h : Classes) (heap new : Heap) (s : Objects) → HeapStands h heap s → (c : ClassId) (size start : ℕ) → size ≡ sizes_of h InFull c → Made heap new c size start → HeapStands h new (made s c)
+pub made_stands : (h : Classes) (heap new : Heap) (s : Objects) → HeapStands h heap s → (c : ClassId) (size start : ℕ) → size ≡ sizes_of h InFull c → Made heap new c size start → HeapStands h new (with_new_object s c)
 made_stands h heap new s stands c size start is did = record {
   hierarchy = stands.hierarchy;
   cells = λ y at. cell_made h heap new s stands c size start is did y at;

@@ -23,7 +23,7 @@ use Rattle.path_model.specs.Rules.{is_in_heap_object}
 use Rattle.path_heap.specs.declared.state.Cell.{Cell}
 use Rattle.path_heap.specs.declared.state.ObjectRow.{ObjectRow}
 use Rattle.path_heap.specs.declared.heap.Heap.{Heap}
-use Rattle.path_heap.specs.Points.{Points, PointsWhole, IsOwner, IsPart}
+use Rattle.path_heap.specs.Points.{Points, PointsWhole, HasOwner, StandsForPart}
 use Rattle.path_heap.specs.Stands.{phase_of, HasBegun, HeapStands}
 use Rattle.path_heap.specs.invariants.Columns.{cell_or, cell_at, row_or, row_at}
 use Rattle.path_heap.specs.invariants.Cuts.{IsObjectAt}
@@ -48,9 +48,9 @@ pub class_told : (h : Classes) (heap : Heap) (s : Objects) → HeapStands h heap
 class_told h heap s stands n p q begun cell is =
     ap (λ (t : ObjectPart). class_of t.at) (sym q.is_part) ∙ ((at_good h (sizes_of h) s.classes q.node q.at).class ∙ ap (λ (t : ClassId). Some t) (sym (class_node h heap s stands n p q begun cell is)))
 
-pub owner_told : (h : Classes) (heap : Heap) (s : Objects) → HeapStands h heap s → (n : ℕ) (p : ObjectPart) (q : Points h s.classes n p) → HasBegun s p → (cell : Cell) → cell ≡ cell_at heap n → IsOwner h s.classes q.node cell.whole cell.owner
+pub owner_told : (h : Classes) (heap : Heap) (s : Objects) → HeapStands h heap s → (n : ℕ) (p : ObjectPart) (q : Points h s.classes n p) → HasBegun s p → (cell : Cell) → cell ≡ cell_at heap n → HasOwner h s.classes q.node cell.whole cell.owner
 owner_told h heap s stands n p q begun cell is =
-    subst (λ (t : Cell). IsOwner h s.classes q.node t.whole t.owner) (sym (found h heap s stands n p q cell is)) ((stands.cells q.node q.at).owner (begun_at s p q.node.part q.is_part begun))
+    subst (λ (t : Cell). HasOwner h s.classes q.node t.whole t.owner) (sym (found h heap s stands n p q cell is)) ((stands.cells q.node q.at).owner (begun_at s p q.node.part q.is_part begun))
 
 pub whole_told : (h : Classes) (heap : Heap) (s : Objects) → HeapStands h heap s → (n : ℕ) (p : ObjectPart) → Points h s.classes n p → HasBegun s p → (cell : Cell) → cell ≡ cell_at heap n → PointsWhole h s.classes cell.whole p
 whole_told h heap s stands n p q begun cell is =
@@ -82,7 +82,7 @@ pub whole_class : (h : Classes) (classes : List ClassId) (w : Node) → IsAt h (
 whole_class h classes w at full = class_under h classes w (root_at (sizes_of h) classes at.object at.class) (root_good (sizes_of h) classes at.object at.class) (λ f. at.listed) at.under full
 
 -- that of the owner of a part
-pub class_of_whole : (h : Classes) (s : Objects) (y : Node) (whole : ℕ) (owner : ClassId) → IsOwner h s.classes y whole owner → class_of_owner h s y.part ≡ Some owner
+pub class_of_whole : (h : Classes) (s : Objects) (y : Node) (whole : ℕ) (owner : ClassId) → HasOwner h s.classes y whole owner → class_of_owner h s y.part ≡ Some owner
 class_of_whole h s y whole owner o =
     ap (λ k. owner_class h s.classes k y.part.owner) (sym o.same_object) ∙ (ap (λ t. owner_class h s.classes o.node.part.object t) (sym o.same_owner) ∙ (whole_class h s.classes o.node o.at o.full ∙ ap (λ (t : ClassId). Some t) o.is_class))
 
@@ -133,7 +133,7 @@ object_class_told h heap s stands n p q k found row row_is =
 
 -- a part that has begun, by its cell
 pub part_told : (h : Classes) (heap : Heap) (s : Objects) → HeapStands h heap s → (n : ℕ) (p : ObjectPart) → Points h s.classes n p → HasBegun s p → (cell : Cell) → cell ≡ cell_at heap n
-    → IsPart h s.classes (record { number = n; class = cell.class; whole = cell.whole; owner = cell.owner }) p
+    → StandsForPart h s.classes (record { number = n; class = cell.class; whole = cell.whole; owner = cell.owner }) p
 part_told h heap s stands n p q begun cell is =
     record {
       node = q.node;

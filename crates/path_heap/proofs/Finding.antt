@@ -16,26 +16,26 @@ use Rattle.path_heap.specs.declared.state.ObjectRow.{ObjectRow}
 use Rattle.path_heap.specs.declared.heap.Heap.{Heap}
 use Rattle.path_heap.specs.Points.{Points}
 use Rattle.path_heap.specs.Stands.{HeapStands}
-use Rattle.path_heap.specs.invariants.Cuts.{IsBefore, IsBehind, IsObjectAt}
+use Rattle.path_heap.specs.invariants.Cuts.{BeginsBefore, BeginsBehind, IsObjectAt}
 
 -- the row that is read at a place
 same_row : (rows : List ObjectRow) (i : ℕ) (r row : ObjectRow) → i < length rows → r ≡ slice_index_or rows i r → slice_get rows i ≡ Some row → row ≡ r
 same_row rows i r row lt read at = let e = get_read rows i r lt read in cc (e, at)
 
-pub before_read : (rows : List ObjectRow) (n i : ℕ) (r : ObjectRow) → i < length rows → r ≡ slice_index_or rows i r → r.start ≤ n → IsBefore rows n (i + 1)
+pub before_read : (rows : List ObjectRow) (n i : ℕ) (r : ObjectRow) → i < length rows → r ≡ slice_index_or rows i r → r.start ≤ n → BeginsBefore rows n (i + 1)
 before_read rows n i r lt read le = λ j row e at.
     let here : j ≡ i = omega arith in
     let same = same_row rows i r row lt read (ap (slice_get rows) (sym here) ∙ at) in
     let f : row.start ≡ r.start = ap (λ (t : ObjectRow). t.start) same in omega arith
 
-pub behind_read : (rows : List ObjectRow) (n i : ℕ) (r : ObjectRow) → i < length rows → r ≡ slice_index_or rows i r → n < r.start → IsBehind rows n i
+pub behind_read : (rows : List ObjectRow) (n i : ℕ) (r : ObjectRow) → i < length rows → r ≡ slice_index_or rows i r → n < r.start → BeginsBehind rows n i
 behind_read rows n i r lt read less = λ row at.
     let f : row.start ≡ r.start = ap (λ (t : ObjectRow). t.start) (same_row rows i r row lt read at) in omega arith
 
-pub before_none : (rows : List ObjectRow) (n : ℕ) → IsBefore rows n 0
+pub before_none : (rows : List ObjectRow) (n : ℕ) → BeginsBefore rows n 0
 before_none rows n = λ j row e at. absurd (omega arith)
 
-pub behind_all : (rows : List ObjectRow) (n i : ℕ) → length rows ≤ i → IsBehind rows n i
+pub behind_all : (rows : List ObjectRow) (n i : ℕ) → length rows ≤ i → BeginsBehind rows n i
 behind_all rows n i le = λ row at. absurd (let lt = slice_get_within rows i row at in omega arith)
 
 -- where a row begins

@@ -19,7 +19,7 @@ use Rattle.path_numbers.proofs.Heap.{at_more, at_object, before_more}
 use Rattle.path_model.specs.Values.{Value, Unset, Number, Null, Pointer}
 use Rattle.path_heap.specs.declared.state.Value.{Value as ValueCode}
 use Rattle.path_heap.specs.declared.state.Value.TheVariants.{Unset as UnsetCode, Number as NumberCode, Null as NullCode, Pointer as PointerCode}
-use Rattle.path_heap.specs.Points.{Points, IsOwner}
+use Rattle.path_heap.specs.Points.{Points, HasOwner}
 use Rattle.path_heap.specs.Running.{entry_in, entry_at, AreRunning, StackStands}
 use Rattle.path_heap.specs.Stands.{Means}
 use Rattle.path_heap.proofs.Viewing.{at_less}
@@ -54,7 +54,7 @@ part_before h classes y a = ap (λ k. nat_eq k (length classes)) (at_object h (s
 pub points_more : (h : Classes) (classes : List ClassId) (c : ClassId) (n : ℕ) (p : ObjectPart) → Points h classes n p → Points h (classes ++ c ∷ []) n p
 points_more h classes c n p q = record { node = q.node; at = at_more h (sizes_of h) classes c q.node q.at; is_part = q.is_part; is_number = q.is_number }
 
-pub owner_more : (h : Classes) (classes : List ClassId) (c : ClassId) (y : Node) (whole : ℕ) (owner : ClassId) → IsOwner h classes y whole owner → IsOwner h (classes ++ c ∷ []) y whole owner
+pub owner_more : (h : Classes) (classes : List ClassId) (c : ClassId) (y : Node) (whole : ℕ) (owner : ClassId) → HasOwner h classes y whole owner → HasOwner h (classes ++ c ∷ []) y whole owner
 owner_more h classes c y whole owner o = record {
   node = o.node;
   at = at_more h (sizes_of h) classes c o.node o.at;

@@ -8,7 +8,7 @@ use Rattle.cxx_hierarchy.specs.declared.records.ClassId.{ClassId}
 use Rattle.cxx_hierarchy.specs.Classes.{Classes}
 use Rattle.cxx_subobject.specs.declared.Subobject.{Subobject}
 use Rattle.path_plan.specs.Places.{Step, ObjectPart}
-use Rattle.path_plan.specs.Phases.{put, pushed, is_running}
+use Rattle.path_plan.specs.Phases.{put, with_pushed_part, is_running}
 use Rattle.path_plan.specs.Phases as Plan
 use Rattle.path_plan.specs.Plans.{InFull}
 use Rattle.path_plan.proofs.Same.{put_same, put_other}
@@ -23,7 +23,7 @@ use Rattle.path_heap.specs.declared.state.Cell.{Cell}
 use Rattle.path_heap.specs.declared.state.ObjectRow.{ObjectRow}
 use Rattle.path_heap.specs.declared.state.Part.{Part}
 use Rattle.path_heap.specs.declared.heap.Heap.{Heap}
-use Rattle.path_heap.specs.Points.{IsPart, IsOwner}
+use Rattle.path_heap.specs.Points.{StandsForPart, HasOwner}
 use Rattle.path_heap.specs.Running.{entry_at, ViewsStand}
 use Rattle.path_heap.specs.Stands.{phase_of, CellStands, ObjectStands, HeapStands}
 use Rattle.path_heap.specs.invariants.Columns.{marked_cell, Marked, Entered}
@@ -35,7 +35,7 @@ abbrev pub turned : Objects → ObjectPart → Plan.Phase → (ℕ → List Step
 turned s p x running closed = record { classes = s.classes; is_closed = closed; phases = record { phase = put s.phases.phase p x; running = running }; leaf = s.leaf }
 
 -- the column of cells
-cell_marked : (h : Classes) (heap : Heap) (s : Objects) → HeapStands h heap s → (code : Part) (p : ObjectPart) → IsPart h s.classes code p → (x : Phase) (running : ℕ → List Step → List Subobject) (closed : ℕ → Bool) (z : Node) → IsAt h (sizes_of h) s.classes z
+cell_marked : (h : Classes) (heap : Heap) (s : Objects) → HeapStands h heap s → (code : Part) (p : ObjectPart) → StandsForPart h s.classes code p → (x : Phase) (running : ℕ → List Step → List Subobject) (closed : ℕ → Bool) (z : Node) → IsAt h (sizes_of h) s.classes z
     → CellStands h (turned s p (phase_of x) running closed) (slice_set heap.cells.items code.number (marked_cell x code)) z
 cell_marked h heap s stands code p r x running closed z z_at =
     let old = stands.cells r.node r.at in
@@ -50,7 +50,7 @@ cell_marked h heap s stands code p r x running closed z z_at =
       listed = ap (slice_get (slice_set heap.cells.items code.number (marked_cell x code))) (sym e) ∙ set_same heap.cells.items code.number (marked_cell x code) lt;
       phase = sym (ap (put s.phases.phase p (phase_of x)) place ∙ put_same s.phases.phase p (phase_of x));
       class = λ _. sym r.is_class ∙ ap (λ (t : Node). t.class) same;
-      owner = λ _. subst (λ (t : Node). IsOwner h s.classes t code.whole code.owner) same r.owned;
+      owner = λ _. subst (λ (t : Node). HasOwner h s.classes t code.whole code.owner) same r.owned;
     })
     (λ differ.
     let d = stands.cells z z_at in
@@ -66,7 +66,7 @@ cell_marked h heap s stands code p r x running closed z z_at =
     (decide_number code.number z.number)
 
 -- what holds of the columns of objects and views makes the whole
-pub turned_stands : (h : Classes) (heap new : Heap) (s : Objects) → HeapStands h heap s → (code : Part) (p : ObjectPart) → IsPart h s.classes code p → (x : Phase) (running : ℕ → List Step → List Subobject) (closed : ℕ → Bool)
+pub turned_stands : (h : Classes) (heap new : Heap) (s : Objects) → HeapStands h heap s → (code : Part) (p : ObjectPart) → StandsForPart h s.classes code p → (x : Phase) (running : ℕ → List Step → List Subobject) (closed : ℕ → Bool)
     → new.cells.items ≡ slice_set heap.cells.items code.number (marked_cell x code) → new.leaves.items ≡ heap.leaves.items
     → ((k : ℕ) (c : ClassId) → slice_get s.classes k ≡ Some c → ObjectStands h (turned s p (phase_of x) running closed) new.objects.items k c) → length new.objects.items ≡ length heap.objects.items
     → ViewsStand h s.classes (record { phase = put s.phases.phase p (phase_of x); running = running }) new.tops.items new.around.items → length new.tops.items ≡ length heap.tops.items → length new.around.items ≡ length heap.around.items
@@ -92,32 +92,32 @@ pub same_rows : (h : Classes) (heap : Heap) (s : Objects) → HeapStands h heap 
     → ObjectStands h (turned s p x running s.is_closed) rows k c
 same_rows h heap s stands p x running rows e k c at = let o = stands.objects k c at in record { row = o.row; listed = ap (λ t. slice_get t k) e ∙ o.listed; class = o.class; start = o.start; closed = o.closed }
 
-pub whole_less : (h : Classes) (heap : Heap) (s : Objects) → HeapStands h heap s → (code : Part) (p : ObjectPart) → IsPart h s.classes code p → code.whole < length heap.tops.items
+pub whole_less : (h : Classes) (heap : Heap) (s : Objects) → HeapStands h heap s → (code : Part) (p : ObjectPart) → StandsForPart h s.classes code p → code.whole < length heap.tops.items
 whole_less h heap s stands code p r =
     subst (λ n. code.whole < n) (sym stands.counts.tops) (subst (λ n. n < total (sizes_of h InFull) s.classes) r.owned.is_number (at_less h stands.hierarchy s.classes r.owned.node r.owned.at))
 
-number_less : (h : Classes) (heap : Heap) (s : Objects) → HeapStands h heap s → (code : Part) (p : ObjectPart) → IsPart h s.classes code p → code.number < length heap.around.items
+number_less : (h : Classes) (heap : Heap) (s : Objects) → HeapStands h heap s → (code : Part) (p : ObjectPart) → StandsForPart h s.classes code p → code.number < length heap.around.items
 number_less h heap s stands code p r =
     subst (λ n. code.number < n) (sym stands.counts.around) (subst (λ n. n < total (sizes_of h InFull) s.classes) r.is_number (at_less h stands.hierarchy s.classes r.node r.at))
 
 -- a constructor or destructor begins
-pub enters : (h : Classes) (heap mid new : Heap) (s : Objects) → HeapStands h heap s → (code : Part) (p : ObjectPart) → IsPart h s.classes code p → (x : Phase) → is_running (s.phases.phase p) ≡ false → is_running (phase_of x) ≡ true
-    → Entered heap mid code → Marked mid new code x → HeapStands h new (turned s p (phase_of x) (pushed s.phases.running p) s.is_closed)
+pub enters : (h : Classes) (heap mid new : Heap) (s : Objects) → HeapStands h heap s → (code : Part) (p : ObjectPart) → StandsForPart h s.classes code p → (x : Phase) → is_running (s.phases.phase p) ≡ false → is_running (phase_of x) ≡ true
+    → Entered heap mid code → Marked mid new code x → HeapStands h new (turned s p (phase_of x) (with_pushed_part s.phases.running p) s.is_closed)
 enters h heap mid new s stands code p r x idle runs did marked =
     let tops = marked.tops ∙ did.tops in
     let around = marked.around ∙ did.around in
-    turned_stands h heap new s stands code p r x (pushed s.phases.running p) s.is_closed
+    turned_stands h heap new s stands code p r x (with_pushed_part s.phases.running p) s.is_closed
     (marked.cells ∙ ap (λ t. slice_set t code.number (marked_cell x code)) did.cells)
     (marked.leaves ∙ did.leaves)
-    (same_rows h heap s stands p (phase_of x) (pushed s.phases.running p) new.objects.items (marked.objects ∙ did.objects)) (ap length (marked.objects ∙ did.objects))
-    (subst (λ (t : List (Option ℕ)). ViewsStand h s.classes (record { phase = put s.phases.phase p (phase_of x); running = pushed s.phases.running p }) t new.around.items) (sym tops)
-    (subst (λ (t : List (Option ℕ)). ViewsStand h s.classes (record { phase = put s.phases.phase p (phase_of x); running = pushed s.phases.running p }) (slice_set heap.tops.items code.whole (Some code.number)) t) (sym around)
+    (same_rows h heap s stands p (phase_of x) (with_pushed_part s.phases.running p) new.objects.items (marked.objects ∙ did.objects)) (ap length (marked.objects ∙ did.objects))
+    (subst (λ (t : List (Option ℕ)). ViewsStand h s.classes (record { phase = put s.phases.phase p (phase_of x); running = with_pushed_part s.phases.running p }) t new.around.items) (sym tops)
+    (subst (λ (t : List (Option ℕ)). ViewsStand h s.classes (record { phase = put s.phases.phase p (phase_of x); running = with_pushed_part s.phases.running p }) (slice_set heap.tops.items code.whole (Some code.number)) t) (sym around)
     (begins_stand h stands.hierarchy s.classes s.phases heap.tops.items heap.around.items stands.views code p r idle (phase_of x) runs (whole_less h heap s stands code p r) (number_less h heap s stands code p r))))
     (ap length tops ∙ length-set heap.tops.items code.whole (Some code.number))
     (ap length around ∙ length-set heap.around.items code.number (entry_at heap.tops.items code.whole))
 
 -- it goes on
-pub stays : (h : Classes) (heap new : Heap) (s : Objects) → HeapStands h heap s → (code : Part) (p : ObjectPart) → IsPart h s.classes code p → (x : Phase) → is_running (phase_of x) ≡ true
+pub stays : (h : Classes) (heap new : Heap) (s : Objects) → HeapStands h heap s → (code : Part) (p : ObjectPart) → StandsForPart h s.classes code p → (x : Phase) → is_running (phase_of x) ≡ true
     → Marked heap new code x → HeapStands h new (turned s p (phase_of x) s.phases.running s.is_closed)
 stays h heap new s stands code p r x runs marked =
     turned_stands h heap new s stands code p r x s.phases.running s.is_closed marked.cells marked.leaves

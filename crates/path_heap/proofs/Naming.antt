@@ -10,11 +10,11 @@ use Rattle.path_numbers.specs.Sizes.{sizes_of}
 use Rattle.path_numbers.specs.Nodes.{Node}
 use Rattle.path_numbers.specs.Heap.{root_at}
 use Rattle.path_numbers.proofs.Heap.{heap_number}
-use Rattle.path_heap.specs.Points.{Points, IsPart}
+use Rattle.path_heap.specs.Points.{Points, StandsForPart}
 use Rattle.path_heap.proofs.Asking.{root_is_at}
 
 pub whole_is_part : (h : Classes) (classes : List ClassId) (k : ℕ) → IsHierarchy h → (number : ℕ) (c : ClassId) → slice_get classes k ≡ Some c → Points h classes number (whole_part k c)
-    → IsPart h classes (record { number = number; class = c; whole = number; owner = c }) (whole_part k c)
+    → StandsForPart h classes (record { number = number; class = c; whole = number; owner = c }) (whole_part k c)
 whole_is_part h classes k keeps number c listed q =
     let root = root_at (sizes_of h) classes k c in
     let at = root_is_at h classes k c listed in

@@ -6,7 +6,7 @@ use Rattle.cxx_hierarchy.specs.Classes.{Classes}
 use Rattle.cxx_subobject.specs.declared.Subobject.{Subobject}
 use Rattle.cxx_subobject.specs.Subobjects.{whole_of}
 use Rattle.path_plan.specs.Places.{Step, ObjectPart, part}
-use Rattle.path_plan.specs.Phases.{first_of, is_complete}
+use Rattle.path_plan.specs.Phases.{top_subobject, is_complete}
 use Rattle.path_plan.specs.Views.{view}
 use Rattle.path_plan.specs.Plans.{InFull}
 use Rattle.path_numbers.specs.Sizes.{sizes_of}
@@ -26,7 +26,7 @@ use Rattle.path_heap.specs.invariants.Columns.{cell_at, view_number}
 use Rattle.path_heap.proofs.Asking.{phase_told, owner_told, owner_class_told}
 
 -- the first of a stack
-stack_first : (h : Classes) (classes : List ClassId) (around : List (Option ℕ)) (k : ℕ) (o : List Step) (y : Subobject) (n : Option ℕ) (xs : List Subobject) → StackStands h classes around k o n xs → PointsView h classes (part k o y) n (first_of xs)
+stack_first : (h : Classes) (classes : List ClassId) (around : List (Option ℕ)) (k : ℕ) (o : List Step) (y : Subobject) (n : Option ℕ) (xs : List Subobject) → StackStands h classes around k o n xs → PointsView h classes (part k o y) n (top_subobject xs)
 stack_first h classes around k o y None [] s = tt
 stack_first h classes around k o y None (x ∷ xs) s = absurd s
 stack_first h classes around k o y (Some n) [] s = absurd s
@@ -50,8 +50,8 @@ whole_view h heap s stands w at full cell is =
     let place : w.part ≡ part w.part.object w.part.owner (whole_of w.class) = ap (λ (t : Subobject). part w.part.object w.part.owner t) ((at_good h (sizes_of h) s.classes w at).whole full) in
     let q : Points h s.classes w.number (part w.part.object w.part.owner (whole_of w.class)) = record { node = w; at = at; is_part = place; is_number = refl } in
     let e = phase_told h heap s stands w.number (part w.part.object w.part.owner (whole_of w.class)) q cell is in
-    subst (λ (x : _). PointsView h s.classes w.part (view_number cell.phase w.number (entry_at heap.tops.items w.number)) (if is_complete x then Some (whole_of w.class) else first_of (s.phases.running w.part.object w.part.owner))) (sym e)
-    (by_phase h s.classes w.part cell.phase w.number (entry_at heap.tops.items w.number) (whole_of w.class) (first_of (s.phases.running w.part.object w.part.owner)) q
+    subst (λ (x : _). PointsView h s.classes w.part (view_number cell.phase w.number (entry_at heap.tops.items w.number)) (if is_complete x then Some (whole_of w.class) else top_subobject (s.phases.running w.part.object w.part.owner))) (sym e)
+    (by_phase h s.classes w.part cell.phase w.number (entry_at heap.tops.items w.number) (whole_of w.class) (top_subobject (s.phases.running w.part.object w.part.owner)) q
     (stack_first h s.classes heap.around.items w.part.object w.part.owner w.part.at (entry_at heap.tops.items w.number) (s.phases.running w.part.object w.part.owner) (stands.views.stacks w at full)))
 
 by_place : (h : Classes) (classes : List ClassId) (p q : ObjectPart) → q.object ≡ p.object → q.owner ≡ p.owner → (n : Option ℕ) (x : Option Subobject) → PointsView h classes q n x → PointsView h classes p n x

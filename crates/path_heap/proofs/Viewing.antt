@@ -8,7 +8,7 @@ use Rattle.cxx_hierarchy.specs.Classes.{Classes}
 use Rattle.cxx_hierarchy.specs.Hierarchies.{IsHierarchy}
 use Rattle.cxx_subobject.specs.declared.Subobject.{Subobject}
 use Rattle.path_plan.specs.Places.{Step, ObjectPart, part}
-use Rattle.path_plan.specs.Phases.{Phase, Phases, put, first_of, rest_of, pushed, popped, is_running}
+use Rattle.path_plan.specs.Phases.{Phase, Phases, put, top_subobject, rest_of, with_pushed_part, popped, is_running}
 use Rattle.path_plan.specs.Plans.{InFull}
 use Rattle.path_plan.specs.Views.{IsOnTop}
 use Rattle.path_plan.proofs.Same.{put_same, put_other, part_cases, Owns, owner_cases, pushed_same, popped_same, pushed_other, popped_other, part_owns}
@@ -20,7 +20,7 @@ use Rattle.path_numbers.proofs.Sized.{sizes_are}
 use Rattle.path_numbers.proofs.Heap.{at_within, heap_part, heap_number}
 use Rattle.path_numbers.proofs.Wholes.{one_whole}
 use Rattle.path_heap.specs.declared.state.Part.{Part}
-use Rattle.path_heap.specs.Points.{Points, IsPart}
+use Rattle.path_heap.specs.Points.{Points, StandsForPart}
 use Rattle.path_heap.specs.Running.{entry_in, entry_at, AreRunning, StackStands, ViewsStand}
 use Rattle.path_heap.proofs.Sets.{set_same, set_other}
 
@@ -49,7 +49,7 @@ unlisted : (phase : ObjectPart → Phase) (p : ObjectPart) (xs : List Subobject)
 unlisted phase p xs are idle x has e = not_both (ap (λ (t : ObjectPart). is_running (phase t)) e ∙ has_runs phase p.object p.owner xs x are has) idle
 
 -- the innermost one stands once
-first_once : (phase : ObjectPart → Phase) (p : ObjectPart) (xs : List Subobject) → AreRunning phase p.object p.owner xs → first_of xs ≡ Some p.at → (x : Subobject) → Has (rest_of xs) x → p ≡ part p.object p.owner x → ⊥
+first_once : (phase : ObjectPart → Phase) (p : ObjectPart) (xs : List Subobject) → AreRunning phase p.object p.owner xs → top_subobject xs ≡ Some p.at → (x : Subobject) → Has (rest_of xs) x → p ≡ part p.object p.owner x → ⊥
 first_once phase p [] are top x has e = has
 first_once phase p (y ∷ ys) are top x has e =
     let f : y ≡ p.at = cc in
@@ -71,7 +71,7 @@ stack_other h keeps classes around number v p q k o (Some n) (x ∷ xs) differ s
     (s.0, subst (λ t. StackStands h classes (slice_set around number v) k o t xs) (sym (ap entry_in (set_other around number n v apart))) (stack_other h keeps classes around number v p q k o (entry_at around n) xs (λ y has. differ y (inr has)) s.1))
 
 -- without the innermost one
-stack_rest : (h : Classes) → IsHierarchy h → (classes : List ClassId) (around : List (Option ℕ)) (number : ℕ) (p : ObjectPart) → Points h classes number p → (n : Option ℕ) (xs : List Subobject) → first_of xs ≡ Some p.at
+stack_rest : (h : Classes) → IsHierarchy h → (classes : List ClassId) (around : List (Option ℕ)) (number : ℕ) (p : ObjectPart) → Points h classes number p → (n : Option ℕ) (xs : List Subobject) → top_subobject xs ≡ Some p.at
     → StackStands h classes around p.object p.owner n xs → StackStands h classes around p.object p.owner (entry_at around number) (rest_of xs)
 stack_rest h keeps classes around number p q n [] top s = absurd (cc)
 stack_rest h keeps classes around number p q None (x ∷ xs) top s = absurd s
@@ -81,16 +81,16 @@ stack_rest h keeps classes around number p q (Some n) (x ∷ xs) top s =
     subst (λ t. StackStands h classes around p.object p.owner (entry_at around t) xs) (sym s.0.is_number ∙ (ap (λ (t : Node). t.number) same ∙ q.is_number)) s.1
 
 -- the complete object of the part, or another one
-abbrev Case : (h : Classes) (classes : List ClassId) (code : Part) (p : ObjectPart) → IsPart h classes code p → Node → Type 0
+abbrev Case : (h : Classes) (classes : List ClassId) (code : Part) (p : ObjectPart) → StandsForPart h classes code p → Node → Type 0
 Case h classes code p r w = (r.owned.node ≡ w) ⊎ ((Owns p w.part.object w.part.owner → ⊥) × (code.whole ≡ w.number → ⊥))
 
-object_of : (h : Classes) (classes : List ClassId) (code : Part) (p : ObjectPart) → (r : IsPart h classes code p) → r.owned.node.part.object ≡ p.object
+object_of : (h : Classes) (classes : List ClassId) (code : Part) (p : ObjectPart) → (r : StandsForPart h classes code p) → r.owned.node.part.object ≡ p.object
 object_of h classes code p r = r.owned.same_object ∙ ap (λ (t : ObjectPart). t.object) r.is_part
 
-owner_of : (h : Classes) (classes : List ClassId) (code : Part) (p : ObjectPart) → (r : IsPart h classes code p) → r.owned.node.part.owner ≡ p.owner
+owner_of : (h : Classes) (classes : List ClassId) (code : Part) (p : ObjectPart) → (r : StandsForPart h classes code p) → r.owned.node.part.owner ≡ p.owner
 owner_of h classes code p r = r.owned.same_owner ∙ ap (λ (t : ObjectPart). t.owner) r.is_part
 
-whole_cases : (h : Classes) → IsHierarchy h → (classes : List ClassId) (code : Part) (p : ObjectPart) → (r : IsPart h classes code p) → (w : Node) → IsAt h (sizes_of h) classes w → w.form ≡ InFull → Case h classes code p r w
+whole_cases : (h : Classes) → IsHierarchy h → (classes : List ClassId) (code : Part) (p : ObjectPart) → (r : StandsForPart h classes code p) → (w : Node) → IsAt h (sizes_of h) classes w → w.form ≡ InFull → Case h classes code p r w
 whole_cases h keeps classes code p r w at full = ⊎_elim
     (λ own. inl (one_whole h (sizes_of h) keeps classes r.owned.node w r.owned.at at r.owned.full full (object_of h classes code p r ∙ own.object) (owner_of h classes code p r ∙ own.owner)))
     (λ other. inr (
@@ -100,7 +100,7 @@ whole_cases h keeps classes code p r w at full = ⊎_elim
     ))
     (owner_cases p w.part.object w.part.owner)
 
-pub points_of : (h : Classes) (classes : List ClassId) (code : Part) (p : ObjectPart) → IsPart h classes code p → Points h classes code.number p
+pub points_of : (h : Classes) (classes : List ClassId) (code : Part) (p : ObjectPart) → StandsForPart h classes code p → Points h classes code.number p
 points_of h classes code p r = record { node = r.node; at = r.at; is_part = r.is_part; is_number = r.is_number }
 
 pub at_less : (h : Classes) → IsHierarchy h → (classes : List ClassId) (y : Node) → IsAt h (sizes_of h) classes y → y.number < total (sizes_of h InFull) classes
@@ -113,7 +113,7 @@ at_less h keeps classes y at =
     less n size all b a = omega arith
 
 -- the old stack of the part's complete object
-own_stack : (h : Classes) (classes : List ClassId) (phases : Phases) (tops around : List (Option ℕ)) → ViewsStand h classes phases tops around → (code : Part) (p : ObjectPart) → IsPart h classes code p
+own_stack : (h : Classes) (classes : List ClassId) (phases : Phases) (tops around : List (Option ℕ)) → ViewsStand h classes phases tops around → (code : Part) (p : ObjectPart) → StandsForPart h classes code p
     → StackStands h classes around p.object p.owner (entry_at tops code.whole) (phases.running p.object p.owner)
 own_stack h classes phases tops around v code p r =
     subst (λ n. StackStands h classes around p.object p.owner (entry_at tops n) (phases.running p.object p.owner)) r.owned.is_number
@@ -122,20 +122,20 @@ own_stack h classes phases tops around v code p r =
     (v.stacks r.owned.node r.owned.at r.owned.full)))
 
 -- the new one, as one of the node
-own_back : (h : Classes) (classes : List ClassId) (running : ℕ → List Step → List Subobject) (tops around : List (Option ℕ)) (code : Part) (p : ObjectPart) → (r : IsPart h classes code p)
+own_back : (h : Classes) (classes : List ClassId) (running : ℕ → List Step → List Subobject) (tops around : List (Option ℕ)) (code : Part) (p : ObjectPart) → (r : StandsForPart h classes code p)
     → StackStands h classes around p.object p.owner (entry_at tops code.whole) (running p.object p.owner) → StackStands h classes around r.owned.node.part.object r.owned.node.part.owner (entry_at tops r.owned.node.number) (running r.owned.node.part.object r.owned.node.part.owner)
 own_back h classes running tops around code p r s =
     subst (λ k. StackStands h classes around k r.owned.node.part.owner (entry_at tops r.owned.node.number) (running k r.owned.node.part.owner)) (sym (object_of h classes code p r))
     (subst (λ o. StackStands h classes around p.object o (entry_at tops r.owned.node.number) (running p.object o)) (sym (owner_of h classes code p r))
     (subst (λ n. StackStands h classes around p.object p.owner (entry_at tops n) (running p.object p.owner)) (sym r.owned.is_number) s))
 
-pub begins_stand : (h : Classes) → IsHierarchy h → (classes : List ClassId) (phases : Phases) (tops around : List (Option ℕ)) → ViewsStand h classes phases tops around → (code : Part) (p : ObjectPart) → IsPart h classes code p
+pub begins_stand : (h : Classes) → IsHierarchy h → (classes : List ClassId) (phases : Phases) (tops around : List (Option ℕ)) → ViewsStand h classes phases tops around → (code : Part) (p : ObjectPart) → StandsForPart h classes code p
     → is_running (phases.phase p) ≡ false → (v : Phase) → is_running v ≡ true → code.whole < length tops → code.number < length around
-    → ViewsStand h classes (record { phase = put phases.phase p v; running = pushed phases.running p }) (slice_set tops code.whole (Some code.number)) (slice_set around code.number (entry_at tops code.whole))
+    → ViewsStand h classes (record { phase = put phases.phase p v; running = with_pushed_part phases.running p }) (slice_set tops code.whole (Some code.number)) (slice_set around code.number (entry_at tops code.whole))
 begins_stand h keeps classes phases tops around views code p r idle v runs lt less = record {
   running = λ k o. ⊎_elim
-      (λ own. subst (λ j. AreRunning (put phases.phase p v) j o (pushed phases.running p j o)) own.object
-      (subst (λ t. AreRunning (put phases.phase p v) p.object t (pushed phases.running p p.object t)) own.owner
+      (λ own. subst (λ j. AreRunning (put phases.phase p v) j o (with_pushed_part phases.running p j o)) own.object
+      (subst (λ t. AreRunning (put phases.phase p v) p.object t (with_pushed_part phases.running p p.object t)) own.owner
       (subst (λ (t : List Subobject). AreRunning (put phases.phase p v) p.object p.owner t) (sym (pushed_same phases.running p)) (
         ap is_running (put_same phases.phase p v) ∙ runs,
         λ has. (unlisted phases.phase p (phases.running p.object p.owner) (views.running p.object p.owner) idle) p.at (has_from_contains (phases.running p.object p.owner) p.at has) refl,
@@ -145,21 +145,21 @@ begins_stand h keeps classes phases tops around views code p r idle v runs lt le
       (running_other phases.phase p v k o (phases.running k o) (λ x has e. other (part_owns p k o x e)) (views.running k o)))
       (owner_cases p k o);
   stacks = λ w at full. ⊎_elim
-      (λ e. subst (λ (t : Node). StackStands h classes (slice_set around code.number (entry_at tops code.whole)) t.part.object t.part.owner (entry_at (slice_set tops code.whole (Some code.number)) t.number) (pushed phases.running p t.part.object t.part.owner)) e
-      (own_back h classes (pushed phases.running p) (slice_set tops code.whole (Some code.number)) (slice_set around code.number (entry_at tops code.whole)) code p r
-      (subst (λ n. StackStands h classes (slice_set around code.number (entry_at tops code.whole)) p.object p.owner n (pushed phases.running p p.object p.owner)) (sym (ap entry_in (set_same tops code.whole (Some code.number) lt)))
+      (λ e. subst (λ (t : Node). StackStands h classes (slice_set around code.number (entry_at tops code.whole)) t.part.object t.part.owner (entry_at (slice_set tops code.whole (Some code.number)) t.number) (with_pushed_part phases.running p t.part.object t.part.owner)) e
+      (own_back h classes (with_pushed_part phases.running p) (slice_set tops code.whole (Some code.number)) (slice_set around code.number (entry_at tops code.whole)) code p r
+      (subst (λ n. StackStands h classes (slice_set around code.number (entry_at tops code.whole)) p.object p.owner n (with_pushed_part phases.running p p.object p.owner)) (sym (ap entry_in (set_same tops code.whole (Some code.number) lt)))
       (subst (λ (t : List Subobject). StackStands h classes (slice_set around code.number (entry_at tops code.whole)) p.object p.owner (Some code.number) t) (sym (pushed_same phases.running p)) (
         points_of h classes code p r,
         subst (λ n. StackStands h classes (slice_set around code.number (entry_at tops code.whole)) p.object p.owner n (phases.running p.object p.owner)) (sym (ap entry_in (set_same around code.number (entry_at tops code.whole) less)))
             (stack_other h keeps classes around code.number (entry_at tops code.whole) p (points_of h classes code p r) p.object p.owner (entry_at tops code.whole) (phases.running p.object p.owner) (unlisted phases.phase p (phases.running p.object p.owner) (views.running p.object p.owner) idle) (own_stack h classes phases tops around views code p r)),
       )))))
-      (λ a. subst (λ n. StackStands h classes (slice_set around code.number (entry_at tops code.whole)) w.part.object w.part.owner n (pushed phases.running p w.part.object w.part.owner)) (sym (ap entry_in (set_other tops code.whole w.number (Some code.number) a.1)))
+      (λ a. subst (λ n. StackStands h classes (slice_set around code.number (entry_at tops code.whole)) w.part.object w.part.owner n (with_pushed_part phases.running p w.part.object w.part.owner)) (sym (ap entry_in (set_other tops code.whole w.number (Some code.number) a.1)))
       (subst (λ (t : List Subobject). StackStands h classes (slice_set around code.number (entry_at tops code.whole)) w.part.object w.part.owner (entry_at tops w.number) t) (sym (pushed_other phases.running p w.part.object w.part.owner a.0))
       (stack_other h keeps classes around code.number (entry_at tops code.whole) p (points_of h classes code p r) w.part.object w.part.owner (entry_at tops w.number) (phases.running w.part.object w.part.owner) (λ x has e. a.0 (part_owns p w.part.object w.part.owner x e)) (views.stacks w at full))))
       (whole_cases h keeps classes code p r w at full);
 }
 
-pub ends_stand : (h : Classes) → IsHierarchy h → (classes : List ClassId) (phases : Phases) (tops around : List (Option ℕ)) → ViewsStand h classes phases tops around → (code : Part) (p : ObjectPart) → IsPart h classes code p
+pub ends_stand : (h : Classes) → IsHierarchy h → (classes : List ClassId) (phases : Phases) (tops around : List (Option ℕ)) → ViewsStand h classes phases tops around → (code : Part) (p : ObjectPart) → StandsForPart h classes code p
     → IsOnTop phases p → (v : Phase) → code.whole < length tops
     → ViewsStand h classes (record { phase = put phases.phase p v; running = popped phases.running p }) (slice_set tops code.whole (entry_at around code.number)) around
 ends_stand h keeps classes phases tops around views code p r top v lt = record {

@@ -43,7 +43,7 @@ PointsView h classes p (Some n) None = ⊥
 PointsView h classes p (Some n) (Some x) = Points h classes n (part p.object p.owner x)
 
 -- whole and owner are the number and the class of the complete object that the part y belongs to
-pub record IsOwner (h : Classes) (classes : List ClassId) (y : Node) (whole : ℕ) (owner : ClassId) : Type 0 where
+pub record HasOwner (h : Classes) (classes : List ClassId) (y : Node) (whole : ℕ) (owner : ClassId) : Type 0 where
   pub node : Node
   pub at : IsAt h (sizes_of h) classes node
   pub full : node.form ≡ InFull
@@ -55,10 +55,10 @@ pub record IsOwner (h : Classes) (classes : List ClassId) (y : Node) (whole : �
   pub itself : y.form ≡ InFull → node ≡ y
 
 -- a part as the code names it is the part p
-pub record IsPart (h : Classes) (classes : List ClassId) (code : Part) (p : ObjectPart) : Type 0 where
+pub record StandsForPart (h : Classes) (classes : List ClassId) (code : Part) (p : ObjectPart) : Type 0 where
   pub node : Node
   pub at : IsAt h (sizes_of h) classes node
   pub is_part : node.part ≡ p
   pub is_number : node.number ≡ code.number
   pub is_class : node.class ≡ code.class
-  pub owned : IsOwner h classes node code.whole code.owner
+  pub owned : HasOwner h classes node code.whole code.owner

@@ -17,7 +17,7 @@ use Rattle.path_heap.specs.declared.state.Value.TheVariants.{Unset as UnsetCode,
 use Rattle.path_heap.specs.declared.state.Cell.{Cell}
 use Rattle.path_heap.specs.declared.state.ObjectRow.{ObjectRow}
 use Rattle.path_heap.specs.declared.heap.Heap.{Heap}
-use Rattle.path_heap.specs.Points.{Points, PointsLeaf, IsOwner}
+use Rattle.path_heap.specs.Points.{Points, PointsLeaf, HasOwner}
 use Rattle.path_heap.specs.Running.{ViewsStand}
 
 -- the phase that the code names
@@ -59,7 +59,7 @@ pub record CellStands (h : Classes) (s : Objects) (cells : List Cell) (y : Node)
   pub listed : slice_get cells y.number ≡ Some cell
   pub phase : phase_of cell.phase ≡ s.phases.phase y.part
   pub class : HasBegun s y.part → cell.class ≡ y.class
-  pub owner : HasBegun s y.part → IsOwner h s.classes y cell.whole cell.owner
+  pub owner : HasBegun s y.part → HasOwner h s.classes y cell.whole cell.owner
 
 -- the value of the leaf of number n
 pub record LeafStands (h : Classes) (s : Objects) (leaves : List ValueCode) (n : ℕ) (l : Leaf) : Type 0 where
@@ -76,7 +76,7 @@ pub record ObjectStands (h : Classes) (s : Objects) (objects : List ObjectRow) (
   pub closed : row.is_closed ≡ s.is_closed k
 
 -- one number for each part and each leaf of the objects made so far
-pub record Counts (h : Classes) (classes : List ClassId) (heap : Heap) : Type 0 where
+pub record CountsParts (h : Classes) (classes : List ClassId) (heap : Heap) : Type 0 where
   pub objects : length heap.objects.items ≡ length classes
   pub cells : length heap.cells.items ≡ total (sizes_of h InFull) classes
   pub leaves : length heap.leaves.items ≡ total (sizes_of h InFull) classes
@@ -91,4 +91,4 @@ pub record HeapStands (h : Classes) (heap : Heap) (s : Objects) : Type 0 where
   pub leaves : (n : ℕ) (l : Leaf) → PointsLeaf h s.classes n l → LeafStands h s heap.leaves.items n l
   pub objects : (k : ℕ) (c : ClassId) → slice_get s.classes k ≡ Some c → ObjectStands h s heap.objects.items k c
   pub views : ViewsStand h s.classes s.phases heap.tops.items heap.around.items
-  pub counts : Counts h s.classes heap
+  pub counts : CountsParts h s.classes heap

@@ -8,7 +8,7 @@ ghost use Rattle.path_plan.specs.Phases.{Begin, Ready, Done, Ending, Bases, End}
 ghost use Rattle.path_plan.specs.Views.{Fits};
 ghost use Rattle.path_model.specs.Values.{Objects};
 ghost use Rattle.path_model.specs.Steps.{objects_after};
-ghost use Rattle.path_heap.specs.Points.{IsPart};
+ghost use Rattle.path_heap.specs.Points.{StandsForPart};
 ghost use Rattle.path_heap.specs.Running.{entry_at};
 ghost use Rattle.path_heap.specs.Stands.{HeapStands};
 ghost use Rattle.path_heap.specs.invariants.Columns.{Marked, Entered, Left, Closed};
@@ -79,7 +79,7 @@ impl Heap {
     ///
     /// Errors: want of memory. The heap is then of no use.
     pub fn begin(&mut self, part: Part) -> Result<(), NoMemory>
-        ensures { IfOk result (λ _. (h : Classes) (program : TypedProgram) (s : Objects) (p : ObjectPart) → HeapStands h self.old s → IsPart h s.classes part p → Fits h s.phases (Begin p) → HeapStands h self.new (objects_after program s (Begin p))) }
+        ensures { IfOk result (λ _. (h : Classes) (program : TypedProgram) (s : Objects) (p : ObjectPart) → HeapStands h self.old s → StandsForPart h s.classes part p → Fits h s.phases (Begin p) → HeapStands h self.new (objects_after program s (Begin p))) }
     {
         self.enter(part)?;
         self.mark(part, Phase::InBases)?;
@@ -90,7 +90,7 @@ impl Heap {
     ///
     /// Errors: want of memory. The heap is then of no use.
     pub fn ready(&mut self, part: Part) -> Result<(), NoMemory>
-        ensures { IfOk result (λ _. (h : Classes) (program : TypedProgram) (s : Objects) (p : ObjectPart) → HeapStands h self.old s → IsPart h s.classes part p → Fits h s.phases (Ready p) → HeapStands h self.new (objects_after program s (Ready p))) }
+        ensures { IfOk result (λ _. (h : Classes) (program : TypedProgram) (s : Objects) (p : ObjectPart) → HeapStands h self.old s → StandsForPart h s.classes part p → Fits h s.phases (Ready p) → HeapStands h self.new (objects_after program s (Ready p))) }
     {
         self.mark(part, Phase::ReadyBuilding)?;
         Ok(())
@@ -100,7 +100,7 @@ impl Heap {
     ///
     /// Errors: want of memory. The heap is then of no use.
     pub fn done(&mut self, part: Part) -> Result<(), NoMemory>
-        ensures { IfOk result (λ _. (h : Classes) (program : TypedProgram) (s : Objects) (p : ObjectPart) → HeapStands h self.old s → IsPart h s.classes part p → Fits h s.phases (Done p) → HeapStands h self.new (objects_after program s (Done p))) }
+        ensures { IfOk result (λ _. (h : Classes) (program : TypedProgram) (s : Objects) (p : ObjectPart) → HeapStands h self.old s → StandsForPart h s.classes part p → Fits h s.phases (Done p) → HeapStands h self.new (objects_after program s (Done p))) }
     {
         self.leave(part)?;
         self.mark(part, Phase::Complete)?;
@@ -111,7 +111,7 @@ impl Heap {
     ///
     /// Errors: want of memory. The heap is then of no use.
     pub fn ending(&mut self, part: Part) -> Result<(), NoMemory>
-        ensures { IfOk result (λ _. (h : Classes) (program : TypedProgram) (s : Objects) (p : ObjectPart) → HeapStands h self.old s → IsPart h s.classes part p → Fits h s.phases (Ending p) → HeapStands h self.new (objects_after program s (Ending p))) }
+        ensures { IfOk result (λ _. (h : Classes) (program : TypedProgram) (s : Objects) (p : ObjectPart) → HeapStands h self.old s → StandsForPart h s.classes part p → Fits h s.phases (Ending p) → HeapStands h self.new (objects_after program s (Ending p))) }
     {
         self.enter(part)?;
         self.mark(part, Phase::ReadyEnding)?;
@@ -122,7 +122,7 @@ impl Heap {
     ///
     /// Errors: want of memory. The heap is then of no use.
     pub fn bases(&mut self, part: Part) -> Result<(), NoMemory>
-        ensures { IfOk result (λ _. (h : Classes) (program : TypedProgram) (s : Objects) (p : ObjectPart) → HeapStands h self.old s → IsPart h s.classes part p → Fits h s.phases (Bases p) → HeapStands h self.new (objects_after program s (Bases p))) }
+        ensures { IfOk result (λ _. (h : Classes) (program : TypedProgram) (s : Objects) (p : ObjectPart) → HeapStands h self.old s → StandsForPart h s.classes part p → Fits h s.phases (Bases p) → HeapStands h self.new (objects_after program s (Bases p))) }
     {
         self.mark(part, Phase::EndingBases)?;
         Ok(())
@@ -132,7 +132,7 @@ impl Heap {
     ///
     /// Errors: want of memory. The heap is then of no use.
     pub fn end(&mut self, part: Part) -> Result<(), NoMemory>
-        ensures { IfOk result (λ _. (h : Classes) (program : TypedProgram) (s : Objects) (p : ObjectPart) → HeapStands h self.old s → IsPart h s.classes part p → Fits h s.phases (End p) → HeapStands h self.new (objects_after program s (End p))) }
+        ensures { IfOk result (λ _. (h : Classes) (program : TypedProgram) (s : Objects) (p : ObjectPart) → HeapStands h self.old s → StandsForPart h s.classes part p → Fits h s.phases (End p) → HeapStands h self.new (objects_after program s (End p))) }
     {
         self.leave(part)?;
         self.mark(part, Phase::Ended)?;

@@ -3,9 +3,9 @@
 ghost use Rattle.std.specs.Prelude.{◌≡◌, ◌<◌, IfOk, length};
 ghost use Rattle.cxx_hierarchy.specs.Classes.{Classes};
 ghost use Rattle.path_plan.specs.Whole.{whole_part};
-ghost use Rattle.path_numbers.specs.Numbers.{AreNumbers};
+ghost use Rattle.path_numbers.specs.Numbers.{AreClassNumbers};
 ghost use Rattle.path_model.specs.Values.{Objects};
-ghost use Rattle.path_model.specs.Effects.{made};
+ghost use Rattle.path_model.specs.Effects.{with_new_object};
 ghost use Rattle.path_heap.specs.Points.{Points};
 ghost use Rattle.path_heap.specs.Stands.{HeapStands};
 ghost use Rattle.path_heap.specs.invariants.Columns.{Made};
@@ -48,8 +48,8 @@ impl Heap {
     /// Errors: want of memory, or of numbers, of which there are 4,294,967,295. The heap is then of no use.
     pub fn make(&mut self, numbers: &Numbers, c: ClassId) -> Result<u32, NoMemory>
         requires { c.0 < length numbers.now }
-        ensures stands { IfOk result (λ n. (h : Classes) (s : Objects) → AreNumbers h numbers.now → HeapStands h self.old s → HeapStands h self.new (made s c)) }
-        ensures whole { IfOk result (λ n. (h : Classes) (s : Objects) → AreNumbers h numbers.now → HeapStands h self.old s → Points h (made s c).classes n (whole_part (length s.classes) c)) }
+        ensures stands { IfOk result (λ n. (h : Classes) (s : Objects) → AreClassNumbers h numbers.now → HeapStands h self.old s → HeapStands h self.new (with_new_object s c)) }
+        ensures whole { IfOk result (λ n. (h : Classes) (s : Objects) → AreClassNumbers h numbers.now → HeapStands h self.old s → Points h (with_new_object s c).classes n (whole_part (length s.classes) c)) }
     {
         let size = numbers.in_full(c);
         let start = self.push(c, size)?;

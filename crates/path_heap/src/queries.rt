@@ -9,7 +9,7 @@ ghost use Rattle.path_plan.specs.Whole.{whole_part};
 ghost use Rattle.path_model.specs.Values.{Objects};
 ghost use Rattle.path_model.specs.Uses.{class_of_owner, view_of};
 ghost use Rattle.path_model.specs.Rules.{is_in_heap_object};
-ghost use Rattle.path_heap.specs.Points.{Points, PointsWhole, PointsView, IsPart};
+ghost use Rattle.path_heap.specs.Points.{Points, PointsWhole, PointsView, StandsForPart};
 ghost use Rattle.path_heap.specs.Stands.{HeapStands, HasBegun, phase_of};
 ghost use Rattle.path_heap.specs.invariants.Columns.{cell_at, row_at, view_number};
 ghost use Rattle.path_heap.specs.Running.{entry_at};
@@ -121,7 +121,7 @@ impl Heap {
 
     /// A part that has begun, with what its events name.
     pub fn part(&self, n: u32) -> Part
-        ensures { (h : Classes) (s : Objects) (p : ObjectPart) → HeapStands h self.now s → Points h s.classes n p → HasBegun s p → IsPart h s.classes result p }
+        ensures { (h : Classes) (s : Objects) (p : ObjectPart) → HeapStands h self.now s → Points h s.classes n p → HasBegun s p → StandsForPart h s.classes result p }
     {
         let cell = self.cell(n);
         Part {

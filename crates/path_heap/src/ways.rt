@@ -9,7 +9,7 @@ ghost use Rattle.cxx_subobject.specs.Locations.{IsElement};
 ghost use Rattle.path_plan.specs.Places.{ObjectPart, element};
 ghost use Rattle.path_plan.specs.Plans.{InFull};
 ghost use Rattle.path_numbers.specs.Sizes.{sizes_of, member_offset};
-ghost use Rattle.path_numbers.specs.Numbers.{AreNumbers};
+ghost use Rattle.path_numbers.specs.Numbers.{AreClassNumbers};
 ghost use Rattle.path_model.specs.Values.{Objects, inner_part};
 ghost use Rattle.path_model.specs.Places.{leaf};
 ghost use Rattle.path_heap.specs.Points.{Points, PointsLeaf};
@@ -23,7 +23,7 @@ use path_numbers::Numbers;
 
 /// How far a path of direct bases that are not virtual leads from a part of class c.
 fn path_distance(numbers: &Numbers, h: &Hierarchy, c: ClassId, path: &[ClassId]) -> u32
-    requires { AreNumbers h.now numbers.now }
+    requires { AreClassNumbers h.now numbers.now }
     ensures { IsPathDistance h.now c path.now result }
 {
     match path {
@@ -37,7 +37,7 @@ fn path_distance(numbers: &Numbers, h: &Hierarchy, c: ClassId, path: &[ClassId])
 
 /// How far a virtual base stands behind a complete object of class c.
 fn shared_distance(numbers: &Numbers, h: &Hierarchy, c: ClassId, v: ClassId) -> u32
-    requires { AreNumbers h.now numbers.now }
+    requires { AreClassNumbers h.now numbers.now }
     ensures { IsSharedDistance h.now c v result }
 {
     h.keeps();
@@ -56,7 +56,7 @@ pub(crate) fn element_number(
     member: u32,
     index: u32,
 ) -> u32
-    requires { AreNumbers h.now numbers.now }
+    requires { AreClassNumbers h.now numbers.now }
     ensures object { (d : ClassId) → IsElement h.now c member index (Object d) → result ≡ (n + (member_offset h.now (sizes_of h.now) c member + index * sizes_of h.now InFull d)) % 2 ^ 32 }
     ensures value { (t : ValueType ClassId) → IsElement h.now c member index (Value t) → result ≡ (n + (member_offset h.now (sizes_of h.now) c member + index)) % 2 ^ 32 }
 {
@@ -87,7 +87,7 @@ fn member_at(members: &[Member<ClassId>], i: usize) -> &Member<ClassId>
 
 /// How many numbers an element of a member takes.
 fn unit_size(numbers: &Numbers, h: &Hierarchy, ty: &FieldType<ClassId>) -> u32
-    requires { AreNumbers h.now numbers.now }
+    requires { AreClassNumbers h.now numbers.now }
     ensures object { (d : ClassId) → ty.now ≡ Object d → d.0 < length h.now → result ≡ sizes_of h.now InFull d }
     ensures value { (t : ValueType ClassId) → ty.now ≡ Value t → result ≡ 1 }
 {
@@ -99,7 +99,7 @@ fn unit_size(numbers: &Numbers, h: &Hierarchy, ty: &FieldType<ClassId>) -> u32
 
 /// How many numbers a complete object takes.
 fn object_size(numbers: &Numbers, h: &Hierarchy, d: ClassId) -> u32
-    requires { AreNumbers h.now numbers.now }
+    requires { AreClassNumbers h.now numbers.now }
     ensures { d.0 < length h.now → result ≡ sizes_of h.now InFull d }
 {
     if d.0 >= h.len() {
@@ -121,7 +121,7 @@ fn below_first(path: &[ClassId]) -> &[ClassId]
 impl Heap {
     /// The number of a subobject of a part that has begun.
     pub fn base(&self, numbers: &Numbers, h: &Hierarchy, n: u32, i: &Subobject) -> u32
-        requires { AreNumbers h.now numbers.now }
+        requires { AreClassNumbers h.now numbers.now }
         ensures { (s : Objects) (p : ObjectPart) (c : ClassId) → HeapStands h.now self.now s → Points h.now s.classes n p → HasBegun s p → class_of p.at ≡ Some c → IsSubobject h.now c i.now → Points h.now s.classes result (inner_part p i.now) }
     {
         let cell = self.cell(n);
@@ -136,7 +136,7 @@ impl Heap {
 
     /// The number of an element, of class d, of a member of a part that has begun.
     pub fn element(&self, numbers: &Numbers, h: &Hierarchy, n: u32, member: u32, index: u32) -> u32
-        requires { AreNumbers h.now numbers.now }
+        requires { AreClassNumbers h.now numbers.now }
         ensures { (s : Objects) (p : ObjectPart) (c d : ClassId) → HeapStands h.now self.now s → Points h.now s.classes n p → HasBegun s p → class_of p.at ≡ Some c → IsElement h.now c member index (Object d) → Points h.now s.classes result (element p member index d) }
     {
         element_number(numbers, h, self.cell(n).class, n, member, index)
@@ -151,7 +151,7 @@ impl Heap {
         member: u32,
         index: u32,
     ) -> u32
-        requires { AreNumbers h.now numbers.now }
+        requires { AreClassNumbers h.now numbers.now }
         ensures { (s : Objects) (p : ObjectPart) (c : ClassId) (t : ValueType ClassId) → HeapStands h.now self.now s → Points h.now s.classes n p → HasBegun s p → class_of p.at ≡ Some c → IsElement h.now c member index (Value t) → PointsLeaf h.now s.classes result (leaf p member index) }
     {
         element_number(numbers, h, self.cell(n).class, n, member, index)

@@ -20,7 +20,7 @@ use Rattle.cxx_program.specs.declared.operand.TypedOperand.TheVariants.{This}
 use Rattle.cxx_program.specs.declared.statement.PassedMember.{PassedMember}
 use Rattle.cxx_program.specs.declared.statement.TypedPlace.{TypedPlace}
 use Rattle.cxx_program.specs.Typed.{IsPath}
-use Rattle.path_plan.specs.Places.{part, element, base_part, base_kid, member_kid, IsIn, here, deeper}
+use Rattle.path_plan.specs.Places.{part, element, base_part, base_kid, member_kid, IsPartWithin, here, deeper}
 use Rattle.path_plan.proofs.Bases.{class_base}
 use Rattle.path_plan.proofs.Resting.{in_through}
 use Rattle.path_plan.proofs.Valid.{base_valid}
@@ -129,7 +129,7 @@ end_class : (h : Classes) (xs : List PassedMember) (c : ClassId) (p : ObjectPart
 end_class h [] c p i path class = join_class h c p.at i class path
 end_class h (x ∷ xs) c p i path class = end_class h xs x.class (passed_part p x) i path.1 refl
 
-end_in : (h : Classes) (xs : List PassedMember) (c : ClassId) (p : ObjectPart) (i : Subobject) → IsPath h c xs i → class_of p.at ≡ Some c → IsIn h (inner_part (end_part p xs) i) p
+end_in : (h : Classes) (xs : List PassedMember) (c : ClassId) (p : ObjectPart) (i : Subobject) → IsPath h c xs i → class_of p.at ≡ Some c → IsPartWithin h (inner_part (end_part p xs) i) p
 end_in h [] c p i path class = inner_in h c p i class path
 end_in h (x ∷ xs) c p i path class =
     in_through h (inner_part (end_part (passed_part p x) xs) i) (passed_part p x) p (end_in h xs x.class (passed_part p x) i path.1 refl)
@@ -179,7 +179,7 @@ module _ (h : Classes) (p : ObjectPart) (c : ClassId) (b : Base ClassId) (listed
             is = ap (λ s. inner_part (end_part (element (part p.object p.owner s) x.member x.index x.class) xs) a.last) (inner_same x.base valid) ∙ is;
           }
 
-in_reached : (h : Classes) (q p : ObjectPart) → IsIn h q p → (c : ClassId) → class_of p.at ≡ Some c → IsReached h c p q
+in_reached : (h : Classes) (q p : ObjectPart) → IsPartWithin h q p → (c : ClassId) → class_of p.at ≡ Some c → IsReached h c p q
 in_reached h q _ (here p e) c class = record { passed = []; last = whole_of c; path = whole [] tt; is = join_whole p c ∙ e }
 in_reached h q _ (deeper p r (base_kid d b of_class listed e) more) c class =
     let same : Some d ≡ Some c = sym of_class ∙ class in

@@ -8,12 +8,12 @@ use Rattle.cxx_subobject.specs.Subobjects.{class_of}
 use Rattle.cxx_subobject.specs.Locations.{ObjectPart, IsElement}
 use Rattle.cxx_program.specs.declared.statement.TypedPlace.{TypedPlace}
 use Rattle.cxx_program.specs.Typed.{IsPath}
-use Rattle.path_plan.specs.Places.{IsIn}
+use Rattle.path_plan.specs.Places.{IsPartWithin}
 use Rattle.path_model.specs.Values.{Leaf}
 
 -- the leaf is an element of a number or pointer member of p itself, or of a part of p at any depth
 pub record LiesIn (h : Classes) (p : ObjectPart) (l : Leaf) : Type 0 where
-  pub inside : IsIn h l.part p
+  pub inside : IsPartWithin h l.part p
   pub class : ClassId
   pub of_class : class_of l.part.at ≡ Some class
   pub type : ValueType ClassId

@@ -13,10 +13,10 @@ use Rattle.cxx_program.specs.declared.program.Owner.TheVariants.{Main, Function,
 use Rattle.cxx_program.specs.declared.program.TypedBody.{TypedBody}
 use Rattle.cxx_program.specs.declared.program.TypedProgram.{TypedProgram}
 use Rattle.cxx_program.specs.Typed.{Types, Converts, to_same, IsTypedProgram, returns_of}
-use Rattle.path_model.specs.States.{Target, Running, Planned, Frame, InBody, InPlan, State, body_of, target_conversion}
+use Rattle.path_model.specs.States.{Target, RunningBody, Planned, Frame, InBody, InPlan, ProgramState, owned_body, target_conversion}
 use Rattle.path_model.specs.Steps.{body_step, event_step, frame_step}
 use Rattle.path_model.specs.Runs.{body_limit, frame_limit, move_by}
-use Rattle.path_model.specs.TypedStates.{AreTypedFrames, FitsObject, FitsResult, FitsTarget, IsCalledFrom, IsOpened, IsTypedState}
+use Rattle.path_model.specs.TypedStates.{AreTypedFrames, FitsMadeObject, FitsResult, FitsTarget, IsCalledFrom, IsOpened, IsTypedState}
 use Rattle.path_model.proofs.TypedBodies.{body_typed}
 use Rattle.path_model.proofs.TypedFrames.{sight_typed}
 use Rattle.path_frames.specs.declared.frames.Frame.{Frame as FrameCode}
@@ -37,7 +37,7 @@ fits_target : (h : Classes) (globals : Types) (body : TypedBody) (t : ValueType 
 fits_target h globals body t None a = (t, to_same t)
 fits_target h globals body t (Some target) a = (a.0, a.2)
 
-from_called : (h : Classes) (program : TypedProgram) (g : Running) (below : List Frame) (owner : Owner) (found : Conversion) (target : Option Target) → IsCalledFrom program (FitsResult h program.globals owner found target) below → (t : ValueType ClassId) → returns_of h owner ≡ Some (ValueReturn t) →
+from_called : (h : Classes) (program : TypedProgram) (g : RunningBody) (below : List Frame) (owner : Owner) (found : Conversion) (target : Option Target) → IsCalledFrom program (FitsResult h program.globals owner found target) below → (t : ValueType ClassId) → returns_of h owner ≡ Some (ValueReturn t) →
     (u v : ValueType ClassId) × Converts h t found u × Converts h u (target_conversion target) v
 from_called h program g [] owner found target a t is = absurd a
 from_called h program g (InPlan f ∷ below) owner found target a t is = absurd a
@@ -46,7 +46,7 @@ from_called h program g (InBody f ∷ below) owner found target (body, there, fi
     let w = fits_target h program.globals body r.0 target r.2 in
     (r.0, w.0, r.1, w.1)
 
-gives_by : (h : Classes) (program : TypedProgram) (f : Running) (below : List Frame) (owner : Owner) → f.owner ≡ owner → (f.owner ≡ Main → f.found ≡ ToSame) → IsOpened h program owner f.found f.target below → (t : ValueType ClassId) → returns_of h owner ≡ Some (ValueReturn t) →
+gives_by : (h : Classes) (program : TypedProgram) (f : RunningBody) (below : List Frame) (owner : Owner) → f.owner ≡ owner → (f.owner ≡ Main → f.found ≡ ToSame) → IsOpened h program owner f.found f.target below → (t : ValueType ClassId) → returns_of h owner ≡ Some (ValueReturn t) →
     (u v : ValueType ClassId) × Converts h t f.found u × Converts h u (target_conversion f.target) v
 gives_by h program f below Main is plain a t r = (t, t, subst (λ (x : Conversion). Converts h t x t) (sym (plain is)) (to_same t), subst (λ (x : Option Target). Converts h t (target_conversion x) t) (sym a.1) (to_same t))
 gives_by h program f below (Function g) is plain a t r = from_called h program f below (Function g) f.found f.target a t r
@@ -55,7 +55,7 @@ gives_by h program f below (Destructor c) is plain a t r = absurd (let e : None 
 
 -- plans
 
-plan_waits : (h : Classes) (program : TypedProgram) (classes : List ClassId) (f : Planned) (below : List Frame) (class : ClassId) → slice_get classes f.object ≡ Some class → IsCalledFrom program (FitsObject h program.globals classes f.object f.target) below →
+plan_waits : (h : Classes) (program : TypedProgram) (classes : List ClassId) (f : Planned) (below : List Frame) (class : ClassId) → slice_get classes f.object ≡ Some class → IsCalledFrom program (FitsMadeObject h program.globals classes f.object f.target) below →
     (target : Target) → f.target ≡ Some target → (t : ValueType ClassId) × Converts h (PointerType class) target.conversion t
 plan_waits h program classes f [] class made a target is = absurd a
 plan_waits h program classes f (InPlan g ∷ below) class made a target is = absurd a
@@ -66,22 +66,22 @@ plan_waits h program classes f (InBody g ∷ below) class made (body, there, fit
 
 -- the frame on top
 
-frames_typed : (h : Classes) (program : TypedProgram) (s : State) (frames : List Frame) → IsTypedState h program s → s.frames ≡ frames → AreTypedFrames h program s.objects.classes frames
+frames_typed : (h : Classes) (program : TypedProgram) (s : ProgramState) (frames : List Frame) → IsTypedState h program s → s.frames ≡ frames → AreTypedFrames h program s.objects.classes frames
 frames_typed h program s frames a is = subst (AreTypedFrames h program s.objects.classes) is a.frames
 
-pub plan_next : (h : Classes) (program : TypedProgram) (s : State) (f : Planned) (below : List Frame) (class : ClassId) → IsStateNext h program s → s.frames ≡ InPlan f ∷ below → slice_get s.objects.classes f.object ≡ Some class → IsPlanNext h s f class
+pub plan_next : (h : Classes) (program : TypedProgram) (s : ProgramState) (f : Planned) (below : List Frame) (class : ClassId) → IsStateNext h program s → s.frames ≡ InPlan f ∷ below → slice_get s.objects.classes f.object ≡ Some class → IsPlanNext h s f class
 plan_next h program s f below class next is made =
     let typed = frames_typed h program s (InPlan f ∷ below) next.typed is in
     record { fits = λ e events first. next.fits f e events below is first; waits = plan_waits h program s.objects.classes f below class made typed.0 }
 
-below_next : (h : Classes) (program : TypedProgram) (s : State) (f : Running) (below : List Frame) → IsStateNext h program s → s.frames ≡ InBody f ∷ below → IsBelowNext h s below
+below_next : (h : Classes) (program : TypedProgram) (s : ProgramState) (f : RunningBody) (below : List Frame) → IsStateNext h program s → s.frames ≡ InBody f ∷ below → IsBelowNext h s below
 below_next h program s f below next is g rest class under made =
     let here : s.frames ≡ InBody f ∷ (InPlan g ∷ rest) = is ∙ ap (λ xs. InBody f ∷ xs) under in
     let typed = frames_typed h program s (InBody f ∷ (InPlan g ∷ rest)) next.typed here in
     let below_typed = typed.2 in
     record { fits = λ e events first. next.behind f g e events rest here first; waits = plan_waits h program s.objects.classes g rest class made below_typed.0 }
 
-pub body_next : (h : Classes) (program : TypedProgram) → IsTypedProgram h program → (s : State) (f : Running) (below : List Frame) → IsStateNext h program s → s.frames ≡ InBody f ∷ below → (f.owner ≡ Main → f.found ≡ ToSame) → IsBodyNext h program s f below
+pub body_next : (h : Classes) (program : TypedProgram) → IsTypedProgram h program → (s : ProgramState) (f : RunningBody) (below : List Frame) → IsStateNext h program s → s.frames ≡ InBody f ∷ below → (f.owner ≡ Main → f.found ≡ ToSame) → IsBodyNext h program s f below
 body_next h program program_typed s f below next is plain =
     let typed = frames_typed h program s (InBody f ∷ below) next.typed is in
     record {
@@ -97,8 +97,8 @@ body_next h program program_typed s f below next is plain =
 
 -- the step of the frame that was taken
 
-pub body_moves : (h : Classes) (sizes : ClassId → ℕ) (program : TypedProgram) → IsTypedProgram h program → (machine new : Machine) (s : State) (frames : List Frame) (popped : Option FrameCode) (frame : BodyFrame) (before after : Telling) (code : NextCode) → s.frames ≡ frames → popped ≡ Some (Body frame) → Pops h sizes program machine s popped frames → IsStateNext h program s →
-    ((f : Running) (below : List Frame) → IsTaken h sizes program machine frame s f below → s.frames ≡ InBody f ∷ below → IsBodyNext h program s f below → MoveAgrees h sizes program (move_by (body_step h program s f below (body_of program f.owner)) (body_limit sizes s f (body_of program f.owner))) new before after code) →
+pub body_moves : (h : Classes) (sizes : ClassId → ℕ) (program : TypedProgram) → IsTypedProgram h program → (machine new : Machine) (s : ProgramState) (frames : List Frame) (popped : Option FrameCode) (frame : BodyFrame) (before after : Telling) (code : NextCode) → s.frames ≡ frames → popped ≡ Some (Body frame) → Pops h sizes program machine s popped frames → IsStateNext h program s →
+    ((f : RunningBody) (below : List Frame) → IsTaken h sizes program machine frame s f below → s.frames ≡ InBody f ∷ below → IsBodyNext h program s f below → MoveAgrees h sizes program (move_by (body_step h program s f below (owned_body program f.owner)) (body_limit sizes s f (owned_body program f.owner))) new before after code) →
     MoveAgrees h sizes program (move_by (frame_step h program s frames) (frame_limit sizes program s frames)) new before after code
 body_moves h sizes program typed machine new s [] popped frame before after code is top a next does = tt
 body_moves h sizes program typed machine new s (f ∷ below) None frame before after code is top a next does = absurd a
@@ -109,7 +109,7 @@ body_moves h sizes program typed machine new s (InBody f ∷ below) (Some (Body 
     let taken : IsTaken h sizes program machine frame2 s f below = record { machine_stands = rest; body_stands = stands; counts = counts } in
     does f below (subst (λ (x : BodyFrame). IsTaken h sizes program machine x s f below) same taken) is (body_next h program typed s f below next is stands.plain_main)
 
-pub plan_moves : (h : Classes) (sizes : ClassId → ℕ) (program : TypedProgram) (machine new : Machine) (s : State) (frames : List Frame) (popped : Option FrameCode) (plan : PlanFrame) (before after : Telling) (code : NextCode) → s.frames ≡ frames → popped ≡ Some (Plan plan) → Pops h sizes program machine s popped frames → IsStateNext h program s →
+pub plan_moves : (h : Classes) (sizes : ClassId → ℕ) (program : TypedProgram) (machine new : Machine) (s : ProgramState) (frames : List Frame) (popped : Option FrameCode) (plan : PlanFrame) (before after : Telling) (code : NextCode) → s.frames ≡ frames → popped ≡ Some (Plan plan) → Pops h sizes program machine s popped frames → IsStateNext h program s →
     ((f : Planned) (below : List Frame) → IsPlanTaken h sizes program machine plan s f below → IsPlanNext h s f plan.whole.class → StepAgrees h sizes program (event_step program s f below f.events) new before after code) →
     MoveAgrees h sizes program (move_by (frame_step h program s frames) (frame_limit sizes program s frames)) new before after code
 plan_moves h sizes program machine new s [] popped plan before after code is top a next does = tt
@@ -123,7 +123,7 @@ plan_moves h sizes program machine new s (InPlan f ∷ below) (Some (Plan plan2)
     (does f below (subst (λ (x : PlanFrame). IsPlanTaken h sizes program machine x s f below) same taken) (subst (λ (x : PlanFrame). IsPlanNext h s f x.whole.class) same (plan_next h program s f below plan2.whole.class next is stands.made)))
 
 -- no frame is left
-pub none_moves : (h : Classes) (sizes : ClassId → ℕ) (program : TypedProgram) (machine new : Machine) (s : State) (frames : List Frame) (popped : Option FrameCode) (before after : Telling) (code : NextCode) → popped ≡ None → Pops h sizes program machine s popped frames →
+pub none_moves : (h : Classes) (sizes : ClassId → ℕ) (program : TypedProgram) (machine new : Machine) (s : ProgramState) (frames : List Frame) (popped : Option FrameCode) (before after : Telling) (code : NextCode) → popped ≡ None → Pops h sizes program machine s popped frames →
     MoveAgrees h sizes program (move_by (frame_step h program s frames) (frame_limit sizes program s frames)) new before after code
 none_moves h sizes program machine new s [] popped before after code is a = tt
 none_moves h sizes program machine new s (f ∷ below) None before after code is a = absurd a

@@ -15,11 +15,11 @@ use Rattle.cxx_program.specs.declared.program.TypedProgram.{TypedProgram}
 use Rattle.cxx_program.specs.declared.operand.Argument.{Argument}
 use Rattle.cxx_program.specs.Typed.{Types, Scope, IsArgument, IsTypedProgram, parameter_types}
 use Rattle.path_model.specs.declared.outs.Out.TheVariants.{Call as CallOut}
-use Rattle.path_model.specs.Values.{Value, Unset, Number, Null, Pointer, Sight, value, argument_value}
+use Rattle.path_model.specs.Values.{Value, Unset, Number, Null, Pointer, Sight, value_of_operand, argument_value}
 use Rattle.path_model.specs.Outs.{location_of}
-use Rattle.path_model.specs.Uses.{arrow, views, is_shared_way, is_shared, goes_to, argument_uses, takes, receiver, call_uses}
+use Rattle.path_model.specs.Uses.{arrow, uses_of_view, is_shared_way, is_shared, goes_to, argument_uses, takes, receiver_value, call_uses}
 use Rattle.path_model.specs.Rules.{refused}
-use Rattle.path_model.specs.States.{Target, Frame, State, body_of, with_frames, entered}
+use Rattle.path_model.specs.States.{Target, Frame, ProgramState, owned_body, with_frames, entered_body}
 use Rattle.path_model.specs.Effects.{result_conversion, runs, body_entered, function_entered, called_at}
 use Rattle.path_model.specs.Runs.{opened_for}
 use Rattle.path_model.proofs.TypedBodies.{body_typed}
@@ -29,9 +29,9 @@ use Rattle.path_heap.specs.Points.{Points}
 use Rattle.path_heap.specs.Stands.{Means}
 use Rattle.path_heap.specs.declared.heap.Heap.{Heap}
 use Rattle.path_values.specs.Scenes.{SceneStands}
-use Rattle.path_values.specs.Given.{IsSeen}
+use Rattle.path_values.specs.Given.{HasTypesOfScope}
 use Rattle.path_views.specs.declared.views.Found.{Found}
-use Rattle.path_views.specs.Views.{IsRun}
+use Rattle.path_views.specs.Views.{RunsByView}
 use Rattle.path_effects.proofs.Clear.{clear_front, clear_back}
 use Rattle.path_frames.specs.Frames.{BodyStands}
 use Rattle.path_frames.specs.declared.frames.BodyFrame.{BodyFrame}
@@ -46,16 +46,16 @@ use Rattle.path_values.specs.declared.scene.Scene.{Scene}
 -- what the arguments of a call use is among what the call uses
 pub arguments_clear : (h : Classes) (s : Sight) (call : TypedCall) → refused h s.objects (call_uses s call) ≡ None → refused h s.objects (flat_map (argument_uses s) call.arguments) ≡ None
 arguments_clear h s call clear =
-    let first = arrow (value s call.pointer) in
-    let second = views (call.is_dispatched || is_shared_way call.qualifier) (value s call.pointer) in
-    let third = views (is_shared call.base) (goes_to call.qualifier (value s call.pointer)) in
+    let first = arrow (value_of_operand s call.pointer) in
+    let second = uses_of_view (call.is_dispatched || is_shared_way call.qualifier) (value_of_operand s call.pointer) in
+    let third = uses_of_view (is_shared call.base) (goes_to call.qualifier (value_of_operand s call.pointer)) in
     let arguments = flat_map (argument_uses s) call.arguments in
-    let last = takes call.is_dispatched (receiver s call) call.function in
+    let last = takes call.is_dispatched (receiver_value s call) call.function in
     clear_front h s.objects arguments last (clear_back h s.objects third (arguments ++ last) (clear_back h s.objects second (third ++ (arguments ++ last)) (clear_back h s.objects first (second ++ (third ++ (arguments ++ last))) clear)))
 
 -- what is told of the values of a list of arguments, where the list is the call's
 pub arguments_mean : (h : Classes) (heap : Heap) (scene : Scene) (call : TypedCall) (list : List Argument) (values : List ValueCode) → list ≡ call.arguments
-    → ((e : Scope) (s : Sight) (types : Types) → SceneStands h heap scene s → IsSeen h e s → AllZip (IsArgument h e) list types → refused h s.objects (flat_map (argument_uses s) list) ≡ None → AllZip (Means h s.objects.classes) values (map (argument_value s) list))
+    → ((e : Scope) (s : Sight) (types : Types) → SceneStands h heap scene s → HasTypesOfScope h e s → AllZip (IsArgument h e) list types → refused h s.objects (flat_map (argument_uses s) list) ≡ None → AllZip (Means h s.objects.classes) values (map (argument_value s) list))
     → (e : Scope) (s : Sight) → SceneStands h heap scene s → IsCalling h e s call → AllZip (Means h s.objects.classes) values (map (argument_value s) call.arguments)
 arguments_mean h heap scene call list values is told e s stands a =
     subst (λ xs. AllZip (Means h s.objects.classes) values (map (argument_value s) xs)) is
@@ -83,25 +83,25 @@ locals_mean h classes n values locals vs is a =
 -- the body
 
 -- a function counts as one that is open
-counted : (h : Classes) (program : TypedProgram) → IsTypedProgram h program → (g : FunctionId) (body : TypedBody) → body_of program (Function g) ≡ Some body → opened_for body.owner ≡ 1
+counted : (h : Classes) (program : TypedProgram) → IsTypedProgram h program → (g : FunctionId) (body : TypedBody) → owned_body program (Function g) ≡ Some body → opened_for body.owner ≡ 1
 counted h program typed g body is = ap opened_for (body_typed h program typed (Function g) body is).0
 
 -- the function that runs has no body
-pub bodiless : (h : Classes) (program : TypedProgram) (s : State) (frames : List Frame) (before after : Telling) (values : List Value) (call : TypedCall) (target : Option Target) (code : Option BodyFrame) (run : ObjectPart × FunctionId)
-    → body_of program (Function run.1) ≡ None → Opens h s frames before after code (body_entered h (with_frames s frames) values call target run (body_of program (Function run.1)))
+pub bodiless : (h : Classes) (program : TypedProgram) (s : ProgramState) (frames : List Frame) (before after : Telling) (values : List Value) (call : TypedCall) (target : Option Target) (code : Option BodyFrame) (run : ObjectPart × FunctionId)
+    → owned_body program (Function run.1) ≡ None → Opens h s frames before after code (body_entered h (with_frames s frames) values call target run (owned_body program (Function run.1)))
 bodiless h program s frames before after values call target code run is =
     subst (λ b. Opens h s frames before after code (body_entered h (with_frames s frames) values call target run b)) (sym is) (goes_wrong code)
 
 -- the frame of a body for the one that the model enters
-pub record EntersBody (h : Classes) (s : State) (before after : Telling) (values : List Value) (call : TypedCall) (target : Option Target) (run : ObjectPart × FunctionId) (body : TypedBody) (code : BodyFrame) : Type 0 where
-  pub stands : BodyStands h s.objects.classes code (entered body (Pointer run.0) values (result_conversion h (return_of h run.1) (return_of h call.function)) target)
+pub record EntersBody (h : Classes) (s : ProgramState) (before after : Telling) (values : List Value) (call : TypedCall) (target : Option Target) (run : ObjectPart × FunctionId) (body : TypedBody) (code : BodyFrame) : Type 0 where
+  pub stands : BodyStands h s.objects.classes code (entered_body body (Pointer run.0) values (result_conversion h (return_of h run.1) (return_of h call.function)) target)
   pub told : TellsMore before after (CallOut run.1 (location_of s.objects run.0) ∷ [])
 
-pub enters : (h : Classes) (program : TypedProgram) → IsTypedProgram h program → (s : State) (frames : List Frame) (before after : Telling) (values : List Value) (call : TypedCall) (target : Option Target) (code : BodyFrame) (run : ObjectPart × FunctionId) (body : TypedBody)
-    → body_of program (Function run.1) ≡ Some body → EntersBody h s before after values call target run body code
-    → Opens h s frames before after (Some code) (body_entered h (with_frames s frames) values call target run (body_of program (Function run.1)))
+pub enters : (h : Classes) (program : TypedProgram) → IsTypedProgram h program → (s : ProgramState) (frames : List Frame) (before after : Telling) (values : List Value) (call : TypedCall) (target : Option Target) (code : BodyFrame) (run : ObjectPart × FunctionId) (body : TypedBody)
+    → owned_body program (Function run.1) ≡ Some body → EntersBody h s before after values call target run body code
+    → Opens h s frames before after (Some code) (body_entered h (with_frames s frames) values call target run (owned_body program (Function run.1)))
 enters h program typed s frames before after values call target code run body is a =
-    let g = entered body (Pointer run.0) values (result_conversion h (return_of h run.1) (return_of h call.function)) target in
+    let g = entered_body body (Pointer run.0) values (result_conversion h (return_of h run.1) (return_of h call.function)) target in
     subst (λ b. Opens h s frames before after (Some code) (body_entered h (with_frames s frames) values call target run b)) (sym is)
     (opens_body code g (CallOut run.1 (location_of s.objects run.0)) a.stands (counted h program typed run.1 body is) a.told)
 
@@ -109,24 +109,24 @@ none_is_one : (n : ℕ) → n ≡ 0 → n ≡ 1 → ⊥
 none_is_one n a b = omega arith
 
 -- the body of a function is not that of `main`
-pub not_main : (h : Classes) (program : TypedProgram) → IsTypedProgram h program → (g : FunctionId) (body : TypedBody) → body_of program (Function g) ≡ Some body → body.owner ≡ Main → ⊥
+pub not_main : (h : Classes) (program : TypedProgram) → IsTypedProgram h program → (g : FunctionId) (body : TypedBody) → owned_body program (Function g) ≡ Some body → body.owner ≡ Main → ⊥
 not_main h program typed g body is main = none_is_one (opened_for body.owner) (ap opened_for main) (counted h program typed g body is)
 
 -- what runs, and on which part
 
-pub nothing_runs : (h : Classes) (program : TypedProgram) (s : State) (frames : List Frame) (before after : Telling) (values : List Value) (call : TypedCall) (target : Option Target) (run : Option (ObjectPart × FunctionId)) → IsRun h s.objects.classes None run
+pub nothing_runs : (h : Classes) (program : TypedProgram) (s : ProgramState) (frames : List Frame) (before after : Telling) (values : List Value) (call : TypedCall) (target : Option Target) (run : Option (ObjectPart × FunctionId)) → RunsByView h s.objects.classes None run
     → Opens h s frames before after None (function_entered h program (with_frames s frames) values call target run)
 nothing_runs h program s frames before after values call target None a = goes_wrong None
 nothing_runs h program s frames before after values call target (Some run) a = absurd a
 
-pub something_runs : (h : Classes) (program : TypedProgram) (s : State) (frames : List Frame) (before after : Telling) (values : List Value) (call : TypedCall) (target : Option Target) (code : Option BodyFrame) (found : Found) (run : Option (ObjectPart × FunctionId)) → IsRun h s.objects.classes (Some found) run
-    → ((r : ObjectPart × FunctionId) → Points h s.objects.classes found.this r.0 → found.function ≡ r.1 → Opens h s frames before after code (body_entered h (with_frames s frames) values call target r (body_of program (Function r.1))))
+pub something_runs : (h : Classes) (program : TypedProgram) (s : ProgramState) (frames : List Frame) (before after : Telling) (values : List Value) (call : TypedCall) (target : Option Target) (code : Option BodyFrame) (found : Found) (run : Option (ObjectPart × FunctionId)) → RunsByView h s.objects.classes (Some found) run
+    → ((r : ObjectPart × FunctionId) → Points h s.objects.classes found.this r.0 → found.function ≡ r.1 → Opens h s frames before after code (body_entered h (with_frames s frames) values call target r (owned_body program (Function r.1))))
     → Opens h s frames before after code (function_entered h program (with_frames s frames) values call target run)
 something_runs h program s frames before after values call target code found None a next = absurd a
 something_runs h program s frames before after values call target code found (Some run) a next = next run a.0 a.1
 
 -- a call through something that is no pointer is wrong
-pub through : (h : Classes) (program : TypedProgram) (s : State) (frames : List Frame) (before after : Telling) (values : List Value) (call : TypedCall) (target : Option Target) (code : Option BodyFrame) (v : Value)
+pub through : (h : Classes) (program : TypedProgram) (s : ProgramState) (frames : List Frame) (before after : Telling) (values : List Value) (call : TypedCall) (target : Option Target) (code : Option BodyFrame) (v : Value)
     → ((p : ObjectPart) → v ≡ Pointer p → Opens h s frames before after code (function_entered h program (with_frames s frames) values call target (runs h s.objects call p)))
     → Opens h s frames before after code (called_at h program (with_frames s frames) values call target v)
 through h program s frames before after values call target code Unset next = goes_wrong code

@@ -5,8 +5,8 @@ use Rattle.cxx_hierarchy.specs.declared.records.ClassId.{ClassId}
 use Rattle.cxx_hierarchy.specs.Classes.{Classes}
 use Rattle.cxx_program.specs.declared.program.TypedProgram.{TypedProgram}
 use Rattle.path_model.specs.declared.outs.Out.{Out}
-use Rattle.path_model.specs.States.{State}
-use Rattle.path_model.specs.Runs.{Move, Moves, Ending, OutOfSteps, Ran, IsRunning, is_taken, move, behind, ran_by, run_from, run_of, state_at, state_behind, outs_at}
+use Rattle.path_model.specs.States.{ProgramState}
+use Rattle.path_model.specs.Runs.{Move, Moves, Ending, OutOfSteps, Ran, IsRunning, is_step_taken, move, behind, ran_by, run_from, run_of, state_at, state_behind, outs_at}
 
 same_or_more : (k n : ℕ) → (k < n) ⊎ (k ≡ n) → (suc k < suc n) ⊎ (suc k ≡ suc n)
 same_or_more k n (inl less) = inl (omega arith)
@@ -18,12 +18,12 @@ less_or_same zero (suc n) lt = inl (omega arith)
 less_or_same (suc k) zero lt = absurd (omega arith)
 less_or_same (suc k) (suc n) lt = same_or_more k n (less_or_same k n (omega arith))
 
-runs_case : (h : Classes) (sizes : ClassId → ℕ) (program : TypedProgram) (n k : ℕ) (s : State) (outs : List Out) → IsRunning h sizes program n → move h sizes program (state_at h sizes program n) ≡ Moves s outs → (k < n) ⊎ (k ≡ n) → is_taken (move h sizes program (state_at h sizes program k)) ≡ true
+runs_case : (h : Classes) (sizes : ClassId → ℕ) (program : TypedProgram) (n k : ℕ) (s : ProgramState) (outs : List Out) → IsRunning h sizes program n → move h sizes program (state_at h sizes program n) ≡ Moves s outs → (k < n) ⊎ (k ≡ n) → is_step_taken (move h sizes program (state_at h sizes program k)) ≡ true
 runs_case h sizes program n k s outs runs is (inl less) = runs k less
-runs_case h sizes program n k s outs runs is (inr same) = ap (λ j. is_taken (move h sizes program (state_at h sizes program j))) same ∙ ap is_taken is
+runs_case h sizes program n k s outs runs is (inr same) = ap (λ j. is_step_taken (move h sizes program (state_at h sizes program j))) same ∙ ap is_step_taken is
 
 -- one step more was taken
-pub runs_longer : (h : Classes) (sizes : ClassId → ℕ) (program : TypedProgram) (n : ℕ) (s : State) (outs : List Out) → IsRunning h sizes program n → move h sizes program (state_at h sizes program n) ≡ Moves s outs → IsRunning h sizes program (n + 1)
+pub runs_longer : (h : Classes) (sizes : ClassId → ℕ) (program : TypedProgram) (n : ℕ) (s : ProgramState) (outs : List Out) → IsRunning h sizes program n → move h sizes program (state_at h sizes program n) ≡ Moves s outs → IsRunning h sizes program (n + 1)
 runs_longer h sizes program n s outs runs is k lt = runs_case h sizes program n k s outs runs is (less_or_same k n lt)
 
 -- what a run is that goes on from its n-th state
@@ -59,7 +59,7 @@ spent h sizes program n budget goes runs le ge =
 
 -- the run that a move ends
 pub ended_by : (h : Classes) (sizes : ClassId → ℕ) (program : TypedProgram) (n budget : ℕ) (m : Move) (ending : Ending) (steps : ℕ) → GoesOn h sizes program → IsRunning h sizes program n → n < budget → move h sizes program (state_at h sizes program n) ≡ m →
-    ((rest : State → Ran) → ran_by m rest ≡ ran [] ending steps) →
+    ((rest : ProgramState → Ran) → ran_by m rest ≡ ran [] ending steps) →
     run_of h sizes program budget ≡ ran (outs_at h sizes program n) ending (n + steps)
 ended_by h sizes program n budget m ending steps goes runs lt is by =
     let left = left_of n budget lt in
@@ -69,5 +69,5 @@ one_more : (n : ℕ) → n + 1 ≡ suc n
 one_more n = omega arith
 
 -- the state behind a step
-pub state_is : (h : Classes) (sizes : ClassId → ℕ) (program : TypedProgram) (n : ℕ) (s : State) (outs : List Out) → move h sizes program (state_at h sizes program n) ≡ Moves s outs → state_at h sizes program (n + 1) ≡ s
+pub state_is : (h : Classes) (sizes : ClassId → ℕ) (program : TypedProgram) (n : ℕ) (s : ProgramState) (outs : List Out) → move h sizes program (state_at h sizes program n) ≡ Moves s outs → state_at h sizes program (n + 1) ≡ s
 state_is h sizes program n s outs is = ap (state_at h sizes program) (one_more n) ∙ ap (λ m. state_behind m (state_at h sizes program n)) is

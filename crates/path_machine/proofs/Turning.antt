@@ -7,12 +7,12 @@ use Rattle.path_rules.specs.declared.Undefined.{Undefined}
 use Rattle.cxx_program.specs.declared.program.TypedProgram.{TypedProgram}
 use Rattle.path_model.specs.declared.outs.Turn.{Turn}
 use Rattle.path_model.specs.declared.outs.Turn.TheVariants.{Went, Ended, Refused, OutOfSteps as IsOutOfSteps, Limit}
-use Rattle.path_plan.specs.Phases.{Event}
+use Rattle.path_plan.specs.Phases.{PartEvent}
 use Rattle.path_plan.specs.Views.{Fits}
 use Rattle.cxx_overrider.specs.Faults.{HasNoFault}
 use Rattle.path_model.specs.Typed.{AllSettled}
 use Rattle.path_model.specs.TypedStates.{IsTypedState}
-use Rattle.path_model.specs.States.{Running, Planned, Frame, InBody, InPlan}
+use Rattle.path_model.specs.States.{RunningBody, Planned, Frame, InBody, InPlan}
 use Rattle.path_model.specs.Runs.{Move, Moves, IsRefused, IsLimited, IsOver, IsWrong, Ran, move, run_of, state_at, outs_at, outs_in}
 use Rattle.path_tables.specs.Asked.{AreAnswers}
 use Rattle.path_tables.specs.declared.asked.Answers.{Answers}
@@ -22,7 +22,7 @@ use Rattle.path_machine.specs.declared.state.PathState.{PathState}
 use Rattle.path_machine.specs.declared.next.Next.{Next as NextCode}
 use Rattle.path_machine.specs.declared.next.Next.TheVariants.{Goes as GoesCode, Refuses as RefusesCode, Limited, Ends as EndsCode, Wrong as WrongCode}
 use Rattle.path_machine.specs.Turns.{IsAtStep, IsInRun, TurnAgrees, ending_of, ended_with}
-use Rattle.path_machine.specs.invariants.Ends.{counted, Steps, Ends, Leaves, HasMoved, IsFinished}
+use Rattle.path_machine.specs.invariants.Ends.{step_counted, Steps, EndsRun, Leaves, HasMoved, IsFinished}
 use Rattle.path_machine.specs.invariants.Setups.{IsStateNext}
 use Rattle.path_machine.specs.invariants.Steps.{MoveAgrees}
 use Rattle.path_machine.proofs.Running.{GoesOn, ran, runs_longer, state_is, spent, ended_by}
@@ -67,12 +67,12 @@ none_more : (k : ℕ) → k ≡ k + 0
 none_more k = omega arith
 
 -- the budget is spent
-pub no_steps : (h : Classes) (sizes : ClassId → ℕ) (program : TypedProgram) (before : PathState) (told : Telling) → GoesOn h sizes program → IsAtStep h sizes program before → before.budget ≤ before.taken → Ends h sizes program before IsOutOfSteps 0 told told
+pub no_steps : (h : Classes) (sizes : ClassId → ℕ) (program : TypedProgram) (before : PathState) (told : Telling) → GoesOn h sizes program → IsAtStep h sizes program before → before.budget ≤ before.taken → EndsRun h sizes program before IsOutOfSteps 0 told told
 no_steps h sizes program before told goes a le = record { run = spent h sizes program before.taken before.budget goes a.running a.within le ∙ ap (ran (outs_at h sizes program before.taken) (ending_of IsOutOfSteps)) (none_more before.taken); same = refl }
 
 -- the run is over
 overs : (h : Classes) (sizes : ClassId → ℕ) (program : TypedProgram) (before : PathState) (machine : Machine) (told telling : Telling) (m : Move) (next : NextCode) → move h sizes program (state_at h sizes program before.taken) ≡ m → next ≡ EndsCode → (m ≡ IsWrong → ⊥) →
-    GoesOn h sizes program → IsAtStep h sizes program before → before.taken < before.budget → MoveAgrees h sizes program m machine told telling next → Ends h sizes program before Ended 1 told telling
+    GoesOn h sizes program → IsAtStep h sizes program before → before.taken < before.budget → MoveAgrees h sizes program m machine told telling next → EndsRun h sizes program before Ended 1 told telling
 overs h sizes program before machine told telling (IsRefused rule line) next is same right goes a lt g = absurd (let f : EndsCode ≡ RefusesCode rule line = sym same ∙ g.0 in cc)
 overs h sizes program before machine told telling (IsLimited limit) next is same right goes a lt g = absurd (let f : EndsCode ≡ Limited limit = sym same ∙ g.0 in cc)
 overs h sizes program before machine told telling IsWrong next is same right goes a lt g = absurd (right refl)
@@ -81,7 +81,7 @@ overs h sizes program before machine told telling IsOver next is same right goes
 
 -- a rule refuses the step
 refuses : (h : Classes) (sizes : ClassId → ℕ) (program : TypedProgram) (before : PathState) (machine : Machine) (told telling : Telling) (m : Move) (next : NextCode) (rule : Undefined) (line : ℕ) → move h sizes program (state_at h sizes program before.taken) ≡ m → next ≡ RefusesCode rule line → (m ≡ IsWrong → ⊥) →
-    GoesOn h sizes program → IsAtStep h sizes program before → before.taken < before.budget → MoveAgrees h sizes program m machine told telling next → Ends h sizes program before (Refused rule line) 0 told telling
+    GoesOn h sizes program → IsAtStep h sizes program before → before.taken < before.budget → MoveAgrees h sizes program m machine told telling next → EndsRun h sizes program before (Refused rule line) 0 told telling
 refuses h sizes program before machine told telling (IsLimited limit) next rule line is same right goes a lt g = absurd (let f : RefusesCode rule line ≡ Limited limit = sym same ∙ g.0 in cc)
 refuses h sizes program before machine told telling IsOver next rule line is same right goes a lt g = absurd (let f : RefusesCode rule line ≡ EndsCode = sym same ∙ g.0 in cc)
 refuses h sizes program before machine told telling IsWrong next rule line is same right goes a lt g = absurd (right refl)
@@ -94,7 +94,7 @@ refuses h sizes program before machine told telling (IsRefused rule2 line2) next
 
 -- the step would pass a limit
 limits : (h : Classes) (sizes : ClassId → ℕ) (program : TypedProgram) (before : PathState) (machine : Machine) (told telling : Telling) (m : Move) (next : NextCode) (limit : LimitNo) → move h sizes program (state_at h sizes program before.taken) ≡ m → next ≡ Limited limit → (m ≡ IsWrong → ⊥) →
-    GoesOn h sizes program → IsAtStep h sizes program before → before.taken < before.budget → MoveAgrees h sizes program m machine told telling next → Ends h sizes program before (Limit limit) 0 told telling
+    GoesOn h sizes program → IsAtStep h sizes program before → before.taken < before.budget → MoveAgrees h sizes program m machine told telling next → EndsRun h sizes program before (Limit limit) 0 told telling
 limits h sizes program before machine told telling (IsRefused rule line) next limit is same right goes a lt g = absurd (let f : Limited limit ≡ RefusesCode rule line = sym same ∙ g.0 in cc)
 limits h sizes program before machine told telling IsOver next limit is same right goes a lt g = absurd (let f : Limited limit ≡ EndsCode = sym same ∙ g.0 in cc)
 limits h sizes program before machine told telling IsWrong next limit is same right goes a lt g = absurd (right refl)
@@ -130,7 +130,7 @@ ends_agree h sizes program before after told telling IsOutOfSteps end outs budge
 ends_agree h sizes program before after told telling (Limit limit) end outs budget is same = (outs, budget, is, same)
 
 -- the run has ended with the answer, which is kept
-ends : (h : Classes) (sizes : ClassId → ℕ) (program : TypedProgram) (before middle after : PathState) (turn result : Turn) (more : ℕ) (told telling : Telling) → IsEnd turn → Ends h sizes program before turn more told telling →
+ends : (h : Classes) (sizes : ClassId → ℕ) (program : TypedProgram) (before middle after : PathState) (turn result : Turn) (more : ℕ) (told telling : Telling) → IsEnd turn → EndsRun h sizes program before turn more told telling →
     middle.budget ≡ before.budget → middle.taken ≡ before.taken + more → IsFinished middle after turn result → IsInRun h sizes program after (ended_with after) × TurnAgrees h sizes program before after told telling None result
 ends h sizes program before middle after turn result more told telling end a budget taken done =
     let runs : run_of h sizes program middle.budget ≡ ran (outs_at h sizes program before.taken) (ending_of turn) (before.taken + more) = ap (run_of h sizes program) budget ∙ a.run in (
@@ -145,15 +145,15 @@ left_by h sizes program before after told telling is k = subst (Leaves h sizes p
 
 -- a turn that takes a step
 pub goes_on : (h : Classes) (sizes : ClassId → ℕ) (program : TypedProgram) (before after : PathState) (told telling : Telling) (next : NextCode) → before.end ≡ None → HasMoved h sizes program before after told telling next → next ≡ GoesCode →
-    IsInRun h sizes program (counted after) after.end × TurnAgrees h sizes program before (counted after) told telling before.end Went
+    IsInRun h sizes program (step_counted after) after.end × TurnAgrees h sizes program before (step_counted after) told telling before.end Went
 goes_on h sizes program before after told telling next none k is =
     let steps : Steps h sizes program before after told telling = left_by h sizes program before after told telling is k in (
-      subst (IsInRun h sizes program (counted after)) (sym (k.end ∙ none)) steps.at,
-      subst (λ o. TurnAgrees h sizes program before (counted after) told telling o Went) (sym none) (ap (λ n. n + 1) k.taken, k.budget, k.end ∙ none, steps.tells),
+      subst (IsInRun h sizes program (step_counted after)) (sym (k.end ∙ none)) steps.at,
+      subst (λ o. TurnAgrees h sizes program before (step_counted after) told telling o Went) (sym none) (ap (λ n. n + 1) k.taken, k.budget, k.end ∙ none, steps.tells),
     )
 
 -- a turn that ends the run
-pub ends_now : (h : Classes) (sizes : ClassId → ℕ) (program : TypedProgram) (before middle after : PathState) (turn result : Turn) (more : ℕ) (told telling : Telling) → before.end ≡ None → IsEnd turn → Ends h sizes program before turn more told telling →
+pub ends_now : (h : Classes) (sizes : ClassId → ℕ) (program : TypedProgram) (before middle after : PathState) (turn result : Turn) (more : ℕ) (told telling : Telling) → before.end ≡ None → IsEnd turn → EndsRun h sizes program before turn more told telling →
     middle.budget ≡ before.budget → middle.taken ≡ before.taken + more → IsFinished middle after turn result → IsInRun h sizes program after (ended_with after) × TurnAgrees h sizes program before after told telling before.end result
 ends_now h sizes program before middle after turn result more told telling none end a budget taken done =
     let r = ends h sizes program before middle after turn result more told telling end a budget taken done in
@@ -161,7 +161,7 @@ ends_now h sizes program before middle after turn result more told telling none 
 
 -- what is known of each state of a run
 pub next_at : (h : Classes) (sizes : ClassId → ℕ) (program : TypedProgram) (n : ℕ) → HasNoFault h → IsTypedState h program (state_at h sizes program n) →
-    ((f : Running) (below : List Frame) → (state_at h sizes program n).frames ≡ InBody f ∷ below → AllSettled h (state_at h sizes program n).objects) →
-    ((f : Planned) (e : Event) (events : List Event) (below : List Frame) → (state_at h sizes program n).frames ≡ InPlan f ∷ below → f.events ≡ e ∷ events → Fits h (state_at h sizes program n).objects.phases e) →
-    ((g : Running) (f : Planned) (e : Event) (events : List Event) (below : List Frame) → (state_at h sizes program n).frames ≡ InBody g ∷ (InPlan f ∷ below) → f.events ≡ e ∷ events → Fits h (state_at h sizes program n).objects.phases e) → IsStateNext h program (state_at h sizes program n)
+    ((f : RunningBody) (below : List Frame) → (state_at h sizes program n).frames ≡ InBody f ∷ below → AllSettled h (state_at h sizes program n).objects) →
+    ((f : Planned) (e : PartEvent) (events : List PartEvent) (below : List Frame) → (state_at h sizes program n).frames ≡ InPlan f ∷ below → f.events ≡ e ∷ events → Fits h (state_at h sizes program n).objects.phases e) →
+    ((g : RunningBody) (f : Planned) (e : PartEvent) (events : List PartEvent) (below : List Frame) → (state_at h sizes program n).frames ≡ InBody g ∷ (InPlan f ∷ below) → f.events ≡ e ∷ events → Fits h (state_at h sizes program n).objects.phases e) → IsStateNext h program (state_at h sizes program n)
 next_at h sizes program n fine typed settled fits behind = record { fine = fine; typed = typed; settled = settled; fits = fits; behind = behind }

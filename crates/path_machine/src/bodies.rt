@@ -7,14 +7,14 @@ ghost use Rattle.cxx_overrider.specs.Functions.{return_of};
 ghost use Rattle.cxx_program.specs.declared.program.TypedProgram.{TypedProgram};
 ghost use Rattle.cxx_program.specs.Typed.{Scope};
 ghost use Rattle.path_machine.specs.declared.telling.Telling.{Telling};
-ghost use Rattle.path_model.specs.Rules.{returns_value, refusal};
-ghost use Rattle.path_model.specs.States.{Running, Frame as FrameOf, State, sight, wanted, target_conversion, with_frames};
+ghost use Rattle.path_model.specs.Rules.{returns_value, statement_refusal};
+ghost use Rattle.path_model.specs.States.{RunningBody, Frame as FrameOf, ProgramState, sight, wanted_result, target_conversion, with_frames};
 ghost use Rattle.path_model.specs.Effects.{block_at};
-ghost use Rattle.path_model.specs.Steps.{before_kind, closed, constructor_closed, function_closed};
+ghost use Rattle.path_model.specs.Steps.{before_kind, body_closed, constructor_closed, function_closed};
 ghost use Rattle.path_values.specs.Given.{IsGiven};
 ghost use Rattle.path_tables.specs.Asked.{AreAnswers};
 ghost use Rattle.path_frames.specs.declared.machine.Machine.{Machine as MachineOf};
-ghost use Rattle.path_frames.specs.Frames.{target_of};
+ghost use Rattle.path_frames.specs.Frames.{target_of_code};
 ghost use Rattle.path_frames.specs.Machines.{MachineStands};
 ghost use Rattle.cxx_program.specs.declared.operand.Conversion.TheVariants.{Same as ToSame};
 ghost use Rattle.path_machine.specs.invariants.Steps.{IsTaken, StepAgrees, IsTakenIn};
@@ -203,7 +203,7 @@ fn effect(
 
 /// A declaration makes its variable unset before its right side is read (ISO C++03 3.3.1).
 fn before_kind(frame: BodyBox, kind: &TypedKind) -> BodyBox
-    ensures { (h : Classes) (sizes : ClassId → ℕ) (program : TypedProgram) (machine : MachineOf) (s : State) (f : Running) (below : List FrameOf) → IsTaken h sizes program machine frame s f below → IsTaken h sizes program machine result s (before_kind f kind.now) below }
+    ensures { (h : Classes) (sizes : ClassId → ℕ) (program : TypedProgram) (machine : MachineOf) (s : ProgramState) (f : RunningBody) (below : List FrameOf) → IsTaken h sizes program machine frame s f below → IsTaken h sizes program machine result s (before_kind f kind.now) below }
 {
     let mut frame = frame;
     match kind {
@@ -218,7 +218,7 @@ fn before_kind(frame: BodyBox, kind: &TypedKind) -> BodyBox
 /// How a result becomes a value of who waits for it.
 fn wanted_by<'a>(target: &'a Option<Target>, same: &'a Conversion) -> &'a Conversion
     requires { same.now ≡ ToSame }
-    ensures { result.now ≡ target_conversion (target_of target.now) }
+    ensures { result.now ≡ target_conversion (target_of_code target.now) }
 {
     match target {
         Some(target) => &target.conversion,
@@ -237,8 +237,8 @@ fn refused(
     requires setup { IsSetup run.now }
     requires answers { AreAnswers run.now.world.h.now answers.old }
     ensures answers { AreAnswers run.now.world.h.now answers.new }
-    ensures is { IfOk result (λ rule. (e : Scope) (s : State) (f : Running) (below : List FrameOf) →
-        IsTakenIn run.now machine.now frame.now s f below → IsGiven run.now.world.h.now e (sight s f) (wanted f) kind.now → rule ≡ refusal run.now.world.h.now (sight s f) (wanted f) kind.now) }
+    ensures is { IfOk result (λ rule. (e : Scope) (s : ProgramState) (f : RunningBody) (below : List FrameOf) →
+        IsTakenIn run.now machine.now frame.now s f below → IsGiven run.now.world.h.now e (sight s f) (wanted_result f) kind.now → rule ≡ statement_refusal run.now.world.h.now (sight s f) (wanted_result f) kind.now) }
 {
     let same = Conversion::Same;
     let scene = scene_of(machine, frame);
@@ -296,7 +296,7 @@ fn has_result(h: &Hierarchy, g: FunctionId) -> bool
 
 /// The closing step of a function's body (ISO C++03 6.6.3 p2).
 fn close_function(h: &Hierarchy, g: FunctionId, line: u32) -> Next
-    ensures { (sizes : ClassId → ℕ) (program : TypedProgram) (machine : MachineOf) (s : State) (below : List FrameOf) (outs : Telling) → MachineStands h.now sizes program machine (with_frames s below) → StepAgrees h.now sizes program (function_closed h.now s g line below) machine outs outs result }
+    ensures { (sizes : ClassId → ℕ) (program : TypedProgram) (machine : MachineOf) (s : ProgramState) (below : List FrameOf) (outs : Telling) → MachineStands h.now sizes program machine (with_frames s below) → StepAgrees h.now sizes program (function_closed h.now s g line below) machine outs outs result }
 {
     refusal_is_least();
     if has_result(h, g) {
@@ -343,7 +343,7 @@ fn close(
     line: u32,
 ) -> Result<Next, NoMemory>
     requires setup { IsSetup run.now }
-    ensures { IfOk result (ClosesBy run.now machine.old machine.new (λ s. closed run.now.world.h.now run.now.program.now s owner line) outs.old outs.new) }
+    ensures { IfOk result (ClosesBy run.now machine.old machine.new (λ s. body_closed run.now.world.h.now run.now.program.now s owner line) outs.old outs.new) }
 {
     match owner {
         Owner::Main => Ok(Next::Ends),

@@ -2,7 +2,7 @@
 
 ghost use Rattle.std.specs.Prelude.{◌≡◌, IfOk};
 ghost use Rattle.path_tables.specs.Asked.{AreAnswers};
-ghost use Rattle.path_frames.specs.Frames.{target_of};
+ghost use Rattle.path_frames.specs.Frames.{target_of_code};
 ghost use Rattle.path_machine.specs.invariants.Steps.{size_in};
 ghost use Rattle.path_machine.specs.invariants.Setups.{IsSetup};
 ghost use Rattle.path_machine.specs.invariants.Openings.{OpensBody, OpensNew, OpensDelete, EndsWhole, BeginsPlan};
@@ -51,7 +51,7 @@ pub(crate) fn call_body(
     requires setup { IsSetup run.now }
     requires answers { AreAnswers run.now.world.h.now answers.old }
     ensures answers { AreAnswers run.now.world.h.now answers.new }
-    ensures agrees { IfOk result (OpensBody run.now machine.old machine.new frame next call.now (target_of target) outs.old outs.new) }
+    ensures agrees { IfOk result (OpensBody run.now machine.old machine.new frame next call.now (target_of_code target) outs.old outs.new) }
 {
     let open = frame.get().depth;
     if open >= MOST_OPEN {
@@ -91,7 +91,7 @@ pub(crate) fn new_object(
     target: Option<Target>,
 ) -> Result<Next, NoMemory>
     requires setup { IsSetup run.now }
-    ensures { IfOk result (OpensNew run.now machine.old machine.new frame next class (target_of target)) }
+    ensures { IfOk result (OpensNew run.now machine.old machine.new frame next class (target_of_code target)) }
 {
     if class.0 >= run.world.h.len() {
         return Ok(Next::Wrong);
@@ -169,7 +169,7 @@ fn begin_plan(
     depth: u32,
 ) -> Result<(), NoMemory>
     requires setup { IsSetup run.now }
-    ensures { IfOk result (λ _. BeginsPlan run.now machine.old machine.new whole is_building (target_of target) depth) }
+    ensures { IfOk result (λ _. BeginsPlan run.now machine.old machine.new whole is_building (target_of_code target) depth) }
 {
     let plan = Plan::new(run.alloc, run.world.h, whole, is_building)?;
     let frame = PlanFrame {

@@ -4,7 +4,7 @@ ghost use Rattle.std.specs.Prelude.{ℕ, List, IfOk};
 ghost use Rattle.cxx_hierarchy.specs.declared.records.ClassId.{ClassId};
 ghost use Rattle.cxx_hierarchy.specs.Classes.{Classes};
 ghost use Rattle.cxx_program.specs.declared.program.TypedProgram.{TypedProgram};
-ghost use Rattle.path_model.specs.States.{Running, Frame as FrameOf, State};
+ghost use Rattle.path_model.specs.States.{RunningBody, Frame as FrameOf, ProgramState};
 ghost use Rattle.path_frames.specs.Machines.{MachineStands};
 ghost use Rattle.path_machine.specs.invariants.Steps.{IsTaken, gone_on};
 ghost use Rattle.path_machine.specs.invariants.StatementSteps.{BranchesOn, TellsOut};
@@ -19,7 +19,7 @@ use path_values::is_zero;
 
 /// Puts the frame back, with control at a statement.
 pub(crate) fn go_on(machine: &mut Machine, frame: BodyBox, next: usize) -> Result<(), NoMemory>
-    ensures { IfOk result (λ _. (h : Classes) (sizes : ClassId → ℕ) (program : TypedProgram) (s : State) (f : Running) (below : List FrameOf) → IsTaken h sizes program machine.old frame s f below → MachineStands h sizes program machine.new (gone_on s f next below)) }
+    ensures { IfOk result (λ _. (h : Classes) (sizes : ClassId → ℕ) (program : TypedProgram) (s : ProgramState) (f : RunningBody) (below : List FrameOf) → IsTaken h sizes program machine.old frame s f below → MachineStands h sizes program machine.new (gone_on s f next below)) }
 {
     let mut frame = frame;
     frame.go_to(next);

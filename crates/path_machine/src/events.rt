@@ -2,14 +2,14 @@
 
 ghost use Rattle.std.specs.Prelude.{◌≡◌, ℕ, IfOk, replicate, length};
 ghost use Rattle.cxx_hierarchy.specs.declared.records.ClassId.{ClassId};
-ghost use Rattle.path_model.specs.States.{State, init_of};
+ghost use Rattle.path_model.specs.States.{ProgramState, member_init};
 ghost use Rattle.path_model.specs.Steps.{init_value, body_owner};
 ghost use Rattle.path_heap.specs.declared.state.Value.TheVariants.{Unset};
 ghost use Rattle.path_heap.specs.Stands.{Means};
 ghost use Rattle.path_events.specs.declared.plan.PlanEvent.TheVariants.{Init as InitCode};
 ghost use Rattle.path_frames.specs.Machines.{MachineStands};
 ghost use Rattle.path_machine.specs.invariants.Setups.{IsSetup};
-ghost use Rattle.path_machine.specs.invariants.Events.{body_part, Happens, Tells, Resumes, Enters, StepsPlan};
+ghost use Rattle.path_machine.specs.invariants.Events.{body_part, Happens, TellsEvent, Resumes, Enters, StepsPlan};
 
 use crate::giving::give;
 use crate::next::Next;
@@ -26,7 +26,7 @@ use path_values::{constant, convert};
 /// The value that the initializer of a member gives (ISO C++03 12.6.2).
 fn initial_value(run: &Run, machine: &Machine, part: Part, member: u32) -> Value
     requires setup { IsSetup run.now }
-    ensures { (sizes : ClassId → ℕ) (s : State) → MachineStands run.now.world.h.now sizes run.now.program.now machine.now s → Means run.now.world.h.now s.objects.classes result (init_value (init_of run.now.program.now part.class member)) }
+    ensures { (sizes : ClassId → ℕ) (s : ProgramState) → MachineStands run.now.world.h.now sizes run.now.program.now machine.now s → Means run.now.world.h.now s.objects.classes result (init_value (member_init run.now.program.now part.class member)) }
 {
     match run.index.initializer(run.program, part.class, member) {
         Some(init) => convert(
@@ -85,7 +85,7 @@ fn tell_event(
     event: PlanEvent,
 ) -> Result<(), NoMemory>
     requires setup { IsSetup run.now }
-    ensures { IfOk result (λ _. Tells run.now.world.h.now run.now.program.now machine.now event outs.old outs.new) }
+    ensures { IfOk result (λ _. TellsEvent run.now.world.h.now run.now.program.now machine.now event outs.old outs.new) }
 {
     if !outs.trace {
         return Ok(());

@@ -1,7 +1,7 @@
 //! How a result comes to the variable that waits for it.
 
 ghost use Rattle.path_tables.specs.Worlds.{IsWorld};
-ghost use Rattle.path_frames.specs.Frames.{target_of};
+ghost use Rattle.path_frames.specs.Frames.{target_of_code};
 ghost use Rattle.path_machine.specs.invariants.StatementSteps.{GivesValue};
 
 use path_frames::{Machine, Target};
@@ -12,7 +12,7 @@ use path_values::convert;
 /// A value comes to the variable that waits for it, converted to its type; where none waits it is dropped.
 pub(crate) fn give(world: &World, machine: &mut Machine, value: Value, target: &Option<Target>)
     requires world { IsWorld world.now }
-    ensures { GivesValue world.now.h.now machine.old machine.new value (target_of target.now) }
+    ensures { GivesValue world.now.h.now machine.old machine.new value (target_of_code target.now) }
 {
     if let Some(target) = target {
         let converted = convert(world, &machine.heap, value, &target.conversion);

@@ -10,7 +10,7 @@ ghost use Rattle.path_heap.specs.Points.{Points};
 ghost use Rattle.path_heap.specs.Stands.{HeapStands};
 ghost use Rattle.path_tables.specs.Asked.{AreAnswers};
 ghost use Rattle.path_tables.specs.Worlds.{IsWorld};
-ghost use Rattle.path_frames.specs.Frames.{target_of};
+ghost use Rattle.path_frames.specs.Frames.{target_of_code};
 ghost use Rattle.path_machine.specs.invariants.Setups.{IsSetup};
 ghost use Rattle.path_machine.specs.Tellings.{TellsMore};
 ghost use Rattle.path_machine.specs.invariants.Openings.{AreCalledLocals, OpensCalled};
@@ -91,7 +91,7 @@ pub(crate) fn open_call(
     requires answers { AreAnswers run.now.world.h.now answers.old }
     ensures answers { AreAnswers run.now.world.h.now answers.new }
     ensures depth { IfOk result (λ opened. IfSome opened (λ frame. frame.depth ≡ depth)) }
-    ensures opens { IfOk result (OpensCalled run.now heap.now scene.now call.now (target_of target) outs.old outs.new) }
+    ensures opens { IfOk result (OpensCalled run.now heap.now scene.now call.now (target_of_code target) outs.old outs.new) }
 {
     let Some(found) = path_effects::call(run.alloc, &run.world, heap, answers, scene, call)? else {
         return Ok(None);

@@ -8,7 +8,7 @@ ghost use Rattle.cxx_hierarchy.specs.Hierarchies.{IsHierarchy};
 ghost use Rattle.path_heap.specs.declared.state.Value.TheVariants.{Unset};
 ghost use Rattle.path_model.specs.Runs.{start};
 ghost use Rattle.path_frames.specs.Machines.{MachineStands};
-ghost use Rattle.path_machine.specs.invariants.Starts.{first_code};
+ghost use Rattle.path_machine.specs.invariants.Starts.{start_code};
 
 use cxx_hierarchy::{ClassId, ValueType};
 use cxx_program::{Conversion, TypedBody, TypedProgram};
@@ -19,7 +19,7 @@ use std::alloc::Global;
 
 /// The value with which a global starts: 0 or null (ISO C++03 3.6.2).
 fn first_value(ty: &ValueType<ClassId>) -> Value
-    ensures { result ≡ first_code ty.now }
+    ensures { result ≡ start_code ty.now }
 {
     match ty {
         ValueType::Number(_) => Value::Number(0),
@@ -29,7 +29,7 @@ fn first_value(ty: &ValueType<ClassId>) -> Value
 
 /// The values with which the globals start.
 fn first_values(alloc: Global, types: &[ValueType<ClassId>]) -> Result<Vec<Value>, NoMemory>
-    ensures { IfOk result (λ values. values.items ≡ map first_code types.now) }
+    ensures { IfOk result (λ values. values.items ≡ map start_code types.now) }
 {
     let mut values = Vec::new(alloc);
     for ty in types {

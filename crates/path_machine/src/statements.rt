@@ -4,8 +4,8 @@ ghost use Rattle.std.specs.Prelude.{ℕ, List, IfOk};
 ghost use Rattle.cxx_hierarchy.specs.declared.records.ClassId.{ClassId};
 ghost use Rattle.cxx_hierarchy.specs.Classes.{Classes};
 ghost use Rattle.cxx_program.specs.declared.program.TypedProgram.{TypedProgram};
-ghost use Rattle.path_model.specs.Values.{value};
-ghost use Rattle.path_model.specs.States.{Running, Frame as FrameOf, State, sight};
+ghost use Rattle.path_model.specs.Values.{value_of_operand};
+ghost use Rattle.path_model.specs.States.{RunningBody, Frame as FrameOf, ProgramState, sight};
 ghost use Rattle.path_model.specs.Effects.{telling, value_out, dump_out};
 ghost use Rattle.path_heap.specs.Stands.{Means};
 ghost use Rattle.path_machine.specs.invariants.Steps.{IsTaken, gone_on, IsTakenIn, StepAgreesIn};
@@ -98,12 +98,7 @@ fn give_result(run: &Run, machine: &mut Machine, frame: &BodyBox, a: &Argument)
 }
 
 /// A `return` leaves the body; that of `main` ends the run (ISO C++03 6.6.3, 3.6.1).
-pub(crate) fn leave(
-    run: &Run,
-    machine: &mut Machine,
-    frame: BodyBox,
-    x: &Option<Argument>,
-) -> Next
+pub(crate) fn leave(run: &Run, machine: &mut Machine, frame: BodyBox, x: &Option<Argument>) -> Next
     requires setup { IsSetup run.now }
     ensures { LeavesBody run.now machine.old machine.new frame x.now result }
 {
@@ -128,7 +123,7 @@ fn leave_function(run: &Run, machine: &mut Machine, frame: &BodyBox, x: &Option<
 
 /// The value of an operand.
 pub(crate) fn operand(machine: &Machine, frame: &BodyBox, x: &TypedOperand) -> Value
-    ensures { (h : Classes) (sizes : ClassId → ℕ) (program : TypedProgram) (s : State) (f : Running) (below : List FrameOf) → IsTaken h sizes program machine.now frame.now s f below → Means h s.objects.classes result (value (sight s f) x.now) }
+    ensures { (h : Classes) (sizes : ClassId → ℕ) (program : TypedProgram) (s : ProgramState) (f : RunningBody) (below : List FrameOf) → IsTaken h sizes program machine.now frame.now s f below → Means h s.objects.classes result (value_of_operand (sight s f) x.now) }
 {
     let scene = scene_of(machine, frame);
     value(&scene, x)
@@ -146,9 +141,9 @@ pub(crate) fn print_value(
     x: &TypedOperand,
 ) -> Result<Next, NoMemory>
     requires setup { IsSetup run.now }
-    ensures { IfOk result (λ done. (s : State) (f : Running) (below : List FrameOf) →
+    ensures { IfOk result (λ done. (s : ProgramState) (f : RunningBody) (below : List FrameOf) →
         IsTakenIn run.now machine.old frame s f below →
-        StepAgreesIn run.now (telling (gone_on s f next below) (value_out s.objects (value (sight s f) x.now))) machine.new outs.old outs.new done) }
+        StepAgreesIn run.now (telling (gone_on s f next below) (value_out s.objects (value_of_operand (sight s f) x.now))) machine.new outs.old outs.new done) }
 {
     let v = operand(machine, &frame, x);
     let out = value_told(run.alloc, &run.world, &machine.heap, v)?;
@@ -205,9 +200,9 @@ pub(crate) fn print_dump(
     x: &TypedOperand,
 ) -> Result<Next, NoMemory>
     requires setup { IsSetup run.now }
-    ensures { IfOk result (λ done. (s : State) (f : Running) (below : List FrameOf) →
+    ensures { IfOk result (λ done. (s : ProgramState) (f : RunningBody) (below : List FrameOf) →
         IsTakenIn run.now machine.old frame s f below →
-        StepAgreesIn run.now (telling (gone_on s f next below) (dump_out run.now.world.h.now s.objects (value (sight s f) x.now))) machine.new outs.old outs.new done) }
+        StepAgreesIn run.now (telling (gone_on s f next below) (dump_out run.now.world.h.now s.objects (value_of_operand (sight s f) x.now))) machine.new outs.old outs.new done) }
 {
     let v = operand(machine, &frame, x);
     let out = dump_told(run.alloc, &run.world, &machine.heap, v)?;

@@ -3,7 +3,7 @@
 ghost use Rattle.std.specs.Prelude.{◌≡◌, IfOk};
 ghost use Rattle.path_model.specs.Effects.{taker};
 ghost use Rattle.path_tables.specs.Asked.{AreAnswers};
-ghost use Rattle.path_frames.specs.Frames.{target_of};
+ghost use Rattle.path_frames.specs.Frames.{target_of_code};
 ghost use Rattle.path_machine.specs.invariants.Setups.{IsSetup};
 ghost use Rattle.path_machine.specs.invariants.StatementSteps.{TakesPlain, TakesSide};
 
@@ -38,7 +38,7 @@ fn copy_conversion(alloc: Global, c: &Conversion) -> Result<Conversion, NoMemory
 
 /// The variable that waits for a result, with the conversion to its type.
 fn waiting(alloc: Global, variable: Variable, c: &Conversion) -> Result<Option<Target>, NoMemory>
-    ensures { IfOk result (λ target. target_of target ≡ taker variable c.now) }
+    ensures { IfOk result (λ target. target_of_code target ≡ taker variable c.now) }
 {
     Ok(Some(Target {
         variable,

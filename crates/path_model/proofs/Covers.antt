@@ -15,7 +15,7 @@ use Rattle.foundation.proofs.Members.{Has}
 use Rattle.cxx_subobject.proofs.TreeLemmas.{subobject_same, same_itself, preorder_has, has_preorder}
 use Rattle.cxx_subobject.proofs.InsideLemmas.{join_class}
 use Rattle.cxx_subobject.proofs.PathLemmas.{class_there}
-use Rattle.path_plan.specs.Places.{ObjectPart, part, element, member_kid, IsIn, here, deeper}
+use Rattle.path_plan.specs.Places.{ObjectPart, part, element, member_kid, IsPartWithin, here, deeper}
 use Rattle.path_plan.specs.Phases.{is_complete, is_ready}
 use Rattle.path_plan.specs.Plans.{upto}
 use Rattle.path_plan.specs.Views.{Settled}
@@ -23,7 +23,7 @@ use Rattle.path_plan.proofs.Members.{has_count}
 use Rattle.std.specs.Prelude.{min, slice_get}
 use Rattle.std.specs.List.{flat_map}
 use Rattle.path_model.specs.Values.{Objects, inner_part}
-use Rattle.path_model.specs.Uses.{Use, Passes, element_uses, member_uses, own_members, covers}
+use Rattle.path_model.specs.Uses.{StatementUse, Passes, element_uses, member_uses, own_members, covers}
 use Rattle.path_model.specs.Rules.{is_unready}
 use Rattle.path_model.specs.Order.{asked_covers}
 use Rattle.path_model.proofs.Ranks.{rank, rank_append, rank_full}
@@ -41,14 +41,14 @@ same_kept = record { none = refl; least = λ a b c d e f. cc }
 pub at_least : (n : ℕ) → n ≤ 12 → IsKept (λ a b. n ≤ a)
 at_least n l = record { none = l; least = λ a b c d e f. omega (arith, e, f) }
 
-flat_kept : {X : Type 0} (R : ℕ → ℕ → Type 0) → IsKept R → (h : Classes) (s : Objects) (f g : X → List Use) (xs : List X) → ((x : X) → Has xs x → R (rank h s (f x)) (rank h s (g x))) → R (rank h s (flat_map f xs)) (rank h s (flat_map g xs))
+flat_kept : {X : Type 0} (R : ℕ → ℕ → Type 0) → IsKept R → (h : Classes) (s : Objects) (f g : X → List StatementUse) (xs : List X) → ((x : X) → Has xs x → R (rank h s (f x)) (rank h s (g x))) → R (rank h s (flat_map f xs)) (rank h s (flat_map g xs))
 flat_kept R kept h s f g [] each = subst (λ n. R n n) (sym (none_rank h s)) kept.none
 flat_kept R kept h s f g (x ∷ xs) each =
     subst (λ n. R n (rank h s (g x ++ flat_map g xs))) (sym (rank_append h s (f x) (flat_map f xs)))
     (subst (λ n. R (min (rank h s (f x)) (rank h s (flat_map f xs))) n) (sym (rank_append h s (g x) (flat_map g xs)))
     (kept.least (rank h s (f x)) (rank h s (g x)) (rank h s (flat_map f xs)) (rank h s (flat_map g xs)) (each x (inl refl)) (flat_kept R kept h s f g xs (λ y has. each y (inr has)))))
 
-flat_has : {X : Type 0} (h : Classes) (s : Objects) (f : X → List Use) (xs : List X) (x : X) → Has xs x → rank h s (flat_map f xs) ≤ rank h s (f x)
+flat_has : {X : Type 0} (h : Classes) (s : Objects) (f : X → List StatementUse) (xs : List X) (x : X) → Has xs x → rank h s (flat_map f xs) ≤ rank h s (f x)
 flat_has h s f [] x has = absurd has
 flat_has h s f (y ∷ xs) x has =
     let r = rank_append h s (f y) (flat_map f xs) in
@@ -64,7 +64,7 @@ pub record IsMember (h : Classes) (b : ClassId) (p : ObjectPart) (d : ClassId) (
   pub within : i < elements_of member.count
   pub is : e ≡ element p m i d
 
-own_kept : (R : ℕ → ℕ → Type 0) → IsKept R → (h : Classes) (s : Objects) (f g : ClassId → ObjectPart → List Use) (b : ClassId) (p : ObjectPart)
+own_kept : (R : ℕ → ℕ → Type 0) → IsKept R → (h : Classes) (s : Objects) (f g : ClassId → ObjectPart → List StatementUse) (b : ClassId) (p : ObjectPart)
     → ((d : ClassId) (e : ObjectPart) → IsMember h b p d e → R (rank h s (Passes e ∷ f d e)) (rank h s (Passes e ∷ g d e))) → R (rank h s (own_members h f (Some b) p)) (rank h s (own_members h g (Some b) p))
 own_kept R kept h s f g b p each = flat_kept R kept h s (λ m. member_uses f p m (slice_get (members_of h b) m)) (λ m. member_uses g p m (slice_get (members_of h b) m)) (upto (length (members_of h b)))
     (λ m _. of_member m (slice_get (members_of h b) m) refl)
@@ -78,10 +78,10 @@ own_kept R kept h s f g b p each = flat_kept R kept h s (λ m. member_uses f p m
     of_member m None e = subst (λ n. R n n) (sym (none_rank h s)) kept.none
     of_member m (Some member) e = of_type m member e member.ty refl
 
-passes_at_least : (h : Classes) (s : Objects) (n : ℕ) (e : ObjectPart) (us : List Use) → n ≤ rank h s (Passes e ∷ []) → n ≤ rank h s us → n ≤ rank h s (Passes e ∷ us)
+passes_at_least : (h : Classes) (s : Objects) (n : ℕ) (e : ObjectPart) (us : List StatementUse) → n ≤ rank h s (Passes e ∷ []) → n ≤ rank h s us → n ≤ rank h s (Passes e ∷ us)
 passes_at_least h s n e us a b = let r = rank_append h s (Passes e ∷ []) us in omega (arith, r, a, b)
 
-late_own : (h : Classes) (s : Objects) (f : ClassId → ObjectPart → List Use) (b : Option ClassId) (q : ObjectPart) → ((d : ClassId) (e : ObjectPart) → 2 ≤ rank h s (f d e)) → 2 ≤ rank h s (own_members h f b q)
+late_own : (h : Classes) (s : Objects) (f : ClassId → ObjectPart → List StatementUse) (b : Option ClassId) (q : ObjectPart) → ((d : ClassId) (e : ObjectPart) → 2 ≤ rank h s (f d e)) → 2 ≤ rank h s (own_members h f b q)
 late_own h s f None q inside = let r = none_rank h s in omega (arith, r)
 late_own h s f (Some b) q inside = own_kept (λ a b. 2 ≤ a) (at_least 2 (omega arith)) h s f f b q (λ d e _. passes_at_least h s 2 e (f d e) (pass_late h s e) (inside d e))
 
@@ -98,10 +98,10 @@ asked_covers_late h s (suc n) c p = late_own h s (asked_covers h n) (Some c) p (
 full_kept : IsKept (λ a b. 12 ≤ a)
 full_kept = at_least 12 (omega arith)
 
-complete_own : (h : Classes) (s : Objects) (f : ClassId → ObjectPart → List Use) (b : ClassId) (q : ObjectPart) → class_of q.at ≡ Some b → Settled h q.object s.phases → is_complete (s.phases.phase q) ≡ true
+complete_own : (h : Classes) (s : Objects) (f : ClassId → ObjectPart → List StatementUse) (b : ClassId) (q : ObjectPart) → class_of q.at ≡ Some b → Settled h q.object s.phases → is_complete (s.phases.phase q) ≡ true
     → ((d : ClassId) (e : ObjectPart) → class_of e.at ≡ Some d → Settled h e.object s.phases → is_complete (s.phases.phase e) ≡ true → 12 ≤ rank h s (f d e)) → 12 ≤ rank h s (own_members h f (Some b) q)
 complete_own h s f b q class settled full inside = own_kept (λ a b. 12 ≤ a) full_kept h s f f b q (λ d e a.
-    let in_q : IsIn h e q = deeper q e (member_kid b d a.m a.i a.member class a.listed a.object a.within a.is) (here e refl) in
+    let in_q : IsPartWithin h e q = deeper q e (member_kid b d a.m a.i a.member class a.listed a.object a.within a.is) (here e refl) in
     let done : is_complete (s.phases.phase e) ≡ true = settled.complete_in q e refl in_q full in
     let v = pass_rank h s e false (not_unready s e done) in
     passes_at_least h s 12 e (f d e) (omega (arith, v))
@@ -134,7 +134,7 @@ own_rank h s n c p settled inside = own_kept (λ a b. a ≡ b) same_kept h s (co
 first_rank : (h : Classes) → IsHierarchy h → (s : Objects) (n : ℕ) (c : ClassId) (p : ObjectPart) → class_of p.at ≡ Some c → Settled h p.object s.phases → is_ready (s.phases.phase p) ≡ true → rank h s (covers h (suc n) c p) ≡ rank h s (own_members h (covers h n) (Some c) p)
 first_rank h keeps s n c p class settled ready = let a = above in let b = below in omega (arith, a, b)
   where
-    f : Subobject → List Use
+    f : Subobject → List StatementUse
     f i = own_members h (covers h n) (class_of i) (inner_part p i)
 
     at_whole : rank h s (f (whole_of c)) ≡ rank h s (own_members h (covers h n) (Some c) p)

@@ -10,7 +10,7 @@ use Rattle.foundation.proofs.Truth.{split}
 use Rattle.cxx_search.specs.Searches.{is_within}
 use Rattle.cxx_search.proofs.Within.{within_inside, inside_within}
 use Rattle.cxx_subobject.proofs.InsideLemmas.{join_class, inside_through}
-use Rattle.path_plan.specs.Places.{ObjectPart, part, member_kid, IsIn, here, deeper}
+use Rattle.path_plan.specs.Places.{ObjectPart, part, member_kid, IsPartWithin, here, deeper}
 use Rattle.path_plan.specs.Phases.{is_complete, is_ready}
 use Rattle.path_plan.specs.Views.{view, Settled}
 use Rattle.path_plan.proofs.Uses.{whole_view, complete_ready}
@@ -59,7 +59,7 @@ pub base_done : (h : Classes) (s : Objects) (p : ObjectPart) (c : ClassId) (i : 
 base_done h s p c i class settled valid proper ready = below_complete h p.object s.phases settled p (inner_part p i) refl (proper_below h c p i class valid proper) ready
 
 -- so is a class member in it
-pub passed_in : (h : Classes) (p : ObjectPart) (c : ClassId) (x : PassedMember) → class_of p.at ≡ Some c → IsPassed h c x → IsIn h (passed_part p x) (inner_part p x.base)
+pub passed_in : (h : Classes) (p : ObjectPart) (c : ClassId) (x : PassedMember) → class_of p.at ≡ Some c → IsPassed h c x → IsPartWithin h (passed_part p x) (inner_part p x.base)
 passed_in h p c x class a = deeper (inner_part p x.base) (passed_part p x) (member_kid a.class x.class x.member x.index a.element.member (join_class h c p.at x.base class a.valid ∙ a.of_class) a.element.there a.element.type_is a.element.within refl) (here (passed_part p x) refl)
 
 pub shared_proper : (c : ClassId) (i : Subobject) → is_shared i ≡ true → i ≡ whole_of c → ⊥
@@ -69,7 +69,7 @@ pub passed_done : (h : Classes) (s : Objects) (p : ObjectPart) (c : ClassId) (x 
 passed_done h s p c x class settled a full = settled.complete_in (inner_part p x.base) (passed_part p x) refl (passed_in h p c x class a) full
 
 -- a subobject of the part's class lies in the part
-pub inner_in : (h : Classes) (c : ClassId) (p : ObjectPart) (i : Subobject) → class_of p.at ≡ Some c → IsSubobject h c i → IsIn h (inner_part p i) p
+pub inner_in : (h : Classes) (c : ClassId) (p : ObjectPart) (i : Subobject) → class_of p.at ≡ Some c → IsSubobject h c i → IsPartWithin h (inner_part p i) p
 inner_in h c p _ class (whole path l) = path_in h p.object p.owner c p.at path class l
 inner_in h c p _ class (shared v path has l) = shared_in h c v (part p.object p.owner (subobject (Shared v) (v ∷ path))) has p class (path_in h p.object p.owner v (shared_base v) path refl l)
 

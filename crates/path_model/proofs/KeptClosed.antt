@@ -8,13 +8,13 @@ use Rattle.cxx_program.specs.declared.program.TypedProgram.{TypedProgram}
 use Rattle.foundation.proofs.Places.{get_pushed}
 use Rattle.foundation.proofs.Truth.{split}
 use Rattle.path_plan.specs.Places.{ObjectPart, same_part}
-use Rattle.path_plan.specs.Phases.{Phase, Raw, InBases, ReadyBuilding, Complete, ReadyEnding, EndingBases, Ended, Event, Begin, Ready, Init, Body, Done, Ending, Bases, End, put}
+use Rattle.path_plan.specs.Phases.{Phase, Raw, InBases, ReadyBuilding, Complete, ReadyEnding, EndingBases, Ended, PartEvent, Begin, Ready, Init, Body, Done, Ending, Bases, End, put}
 use Rattle.path_plan.specs.Views.{Fits}
 use Rattle.path_plan.specs.Whole.{whole_part}
 use Rattle.path_plan.proofs.Same.{put_same, put_other, part_cases}
 use Rattle.path_model.specs.Values.{Objects}
 use Rattle.path_model.specs.Outs.{class_or_first, object_class}
-use Rattle.path_model.specs.Effects.{made}
+use Rattle.path_model.specs.Effects.{with_new_object}
 use Rattle.path_model.specs.Steps.{objects_after}
 
 abbrev pub is_ended : Phase → Bool
@@ -43,7 +43,7 @@ end_closed : (x : Objects) → AreClosed x → (p : ObjectPart) (k : ℕ) (c : C
 end_closed x are p k c got = subst (λ (d : ClassId). (if same_part p (whole_part k d) then true else x.is_closed k) ≡ is_ended (put x.phases.phase p Ended (whole_part k c))) (sym (ap class_or_first got))
     (split (same_part p (whole_part k c)) (λ b. (if b then true else x.is_closed k) ≡ is_ended (if b then Ended else x.phases.phase (whole_part k c))) (λ e. refl) (λ e. are k c got))
 
-pub event_closed : (h : Classes) (program : TypedProgram) (x : Objects) (e : Event) → Fits h x.phases e → AreClosed x → AreClosed (objects_after program x e)
+pub event_closed : (h : Classes) (program : TypedProgram) (x : Objects) (e : PartEvent) → Fits h x.phases e → AreClosed x → AreClosed (objects_after program x e)
 event_closed h program x (Begin p) fits are = put_closed x are p Raw InBases fits refl refl
 event_closed h program x (Ready p) fits are = put_closed x are p InBases ReadyBuilding fits.0 refl refl
 event_closed h program x (Init p m) fits are = are
@@ -53,7 +53,7 @@ event_closed h program x (Ending p) fits are = put_closed x are p Complete Ready
 event_closed h program x (Bases p) fits are = put_closed x are p ReadyEnding EndingBases fits.0 refl refl
 event_closed h program x (End p) fits are = end_closed x are p
 
-pub made_closed : (x : Objects) (c : ClassId) → AreClosed x → AreClosed (made x c)
+pub made_closed : (x : Objects) (c : ClassId) → AreClosed x → AreClosed (with_new_object x c)
 made_closed x c are k d got = split (nat_eq k (length x.classes))
     (λ b. nat_eq k (length x.classes) ≡ b → (if b then false else x.is_closed k) ≡ is_ended (if b then Raw else x.phases.phase (whole_part k d)))
     (λ e _. refl)

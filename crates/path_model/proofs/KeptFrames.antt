@@ -15,11 +15,11 @@ use Rattle.cxx_program.specs.declared.program.Owner.TheVariants.{Main, Function,
 use Rattle.cxx_program.specs.declared.program.TypedBody.{TypedBody}
 use Rattle.cxx_program.specs.declared.program.TypedProgram.{TypedProgram}
 use Rattle.path_plan.specs.Places.{ObjectPart}
-use Rattle.path_plan.specs.Phases.{Event, Done}
-use Rattle.path_plan.specs.Runs.{Frame as RunFrame, InBody as BodyFrame, InPlan as PlanFrame, Run, call, leave, Reached, moves}
-use Rattle.path_model.specs.Values.{Value, Objects, converted}
-use Rattle.path_model.specs.States.{Target, Running, Planned, Frame, InBody, InPlan, State, same_owner, body_of, bodies_of, is_body, with_local_in, assigned}
-use Rattle.path_model.specs.Effects.{Next, Goes, Refuses, Ends, Wrong, given}
+use Rattle.path_plan.specs.Phases.{PartEvent, Done}
+use Rattle.path_plan.specs.Runs.{EventFrame as RunFrame, InBody as BodyFrame, InPlan as PlanFrame, Run, call, leave, Reached, moves}
+use Rattle.path_model.specs.Values.{Value, Objects, converted_to}
+use Rattle.path_model.specs.States.{Target, RunningBody, Planned, Frame, InBody, InPlan, ProgramState, same_owner, owned_body, plan_bodies, is_body, with_local_in, assigned}
+use Rattle.path_model.specs.Effects.{Next, Goes, Refuses, Ends, Wrong, given_to_target}
 use Rattle.path_model.specs.Steps.{body_owner, class_of_part}
 use Rattle.path_model.proofs.KeptClosed.{AreClosed}
 use Rattle.path_model.proofs.KeptPaces.{StartsPlain, Paced, GoesOn}
@@ -35,14 +35,14 @@ abbrev pub run_at : Objects → List Frame → Run
 run_at x frames = record { classes = x.classes; phases = x.phases; frames = shapes frames }
 
 -- the next event is the last one of this part
-abbrev pub StartsDone : ObjectPart → List Event → Type 0
+abbrev pub StartsDone : ObjectPart → List PartEvent → Type 0
 StartsDone p [] = ⊥
 StartsDone p (e ∷ es) = e ≡ Done p
 
 -- behind a body event: the body is declared, and what comes next is no body, in a construction the part's last event
-abbrev pub Behind : TypedProgram → Bool → ObjectPart → List Event → Type 0
-Behind program true p es = (is_body (body_of program (Constructor (class_of_part p))) ≡ true) × StartsDone p es
-Behind program false p es = (is_body (body_of program (Destructor (class_of_part p))) ≡ true) × StartsPlain es
+abbrev pub Behind : TypedProgram → Bool → ObjectPart → List PartEvent → Type 0
+Behind program true p es = (is_body (owned_body program (Constructor (class_of_part p))) ≡ true) × StartsDone p es
+Behind program false p es = (is_body (owned_body program (Destructor (class_of_part p))) ≡ true) × StartsPlain es
 
 -- a plan goes on with an event that is no body
 pub record IsGoing (program : TypedProgram) (f : Planned) : Type 0 where
@@ -77,14 +77,14 @@ AreGoing program (InPlan f ∷ frames) = IsGoing program f × AreGoing program f
 
 -- what every state of a run keeps
 pub record IsKeptAt (h : Classes) (program : TypedProgram) (x : Objects) (frames : List Frame) : Type 0 where
-  pub reached : Reached h (bodies_of program) (run_at x frames)
+  pub reached : Reached h (plan_bodies program) (run_at x frames)
   pub going : AreGoing program frames
   pub closed : IsHierarchy h → AreClosed x
 
-abbrev pub IsKept : Classes → TypedProgram → State → Type 0
+abbrev pub IsKept : Classes → TypedProgram → ProgramState → Type 0
 IsKept h program s = IsKeptAt h program s.objects s.frames
 
-abbrev pub IfGoes : (State → Type 0) → Next → Type 0
+abbrev pub IfGoes : (ProgramState → Type 0) → Next → Type 0
 IfGoes P (Goes s outs) = P s
 IfGoes P (Refuses rule line) = Unit {0}
 IfGoes P Ends = Unit {0}
@@ -110,20 +110,20 @@ local_going program [] n v a = a
 local_going program (InBody f ∷ frames) n v a = a
 local_going program (InPlan f ∷ frames) n v a = a
 
-pub kept_assigned : (h : Classes) (program : TypedProgram) (s : State) (x : Variable) (v : Value) → IsKept h program s → IsKept h program (assigned s x v)
+pub kept_assigned : (h : Classes) (program : TypedProgram) (s : ProgramState) (x : Variable) (v : Value) → IsKept h program s → IsKept h program (assigned s x v)
 kept_assigned h program s (Global n) v a = a
 kept_assigned h program s (Local n) v a = record {
-  reached = subst (λ (fs : List RunFrame). Reached h (bodies_of program) (record { classes = s.objects.classes; phases = s.objects.phases; frames = fs })) (local_shapes s.frames n v) a.reached;
+  reached = subst (λ (fs : List RunFrame). Reached h (plan_bodies program) (record { classes = s.objects.classes; phases = s.objects.phases; frames = fs })) (local_shapes s.frames n v) a.reached;
   going = local_going program s.frames n v a.going;
   closed = a.closed;
 }
 
-pub kept_given : (h : Classes) (program : TypedProgram) (s : State) (v : Value) (target : Option Target) → IsKept h program s → IsKept h program (given s v target)
+pub kept_given : (h : Classes) (program : TypedProgram) (s : ProgramState) (v : Value) (target : Option Target) → IsKept h program s → IsKept h program (given_to_target s v target)
 kept_given h program s v None a = a
-kept_given h program s v (Some target) a = kept_assigned h program s target.variable (converted v target.conversion) a
+kept_given h program s v (Some target) a = kept_assigned h program s target.variable (converted_to v target.conversion) a
 
 -- the body on top is left
-pub kept_left : (h : Classes) (program : TypedProgram) (x : Objects) (f : Running) (below : List Frame) → IsKeptAt h program x (InBody f ∷ below) → IsKeptAt h program x below
+pub kept_left : (h : Classes) (program : TypedProgram) (x : Objects) (f : RunningBody) (below : List Frame) → IsKeptAt h program x (InBody f ∷ below) → IsKeptAt h program x below
 kept_left h program x f below a = record {
   reached = moves (run_at x (InBody f ∷ below)) (run_at x below) a.reached (leave x.classes x.phases (shapes below));
   going = a.going.1;
@@ -131,7 +131,7 @@ kept_left h program x f below a = record {
 }
 
 -- a body is called from one
-pub kept_called : (h : Classes) (program : TypedProgram) (x : Objects) (f g : Running) (below : List Frame) → IsKeptAt h program x (InBody f ∷ below) → StandsOn program g.owner (InBody f ∷ below) → IsKeptAt h program x (InBody g ∷ (InBody f ∷ below))
+pub kept_called : (h : Classes) (program : TypedProgram) (x : Objects) (f g : RunningBody) (below : List Frame) → IsKeptAt h program x (InBody f ∷ below) → StandsOn program g.owner (InBody f ∷ below) → IsKeptAt h program x (InBody g ∷ (InBody f ∷ below))
 kept_called h program x f g below a stands = record {
   reached = moves (run_at x (InBody f ∷ below)) (run_at x (InBody g ∷ (InBody f ∷ below))) a.reached (call x.classes x.phases (shapes below));
   going = (stands, a.going);
@@ -153,7 +153,7 @@ function_stands program g below (Constructor c) e = absurd (cc)
 function_stands program g below (Destructor c) e = absurd (cc)
 
 -- the body of a function stands anywhere
-pub found_function : (program : TypedProgram) (g : FunctionId) (body : TypedBody) (below : List Frame) → body_of program (Function g) ≡ Some body → StandsOn program body.owner below
+pub found_function : (program : TypedProgram) (g : FunctionId) (body : TypedBody) (below : List Frame) → owned_body program (Function g) ≡ Some body → StandsOn program body.owner below
 found_function program g body below e = function_stands program g below body.owner (found_owner (λ b. same_owner b.owner (Function g)) program.bodies body e)
 
 constructor_stands : (program : TypedProgram) (f : Planned) (below : List Frame) (c : ClassId) (o : Owner) → same_owner o (Constructor c) ≡ true → ((d : ClassId) → c ≡ d → Serves true d f) → StandsOn program o (InPlan f ∷ below)
@@ -170,7 +170,7 @@ destructor_stands program f below c (Destructor d) e serves = serves
 
 -- the body that an event of a plan opens stands on the plan
 pub found_body : (program : TypedProgram) (f : Planned) (below : List Frame) (p : ObjectPart) (building : Bool) → f.is_building ≡ building → Behind program building p f.events → (body : TypedBody)
-    → body_of program (body_owner building (class_of_part p)) ≡ Some body → StandsOn program body.owner (InPlan f ∷ below)
+    → owned_body program (body_owner building (class_of_part p)) ≡ Some body → StandsOn program body.owner (InPlan f ∷ below)
 found_body program f below p true is behind body e = constructor_stands program f below (class_of_part p) body.owner (found_owner (λ b. same_owner b.owner (Constructor (class_of_part p))) program.bodies body e)
     (λ d same. (is, (p, same, behind.1)))
 found_body program f below p false is behind body e = destructor_stands program f below (class_of_part p) body.owner (found_owner (λ b. same_owner b.owner (Destructor (class_of_part p))) program.bodies body e) is

@@ -7,7 +7,7 @@ use Rattle.path_rules.specs.Rules.{undefined_no}
 use Rattle.path_rules.specs.declared.Undefined.{Undefined}
 use Rattle.path_rules.specs.declared.Undefined.TheVariants.{NullUse, Dangling, NotReady, OutsideView, Unset as UnsetUse, PureCall, BadDowncast, NonVirtualDelete, NotHeapObject, NotComplete, MissingReturn, Overflow}
 use Rattle.path_model.specs.Values.{Objects}
-use Rattle.path_model.specs.Uses.{Use}
+use Rattle.path_model.specs.Uses.{StatementUse}
 use Rattle.cxx_overrider.specs.declared.FunctionId.{FunctionId}
 use Rattle.cxx_overrider.specs.Functions.{return_of}
 use Rattle.path_model.specs.Rules.{closes, closing_refusal, returns_value, rules, is_broken, refused, IsLeast}
@@ -68,7 +68,7 @@ number_at (suc (suc (suc (suc (suc (suc (suc (suc (suc (suc (suc zero)))))))))))
 number_at (suc (suc (suc (suc (suc (suc (suc (suc (suc (suc (suc (suc n)))))))))))) = refl
 
 -- the refusal: some use breaks it, and no use breaks a rule of a smaller number
-pub refused_least : (h : Classes) (s : Objects) (us : List Use) → IsLeast (is_broken h s us) (refused h s us)
+pub refused_least : (h : Classes) (s : Objects) (us : List StatementUse) → IsLeast (is_broken h s us) (refused h s us)
 unfolding rank
 refused_least h s us = cases (outcome h s us)
   where

@@ -23,10 +23,10 @@ use Rattle.cxx_program.specs.declared.statement.TypedCast.{TypedCast}
 use Rattle.path_rules.specs.declared.Undefined.TheVariants.{Dangling, Unset as UnsetUse}
 use Rattle.path_model.specs.Values.{Value, Unset, Number, Null, Pointer, Objects, to_base}
 use Rattle.path_model.specs.Places.{passed_part, end_part, last_passed, address_value}
-use Rattle.path_model.specs.Uses.{Use, Reads, Follows, Guards, Passes, Views, Downs, is_shared, views, convert, derived_of, value_or, view_cast, down_value, dynamic_value, cast_value, cast_uses, leaf_uses, view_of}
+use Rattle.path_model.specs.Uses.{StatementUse, Reads, Follows, Guards, Passes, Views, Downs, is_shared, uses_of_view, convert, derived_of, value_or, view_cast, down_value, dynamic_value, cast_value, cast_uses, leaf_uses, view_of}
 use Rattle.path_model.specs.Rules.{names, is_unready, is_outside, is_outside_of, is_nowhere, refused, is_nothing}
-use Rattle.path_model.specs.Typed.{AllSettled, IsOf, IsPath, IsCast}
-use Rattle.path_model.specs.Order.{Asked, first_broken, sorted, asked_members, first_base, asked_place, leaf_order}
+use Rattle.path_model.specs.Typed.{AllSettled, IsOf, IsPath, IsCastFrom}
+use Rattle.path_model.specs.Order.{Asked, first_broken, sorted, asked_members, first_name_base, asked_place, leaf_order}
 use Rattle.path_model.proofs.Ranks.{first_place, rank, rank_append, rank_full}
 use Rattle.path_model.proofs.Sorted.{Answers, by_sort, broken_append, Outcome, none, broken, outcome, by_rank, by_then}
 use Rattle.path_model.proofs.Single.{none_rank, guard_rank, pass_rank, view_rank}
@@ -47,7 +47,7 @@ leaf_answers h s v c = by_then h s (Reads v ∷ []) (convert v c) (record { rule
     (read_then h s v [] (convert v c) (convert_off h s v c) (convert_late h s v c) (λ less. let n = none_rank h s in omega (arith, n, less)))
 
 -- what is listed only where the uses in front are clear can be asked behind them
-pub by_clear : (h : Classes) (s : Objects) (a : List Use) (x : List Asked) (v : Value) (c : Conversion) → Answers h s a x → Answers h s (a ++ leaf_uses (is_clear h s a) v c) (x ++ leaf_order v c)
+pub by_clear : (h : Classes) (s : Objects) (a : List StatementUse) (x : List Asked) (v : Value) (c : Conversion) → Answers h s a x → Answers h s (a ++ leaf_uses (is_clear h s a) v c) (x ++ leaf_order v c)
 by_clear h s a x v c p = cases (outcome h s a)
   where
     cases : Outcome h s a → Answers h s (a ++ leaf_uses (is_clear h s a) v c) (x ++ leaf_order v c)
@@ -100,7 +100,7 @@ none_value p None e = refl
 none_value p (Some t) e = absurd (cc)
 
 -- what a pointer's cast asks beside the reading comes before its result's conversion
-cast_then : (h : Classes) (s : Objects) → AllSettled h s → (cast : TypedCast) (p : ObjectPart) (d : ClassId) (c : Conversion) → IsOf s (Pointer p) d → IsCast h d cast
+cast_then : (h : Classes) (s : Objects) → AllSettled h s → (cast : TypedCast) (p : ObjectPart) (d : ClassId) (c : Conversion) → IsOf s (Pointer p) d → IsCastFrom h d cast
     → rank h s (cast_uses cast (Pointer p)) < 12 → rank h s (cast_uses cast (Pointer p)) ≤ rank h s (convert (cast_value h s cast (Pointer p)) c)
 cast_then h s all SameClass p d c a typed = read_then h s (Pointer p) (Guards (Pointer p) ∷ []) (convert (Pointer p) c) (λ f. absurd (cc)) (convert_late h s (Pointer p) c)
     (λ less. let g = guards_two h s (Pointer p) less in let l = convert_late h s (Pointer p) c in omega (arith, g, l))
@@ -125,14 +125,14 @@ cast_then h s all (Dynamic target) p d c a typed =
     (λ f. let o = unset_off h s v' c (outside_unset h s target p f) in let k = rank_full h s (Guards (Pointer p) ∷ Views (Pointer p) ∷ []) in omega (arith, o, k))
     (λ f. let k = view_rank h s (Pointer p) false f in let g : rank h s (Guards (Pointer p) ∷ []) ≤ 2 = guards_two h s (Pointer p) (omega (arith, r, k, less)) in omega (arith, r, k, g, l)))
 
-cast_ranks : (h : Classes) (s : Objects) → AllSettled h s → (cast : TypedCast) (v : Value) (d : ClassId) (c : Conversion) → IsOf s v d → IsCast h d cast
+cast_ranks : (h : Classes) (s : Objects) → AllSettled h s → (cast : TypedCast) (v : Value) (d : ClassId) (c : Conversion) → IsOf s v d → IsCastFrom h d cast
     → rank h s (cast_uses cast v) < 12 → rank h s (cast_uses cast v) ≤ rank h s (convert (cast_value h s cast v) c)
 cast_ranks h s all cast Unset d c a typed less = let o = convert_off h s (cast_value h s cast Unset) c (cast_off h s cast Unset refl) in let k = rank_full h s (cast_uses cast Unset) in omega (arith, o, k)
 cast_ranks h s all cast (Number z) d c a typed less = let o = convert_off h s (cast_value h s cast (Number z)) c (cast_off h s cast (Number z) refl) in let k = rank_full h s (cast_uses cast (Number z)) in omega (arith, o, k)
 cast_ranks h s all cast Null d c a typed less = let o = convert_off h s (cast_value h s cast Null) c (cast_off h s cast Null refl) in let k = rank_full h s (cast_uses cast Null) in omega (arith, o, k)
 cast_ranks h s all cast (Pointer p) d c a typed less = cast_then h s all cast p d c a typed less
 
-pub cast_answers : (h : Classes) (s : Objects) → AllSettled h s → (cast : TypedCast) (v : Value) (d : ClassId) (c : Conversion) → IsOf s v d → IsCast h d cast
+pub cast_answers : (h : Classes) (s : Objects) → AllSettled h s → (cast : TypedCast) (v : Value) (d : ClassId) (c : Conversion) → IsOf s v d → IsCastFrom h d cast
     → Answers h s (cast_uses cast v ++ convert (cast_value h s cast v) c) (sorted (cast_uses cast v) ++ sorted (convert (cast_value h s cast v) c))
 cast_answers h s all cast v d c a typed = by_then h s (cast_uses cast v) (convert (cast_value h s cast v) c) (sorted (cast_uses cast v)) (sorted (convert (cast_value h s cast v) c)) (by_sort h s (cast_uses cast v)) (by_sort h s (convert (cast_value h s cast v) c))
     (cast_ranks h s all cast v d c a typed)
@@ -151,7 +151,7 @@ end_whole h s e d (x ∷ rest) last a full path =
     let class = whole_class h s e d a in
     end_whole h s (passed_part e x) x.class rest last (passed_whole h s e d x class a.settled path.0) (member_done h s e d x class a.settled path.0 full) path.1
 
-end_at : (h : Classes) (s : Objects) (p : ObjectPart) (c : ClassId) (xs : List PassedMember) (x : PassedMember) (last : Subobject) → class_of p.at ≡ Some c → Settled h p.object s.phases → is_unready s p ≡ false → IsPath h c (xs ++ x ∷ []) last → is_shared (first_base xs x.base) ≡ true → EndsWell h s (end_part p (xs ++ x ∷ []))
+end_at : (h : Classes) (s : Objects) (p : ObjectPart) (c : ClassId) (xs : List PassedMember) (x : PassedMember) (last : Subobject) → class_of p.at ≡ Some c → Settled h p.object s.phases → is_unready s p ≡ false → IsPath h c (xs ++ x ∷ []) last → is_shared (first_name_base xs x.base) ≡ true → EndsWell h s (end_part p (xs ++ x ∷ []))
 end_at h s p c [] x last class settled e path shared =
     record { class = x.class; whole = passed_whole h s p c x class settled path.0; full = passed_done h s p c x class settled path.0 (base_done h s p c x.base class settled path.0.valid (shared_proper c x.base shared) (ready_of s p e)) }
 end_at h s p c (y ∷ rest) x last class settled e path shared =
@@ -178,13 +178,13 @@ address_then : (h : Classes) → IsHierarchy h → (s : Objects) → AllSettled 
     → rank h s (asked_place (Pointer p) place) < 12 → rank h s (asked_place (Pointer p) place) ≤ rank h s (convert (address_value place d (Pointer p)) c)
 address_then h keeps s all p k d place c a path = read_then h s (Pointer p) (Follows (Pointer p) ∷ (Guards (Pointer p) ∷ tests)) B (λ f. absurd (cc)) late step
   where
-    tests : List Use
-    tests = views (is_shared (first_base place.passed place.base)) (Pointer p) ++ asked_members p place.passed
+    tests : List StatementUse
+    tests = uses_of_view (is_shared (first_name_base place.passed place.base)) (Pointer p) ++ asked_members p place.passed
 
     end : ObjectPart
     end = end_part p (place.passed ++ last_passed place d ∷ [])
 
-    B : List Use
+    B : List StatementUse
     B = convert (Pointer end) c
 
     late : 2 ≤ rank h s B
@@ -196,11 +196,11 @@ address_then h keeps s all p k d place c a path = read_then h s (Pointer p) (Fol
     t : rank h s (Guards (Pointer p) ∷ tests) ≡ min (rank h s (Guards (Pointer p) ∷ [])) (rank h s tests)
     t = rank_append h s (Guards (Pointer p) ∷ []) tests
 
-    u : rank h s tests ≡ min (rank h s (views (is_shared (first_base place.passed place.base)) (Pointer p))) (rank h s (asked_members p place.passed))
-    u = rank_append h s (views (is_shared (first_base place.passed place.base)) (Pointer p)) (asked_members p place.passed)
+    u : rank h s tests ≡ min (rank h s (uses_of_view (is_shared (first_name_base place.passed place.base)) (Pointer p))) (rank h s (asked_members p place.passed))
+    u = rank_append h s (uses_of_view (is_shared (first_name_base place.passed place.base)) (Pointer p)) (asked_members p place.passed)
 
     ready : is_unready s p ≡ false → rank h s tests < 12 → rank h s tests ≤ rank h s B
-    ready e less = split (is_shared (first_base place.passed place.base)) (λ b. is_shared (first_base place.passed place.base) ≡ b → rank h s tests ≡ min (rank h s (views b (Pointer p))) (rank h s (asked_members p place.passed)) → rank h s tests ≤ rank h s B)
+    ready e less = split (is_shared (first_name_base place.passed place.base)) (λ b. is_shared (first_name_base place.passed place.base) ≡ b → rank h s tests ≡ min (rank h s (uses_of_view b (Pointer p))) (rank h s (asked_members p place.passed)) → rank h s tests ≤ rank h s B)
         (λ f _ _.
         let z = end_at h s p k place.passed (last_passed place d) (whole_of d) a.0 (all p.object a.1.0 a.1.1) e path f in
         let full : rank h s B ≡ 12 = convert_clear h s (Pointer end) c (not_unready s end z.full) (whole_seen h keeps s end z.class z.whole (complete_ready (s.phases.phase end) z.full)) in
@@ -221,7 +221,7 @@ address_ranks h keeps s all Null k d place c a path less = let o = convert_off h
 address_ranks h keeps s all (Pointer p) k d place c a path less = address_then h keeps s all p k d place c a path less
 
 -- one list of uses in place of another of the same rank
-pub rank_front : (h : Classes) (s : Objects) (a b c : List Use) → rank h s a ≡ rank h s b → rank h s (a ++ c) ≡ rank h s (b ++ c)
+pub rank_front : (h : Classes) (s : Objects) (a b c : List StatementUse) → rank h s a ≡ rank h s b → rank h s (a ++ c) ≡ rank h s (b ++ c)
 rank_front h s a b c e = rank_append h s a c ∙ (ap (λ n. min n (rank h s c)) e ∙ sym (rank_append h s b c))
 
 pub address_answers : (h : Classes) → IsHierarchy h → (s : Objects) → AllSettled h s → (v : Value) (k d : ClassId) (place : TypedPlace) (c : Conversion) → IsOf s v k → IsPath h k place.passed place.base → IsPath h k (place.passed ++ last_passed place d ∷ []) (whole_of d)

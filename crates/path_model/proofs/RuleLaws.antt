@@ -32,7 +32,7 @@ use Rattle.path_plan.specs.Places.{part}
 use Rattle.path_plan.specs.Phases.{Phase, Raw, InBases, ReadyBuilding, Complete, ReadyEnding, EndingBases, Ended, is_complete}
 use Rattle.path_model.specs.Values.{Objects}
 use Rattle.path_model.specs.Uses.{class_of_owner, view_of, derived_of}
-use Rattle.path_model.specs.Rules.{is_outside, is_outside_of, is_pure_by, is_pure_at, is_nowhere, is_in_heap_object, is_whole_of, is_no_whole, is_whole_complete, is_incomplete, differ, is_over}
+use Rattle.path_model.specs.Rules.{is_outside, is_outside_of, is_pure_by, is_pure_in_view, is_nowhere, is_in_heap_object, is_whole_of, is_no_whole, is_whole_complete, is_incomplete, differ, is_over}
 use Rattle.path_model.specs.Effects.{overrider_by}
 use Rattle.path_model.proofs.TypedRanges.{count_positive, euclid_range}
 
@@ -51,13 +51,13 @@ view_law h keeps s p x seen = (λ e. within_inside h x p.at (untrue (is_within h
 -- pure overriders
 
 pub pure_law : (h : Classes) → IsHierarchy h → (c : ClassId) (s : Objects) (p : ObjectPart) (x : Subobject) (f : FunctionId) → view_of h s p ≡ Some x → IsSubobject h c x
-    → (is_pure_at h s f p ≡ true) ↔ ((o : Overrider) × IsFinalIn h c x p.at f o × (is_pure h o.function ≡ true))
+    → (is_pure_in_view h s f p ≡ true) ↔ ((o : Overrider) × IsFinalIn h c x p.at f o × (is_pure h o.function ≡ true))
 pure_law h keeps c s p x f seen there = (
   λ e. let r = pure_some h (final_in h x p.at f) (sym by_view ∙ e) in (r.0, found_final h keeps c x there p.at f r.0 r.1, r.2),
   λ r. by_view ∙ (ap (λ o. is_pure_overrider h o) (final_found h keeps c x there p.at f r.0 r.1) ∙ r.2),
 )
   where
-    by_view : is_pure_at h s f p ≡ is_pure_overrider h (final_in h x p.at f)
+    by_view : is_pure_in_view h s f p ≡ is_pure_overrider h (final_in h x p.at f)
     by_view = ap (λ w. is_pure_by h w p.at f) seen
 
 pub pure_by : (h : Classes) (o : Option Subobject) (y : Subobject) (f : FunctionId) → is_pure_by h o y f ≡ is_pure_overrider h (overrider_by h o y f)

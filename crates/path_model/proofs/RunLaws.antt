@@ -11,13 +11,13 @@ use Rattle.cxx_program.specs.declared.program.TypedProgram.{TypedProgram}
 use Rattle.cxx_program.specs.declared.program.TypedBody.{TypedBody}
 use Rattle.cxx_program.specs.declared.statement.TypedStatement.{TypedStatement}
 use Rattle.path_model.specs.declared.outs.Out.{Out}
-use Rattle.path_model.specs.States.{State, Running, Frame, InBody, InPlan, body_of, sight}
+use Rattle.path_model.specs.States.{ProgramState, RunningBody, Frame, InBody, InPlan, owned_body, sight}
 use Rattle.path_model.specs.Effects.{Next, Goes, Refuses, Ends, Wrong}
 use Rattle.path_model.specs.Steps.{step}
-use Rattle.path_model.specs.Runs.{start, rounded, heap_total, most_heap_bytes, call_limit, Demand, asks_nothing, asks_call, asks_object, demand_of, limit_of, statement_limit, body_limit, frame_limit, limit_at, Move, Moves, IsRefused, IsLimited, IsOver, IsWrong, within, move, move_by, OutOfSteps, LimitMet, Ran, ran_by, run_from, run_of, state_at, state_behind, outs_at, outs_in, is_taken, IsRunning, behind}
+use Rattle.path_model.specs.Runs.{start, size_in_heap, heap_total, most_heap_bytes, call_limit, Demand, asks_nothing, asks_call, asks_object, demand_of, limit_of, statement_limit, body_limit, frame_limit, limit_at, Move, Moves, IsRefused, IsLimited, IsOver, IsWrong, within, move, move_by, OutOfSteps, LimitMet, Ran, ran_by, run_from, run_of, state_at, state_behind, outs_at, outs_in, is_step_taken, IsRunning, behind}
 
 -- one step more
-ran_taken : (m : Move) (s : State) (rest : State → Ran) → is_taken m ≡ true → ran_by m rest ≡ behind 1 (outs_in m) (rest (state_behind m s))
+ran_taken : (m : Move) (s : ProgramState) (rest : ProgramState → Ran) → is_step_taken m ≡ true → ran_by m rest ≡ behind 1 (outs_in m) (rest (state_behind m s))
 ran_taken (Moves new outs) s rest e = refl
 ran_taken (IsRefused rule line) s rest e = absurd (cc)
 ran_taken (IsLimited limit) s rest e = absurd (cc)
@@ -43,7 +43,7 @@ run_on h sizes program (suc n) m running =
     ∙ (ap (λ ran. behind n (outs_at h sizes program n) ran) one ∙ behind_more n (outs_at h sizes program n) (outs_in (move h sizes program s)) (run_from h sizes program m (state_at h sizes program (suc n)))))
 
 -- a move that is not taken ends the run in another way than by the number of steps
-ran_ended : (m : Move) (rest : State → Ran) → is_taken m ≡ false → (ran_by m rest).ending ≡ OutOfSteps → ⊥
+ran_ended : (m : Move) (rest : ProgramState → Ran) → is_step_taken m ≡ false → (ran_by m rest).ending ≡ OutOfSteps → ⊥
 ran_ended (Moves new outs) rest e f = cc
 ran_ended (IsRefused rule line) rest e f = cc
 ran_ended (IsLimited limit) rest e f = cc
@@ -56,18 +56,18 @@ taken_in h sizes program n e (suc k) l =
     let before = taken_in h sizes program n e k (omega (arith, l)) in
     λ j less. by_place j less before
   where
-    s : State
+    s : ProgramState
     s = state_at h sizes program k
 
-    last : IsRunning h sizes program k → is_taken (move h sizes program s) ≡ true
-    last before = split (is_taken (move h sizes program s)) (λ b. is_taken (move h sizes program s) ≡ b → b ≡ true) (λ _ _. refl)
+    last : IsRunning h sizes program k → is_step_taken (move h sizes program s) ≡ true
+    last before = split (is_step_taken (move h sizes program s)) (λ b. is_step_taken (move h sizes program s) ≡ b → b ≡ true) (λ _ _. refl)
         (λ _ f. absurd (ran_ended (move h sizes program s) (run_from h sizes program (n - suc k)) f
         (sym (ap (λ (x : Ran). x.ending) (ap (λ m. run_of h sizes program m) (omega (arith, l)) ∙ run_on h sizes program k (suc (n - suc k)) before)) ∙ e))) refl
 
-    by_place : (j : ℕ) → j < suc k → IsRunning h sizes program k → is_taken (move h sizes program (state_at h sizes program j)) ≡ true
-    by_place j less before = split (ltb j k) (λ b. is_taken (move h sizes program (state_at h sizes program j)) ≡ true)
+    by_place : (j : ℕ) → j < suc k → IsRunning h sizes program k → is_step_taken (move h sizes program (state_at h sizes program j)) ≡ true
+    by_place j less before = split (ltb j k) (λ b. is_step_taken (move h sizes program (state_at h sizes program j)) ≡ true)
         (λ e. before j (ltb-true j k e))
-        (λ e. let more : k ≤ j = ltb-false j k e in let same : k ≡ j = omega (arith, more, less) in subst (λ i. is_taken (move h sizes program (state_at h sizes program i)) ≡ true) same (last before))
+        (λ e. let more : k ≤ j = ltb-false j k e in let same : k ≡ j = omega (arith, more, less) in subst (λ i. is_step_taken (move h sizes program (state_at h sizes program i)) ≡ true) same (last before))
 
 -- a run is out of steps exactly where all of them are taken
 pub out_of_steps : (h : Classes) (sizes : ClassId → ℕ) (program : TypedProgram) (n : ℕ) → ((run_of h sizes program n).ending ≡ OutOfSteps) ↔ IsRunning h sizes program n
@@ -76,39 +76,39 @@ out_of_steps h sizes program n = (λ e. taken_in h sizes program n e n (omega ar
 -- sizes
 
 -- two sizes give one limit, where neither gives the limit on the heap
-limit_by : (sizes sizes' : ClassId → ℕ) (s : State) (demand : Demand) → (limit_of sizes s demand ≡ Some L8 → ⊥) → (limit_of sizes' s demand ≡ Some L8 → ⊥) → limit_of sizes s demand ≡ limit_of sizes' s demand
+limit_by : (sizes sizes' : ClassId → ℕ) (s : ProgramState) (demand : Demand) → (limit_of sizes s demand ≡ Some L8 → ⊥) → (limit_of sizes' s demand ≡ Some L8 → ⊥) → limit_of sizes s demand ≡ limit_of sizes' s demand
 limit_by sizes sizes' s asks_nothing off off' = refl
 limit_by sizes sizes' s asks_call off off' = refl
 limit_by sizes sizes' s (asks_object c) off off' = at_heap (over sizes) (over sizes') off off'
   where
     over : (ClassId → ℕ) → Bool
-    over z = nat_lt most_heap_bytes (heap_total z s.objects.classes + rounded (z c))
+    over z = nat_lt most_heap_bytes (heap_total z s.objects.classes + size_in_heap (z c))
 
     at_heap : (a b : Bool) → ((if a then Some L8 else call_limit s) ≡ Some L8 → ⊥) → ((if b then Some L8 else call_limit s) ≡ Some L8 → ⊥) → (if a then Some L8 else call_limit s) ≡ (if b then Some L8 else call_limit s)
     at_heap true b off off' = absurd (off refl)
     at_heap false true off off' = absurd (off' refl)
     at_heap false false off off' = refl
 
-limit_same : (sizes sizes' : ClassId → ℕ) (program : TypedProgram) (s : State) → (limit_at sizes program s ≡ Some L8 → ⊥) → (limit_at sizes' program s ≡ Some L8 → ⊥) → limit_at sizes program s ≡ limit_at sizes' program s
+limit_same : (sizes sizes' : ClassId → ℕ) (program : TypedProgram) (s : ProgramState) → (limit_at sizes program s ≡ Some L8 → ⊥) → (limit_at sizes' program s ≡ Some L8 → ⊥) → limit_at sizes program s ≡ limit_at sizes' program s
 limit_same sizes sizes' program s off off' = of_frames s.frames off off'
   where
-    of_statement : (f : Running) (o : Option TypedStatement) → (statement_limit sizes s f o ≡ Some L8 → ⊥) → (statement_limit sizes' s f o ≡ Some L8 → ⊥) → statement_limit sizes s f o ≡ statement_limit sizes' s f o
+    of_statement : (f : RunningBody) (o : Option TypedStatement) → (statement_limit sizes s f o ≡ Some L8 → ⊥) → (statement_limit sizes' s f o ≡ Some L8 → ⊥) → statement_limit sizes s f o ≡ statement_limit sizes' s f o
     of_statement f None off off' = refl
     of_statement f (Some statement) off off' = limit_by sizes sizes' s (demand_of (sight s f) statement.kind) off off'
 
-    of_body : (f : Running) (o : Option TypedBody) → (body_limit sizes s f o ≡ Some L8 → ⊥) → (body_limit sizes' s f o ≡ Some L8 → ⊥) → body_limit sizes s f o ≡ body_limit sizes' s f o
+    of_body : (f : RunningBody) (o : Option TypedBody) → (body_limit sizes s f o ≡ Some L8 → ⊥) → (body_limit sizes' s f o ≡ Some L8 → ⊥) → body_limit sizes s f o ≡ body_limit sizes' s f o
     of_body f None off off' = refl
     of_body f (Some body) off off' = of_statement f (slice_get body.statements f.next) off off'
 
     of_frames : (frames : List Frame) → (frame_limit sizes program s frames ≡ Some L8 → ⊥) → (frame_limit sizes' program s frames ≡ Some L8 → ⊥) → frame_limit sizes program s frames ≡ frame_limit sizes' program s frames
     of_frames [] off off' = refl
-    of_frames (InBody f ∷ below) off off' = of_body f (body_of program f.owner) off off'
+    of_frames (InBody f ∷ below) off off' = of_body f (owned_body program f.owner) off off'
     of_frames (InPlan f ∷ below) off off' = refl
 
 abbrev NotFull : Ran → Type 0
 NotFull ran = ran.ending ≡ LimitMet L8 → ⊥
 
-by_next : (next : Next) (l l' : Option LimitNo) (rest rest' : State → Ran) → ((l ≡ Some L8 → ⊥) → (l' ≡ Some L8 → ⊥) → l ≡ l') → ((s : State) → NotFull (rest s) → NotFull (rest' s) → rest s ≡ rest' s)
+by_next : (next : Next) (l l' : Option LimitNo) (rest rest' : ProgramState → Ran) → ((l ≡ Some L8 → ⊥) → (l' ≡ Some L8 → ⊥) → l ≡ l') → ((s : ProgramState) → NotFull (rest s) → NotFull (rest' s) → rest s ≡ rest' s)
     → NotFull (ran_by (move_by next l) rest) → NotFull (ran_by (move_by next l') rest') → ran_by (move_by next l) rest ≡ ran_by (move_by next l') rest'
 by_next (Goes s outs) l l' rest rest' same more a b = at_limits l l' same a b
   where
@@ -124,7 +124,7 @@ by_next (Refuses rule line) l l' rest rest' same more a b = refl
 by_next Ends l l' rest rest' same more a b = refl
 by_next Wrong l l' rest rest' same more a b = refl
 
-run_alike : (h : Classes) (sizes sizes' : ClassId → ℕ) (program : TypedProgram) (n : ℕ) (s : State) → NotFull (run_from h sizes program n s) → NotFull (run_from h sizes' program n s) → run_from h sizes program n s ≡ run_from h sizes' program n s
+run_alike : (h : Classes) (sizes sizes' : ClassId → ℕ) (program : TypedProgram) (n : ℕ) (s : ProgramState) → NotFull (run_from h sizes program n s) → NotFull (run_from h sizes' program n s) → run_from h sizes program n s ≡ run_from h sizes' program n s
 run_alike h sizes sizes' program zero s a b = refl
 run_alike h sizes sizes' program (suc n) s a b = by_next (step h program s) (limit_at sizes program s) (limit_at sizes' program s) (run_from h sizes program n) (run_from h sizes' program n) (limit_same sizes sizes' program s) (λ s'. run_alike h sizes sizes' program n s') a b
 
@@ -132,14 +132,14 @@ run_alike h sizes sizes' program (suc n) s a b = by_next (step h program s) (lim
 pub runs_alike : (h : Classes) (sizes sizes' : ClassId → ℕ) (program : TypedProgram) (n : ℕ) → ((run_of h sizes program n).ending ≡ LimitMet L8 → ⊥) → ((run_of h sizes' program n).ending ≡ LimitMet L8 → ⊥) → run_of h sizes program n ≡ run_of h sizes' program n
 runs_alike h sizes sizes' program n a b = run_alike h sizes sizes' program n (start program) a b
 
-move_bounded : (m : Move) (rest : State → Ran) (n : ℕ) → ((s : State) → (rest s).steps ≤ n) → (ran_by m rest).steps ≤ suc n
+move_bounded : (m : Move) (rest : ProgramState → Ran) (n : ℕ) → ((s : ProgramState) → (rest s).steps ≤ n) → (ran_by m rest).steps ≤ suc n
 move_bounded (Moves new outs) rest n a = let l = a new in omega (arith, l)
 move_bounded (IsRefused rule line) rest n a = omega arith
 move_bounded (IsLimited limit) rest n a = omega arith
 move_bounded IsOver rest n a = omega arith
 move_bounded IsWrong rest n a = omega arith
 
-from_bounded : (h : Classes) (sizes : ClassId → ℕ) (program : TypedProgram) (n : ℕ) (s : State) → (run_from h sizes program n s).steps ≤ n
+from_bounded : (h : Classes) (sizes : ClassId → ℕ) (program : TypedProgram) (n : ℕ) (s : ProgramState) → (run_from h sizes program n s).steps ≤ n
 from_bounded h sizes program zero s = omega arith
 from_bounded h sizes program (suc n) s = move_bounded (move h sizes program s) (run_from h sizes program n) n (λ s'. from_bounded h sizes program n s')
 

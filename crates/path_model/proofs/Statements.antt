@@ -16,11 +16,11 @@ use Rattle.cxx_program.specs.declared.statement.Converted.{Converted}
 use Rattle.cxx_program.specs.declared.statement.TypedKind.{TypedKind}
 use Rattle.cxx_program.specs.declared.statement.TypedKind.TheVariants.{Declare, Assign, Write, Copy, Call, Delete, If, While, Return, Print, PrintType, PrintView, Dump}
 use Rattle.cxx_search.specs.Searches.{has_virtual_base}
-use Rattle.path_model.specs.Values.{Value, Unset, Number, Null, Pointer, Objects, Sight, value, converted}
+use Rattle.path_model.specs.Values.{Value, Unset, Number, Null, Pointer, Objects, Sight, value_of_operand, converted_to}
 use Rattle.path_model.specs.Places.{leaf_value}
-use Rattle.path_model.specs.Uses.{Use, Reads, Views, is_shared, views, convert, arrow, argument_uses, place_uses, covered, goes_to, is_shared_way, call_uses, right_uses, declared_uses, return_uses, kind_uses, Wanted}
-use Rattle.path_model.specs.Rules.{names, is_unready, is_outside, refused, is_clear, uses_of, refusal}
-use Rattle.path_model.specs.Typed.{AllSettled, IsOf, Converts, IsPlaceAt, IsWay, IsCallAt, IsRight, IsDeclared, IsReturn, IsTyped}
+use Rattle.path_model.specs.Uses.{StatementUse, Reads, Views, is_shared, uses_of_view, convert, arrow, argument_uses, place_uses, covered, goes_to, is_shared_way, call_uses, right_uses, declared_uses, return_uses, kind_uses, Wanted}
+use Rattle.path_model.specs.Rules.{names, is_unready, is_outside, refused, is_clear, uses_of, statement_refusal}
+use Rattle.path_model.specs.Typed.{AllSettled, IsOf, ConvertsClass, IsPlaceAt, IsQualifyingBase, IsCallAt, IsRight, IsDeclarationAt, IsReturn, IsStatementAt}
 use Rattle.path_model.specs.Order.{sorted, asked_place, asked_covered, asked_views, call_rest, asked_call, right_order, declared_order, return_order, order, staged}
 use Rattle.path_model.proofs.Ranks.{rank, rank_append, rank_full}
 use Rattle.path_model.proofs.Sorted.{Answers, by_sort, by_rank, by_then}
@@ -33,32 +33,32 @@ use Rattle.path_model.proofs.Rights.{rank_front, read_answers, cast_answers, add
 
 -- calls: the way on from what is within the view stays within it
 
-way_seen : (h : Classes) → IsHierarchy h → (s : Objects) (v : Value) (c : ClassId) (way : Option Subobject) → IsOf s v c → IsWay h c way → names (is_outside h s) v ≡ false → names (is_outside h s) (goes_to way v) ≡ false
+way_seen : (h : Classes) → IsHierarchy h → (s : Objects) (v : Value) (c : ClassId) (way : Option Subobject) → IsOf s v c → IsQualifyingBase h c way → names (is_outside h s) v ≡ false → names (is_outside h s) (goes_to way v) ≡ false
 way_seen h keeps s v c None a b e = e
 way_seen h keeps s Unset c (Some i) a b e = refl
 way_seen h keeps s (Number z) c (Some i) a b e = refl
 way_seen h keeps s Null c (Some i) a b e = refl
 way_seen h keeps s (Pointer p) c (Some i) a b e = inner_seen h keeps s p c i a.0 b e
 
-views_rank : (h : Classes) (s : Objects) (v q : Value) (b : Bool) (rest : List Use) → (names (is_outside h s) v ≡ false → names (is_outside h s) q ≡ false) → rank h s (Views v ∷ (views b q ++ rest)) ≡ rank h s (Views v ∷ rest)
+views_rank : (h : Classes) (s : Objects) (v q : Value) (b : Bool) (rest : List StatementUse) → (names (is_outside h s) v ≡ false → names (is_outside h s) q ≡ false) → rank h s (Views v ∷ (uses_of_view b q ++ rest)) ≡ rank h s (Views v ∷ rest)
 views_rank h s v q b rest seen =
-    let r = rank_append h s (Views v ∷ []) (views b q ++ rest) in
+    let r = rank_append h s (Views v ∷ []) (uses_of_view b q ++ rest) in
     let t = rank_append h s (Views v ∷ []) rest in
-    let u = rank_append h s (views b q) rest in
+    let u = rank_append h s (uses_of_view b q) rest in
     let l = view_late h s b q in
-    split (names (is_outside h s) v) (λ x. rank h s (Views v ∷ (views b q ++ rest)) ≡ rank h s (Views v ∷ rest))
+    split (names (is_outside h s) v) (λ x. rank h s (Views v ∷ (uses_of_view b q ++ rest)) ≡ rank h s (Views v ∷ rest))
     (λ e. let g = view_rank h s v true e in omega (arith, r, t, u, l, g))
     (λ e. let n = views_none h s b q (seen e) in let f = rank_full h s rest in omega (arith, r, t, u, n, f))
 
-call_rank : (h : Classes) → IsHierarchy h → (s : Sight) (call : TypedCall) → IsOf s.objects (value s call.pointer) call.class → IsWay h call.class call.qualifier → rank h s.objects (call_uses s call) ≡ rank h s.objects (asked_call s call)
+call_rank : (h : Classes) → IsHierarchy h → (s : Sight) (call : TypedCall) → IsOf s.objects (value_of_operand s call.pointer) call.class → IsQualifyingBase h call.class call.qualifier → rank h s.objects (call_uses s call) ≡ rank h s.objects (asked_call s call)
 call_rank h keeps s call a b = by_view (call.is_dispatched || is_shared_way call.qualifier)
   where
     v : Value
-    v = value s call.pointer
+    v = value_of_operand s call.pointer
 
-    by_view : (x : Bool) → rank h s.objects (arrow v ++ (views x v ++ (views (is_shared call.base) (goes_to call.qualifier v) ++ call_rest s call))) ≡ rank h s.objects (arrow v ++ (asked_views x call v ++ call_rest s call))
+    by_view : (x : Bool) → rank h s.objects (arrow v ++ (uses_of_view x v ++ (uses_of_view (is_shared call.base) (goes_to call.qualifier v) ++ call_rest s call))) ≡ rank h s.objects (arrow v ++ (asked_views x call v ++ call_rest s call))
     by_view true =
-        rank_append h s.objects (arrow v) (Views v ∷ (views (is_shared call.base) (goes_to call.qualifier v) ++ call_rest s call))
+        rank_append h s.objects (arrow v) (Views v ∷ (uses_of_view (is_shared call.base) (goes_to call.qualifier v) ++ call_rest s call))
         ∙ (ap (λ n. min (rank h s.objects (arrow v)) n) (views_rank h s.objects v (goes_to call.qualifier v) (is_shared call.base) (call_rest s call) (way_seen h keeps s.objects v call.class call.qualifier a b))
         ∙ sym (rank_append h s.objects (arrow v) (Views v ∷ call_rest s call)))
     by_view false = refl
@@ -77,20 +77,20 @@ right_answers h keeps s all (Operand x) c typed = by_sort h s.objects (right_use
 right_answers h keeps s all (Arithmetic op t x y) c typed = by_sort h s.objects (right_uses h (λ us. true) s (Arithmetic op t x y) c)
 right_answers h keeps s all (SamePointer differ a b) c typed = by_sort h s.objects (right_uses h (λ us. true) s (SamePointer differ a b) c)
 right_answers h keeps s all (Not x) c typed = by_sort h s.objects (right_uses h (λ us. true) s (Not x) c)
-right_answers h keeps s all (Read place) c typed = read_answers h keeps s.objects all (value s place.pointer) (leaf_value s place (value s place.pointer)) place.class place c typed.0 typed.1
-right_answers h keeps s all (Address place d) c typed = address_answers h keeps s.objects all (value s place.pointer) place.class d place c typed.0.0 typed.0.1 typed.1
+right_answers h keeps s all (Read place) c typed = read_answers h keeps s.objects all (value_of_operand s place.pointer) (leaf_value s place (value_of_operand s place.pointer)) place.class place c typed.0 typed.1
+right_answers h keeps s all (Address place d) c typed = address_answers h keeps s.objects all (value_of_operand s place.pointer) place.class d place c typed.0.0 typed.0.1 typed.1
 right_answers h keeps s all (CallRight call) c typed = call_answers h keeps s call typed
 right_answers h keeps s all (New d) c typed = empty h s.objects
-right_answers h keeps s all (Cast cast x) c typed = cast_answers h s.objects all cast (value s x) typed.0 c typed.1 typed.2
+right_answers h keeps s all (Cast cast x) c typed = cast_answers h s.objects all cast (value_of_operand s x) typed.0 c typed.1 typed.2
 right_answers h keeps s all (TypeEqual x d) c typed = by_sort h s.objects (right_uses h (λ us. true) s (TypeEqual x d) c)
 
-declared_answers : (h : Classes) → IsHierarchy h → (s : Sight) → AllSettled h s.objects → (x : Option Converted) → IsDeclared h s x → Answers h s.objects (declared_uses h (is_clear h s.objects) s x) (declared_order h s x)
+declared_answers : (h : Classes) → IsHierarchy h → (s : Sight) → AllSettled h s.objects → (x : Option Converted) → IsDeclarationAt h s x → Answers h s.objects (declared_uses h (is_clear h s.objects) s x) (declared_order h s x)
 declared_answers h keeps s all None typed = empty h s.objects
 declared_answers h keeps s all (Some x) typed = right_answers h keeps s all x.right x.conversion typed
 
-write_answers : (h : Classes) → IsHierarchy h → (s : Sight) → AllSettled h s.objects → (place : TypedPlace) (x : Argument) → IsPlaceAt h s place → Answers h s.objects (place_uses s place ++ argument_uses s x) (sorted (asked_place (value s place.pointer) place ++ argument_uses s x))
+write_answers : (h : Classes) → IsHierarchy h → (s : Sight) → AllSettled h s.objects → (place : TypedPlace) (x : Argument) → IsPlaceAt h s place → Answers h s.objects (place_uses s place ++ argument_uses s x) (sorted (asked_place (value_of_operand s place.pointer) place ++ argument_uses s x))
 write_answers h keeps s all place x typed =
-    let v = value s place.pointer in let rest = argument_uses s x in
+    let v = value_of_operand s place.pointer in let rest = argument_uses s x in
     by_rank h s.objects (way_uses v place ++ rest) (asked_place v place ++ rest) (sorted (asked_place v place ++ rest))
     (rank_front h s.objects (way_uses v place) (asked_place v place) rest (place_rank h keeps s.objects all v place.class place typed.0 typed.1)) (by_sort h s.objects (asked_place v place ++ rest))
 
@@ -114,29 +114,29 @@ covers_alike h keeps s all c (Pointer p) a = record {
 }
 
 copy_rank : (h : Classes) (s : Objects) (c : ClassId) (b : Bool) (v v' : Value) → CoversAlike h s c v → CoversAlike h s c v'
-    → rank h s (arrow v ++ (arrow v' ++ (views b v ++ (views b v' ++ (covered h c v ++ covered h c v'))))) ≡ rank h s (arrow v ++ (arrow v' ++ (views b v ++ (views b v' ++ (asked_covered h c v ++ asked_covered h c v')))))
+    → rank h s (arrow v ++ (arrow v' ++ (uses_of_view b v ++ (uses_of_view b v' ++ (covered h c v ++ covered h c v'))))) ≡ rank h s (arrow v ++ (arrow v' ++ (uses_of_view b v ++ (uses_of_view b v' ++ (asked_covered h c v ++ asked_covered h c v')))))
 copy_rank h s c b v v' a a' = front (covered h c v ++ covered h c v') ∙ (split (names (is_unready s) v) (λ t. min (rank h s F) (rank h s (covered h c v ++ covered h c v')) ≡ min (rank h s F) (rank h s (asked_covered h c v ++ asked_covered h c v')))
     (λ u. low (let x = a.unready u in let y = first in omega (arith, x, y)))
     (λ u. split (names (is_unready s) v') (λ t. min (rank h s F) (rank h s (covered h c v ++ covered h c v')) ≡ min (rank h s F) (rank h s (asked_covered h c v ++ asked_covered h c v')))
     (λ u'. low (let x = a'.unready u' in let y = second in omega (arith, x, y)))
     (λ u'. ap (λ n. min (rank h s F) n) (rank_append h s (covered h c v) (covered h c v') ∙ (ap (λ n. min n (rank h s (covered h c v'))) (a.ready u) ∙ (ap (λ n. min (rank h s (asked_covered h c v)) n) (a'.ready u') ∙ sym (rank_append h s (asked_covered h c v) (asked_covered h c v'))))))) ∙ sym (front (asked_covered h c v ++ asked_covered h c v')))
   where
-    F : List Use
-    F = arrow v ++ (arrow v' ++ (views b v ++ views b v'))
+    F : List StatementUse
+    F = arrow v ++ (arrow v' ++ (uses_of_view b v ++ uses_of_view b v'))
 
-    front : (us : List Use) → rank h s (arrow v ++ (arrow v' ++ (views b v ++ (views b v' ++ us)))) ≡ min (rank h s F) (rank h s us)
-    front us = ap (λ z. rank h s (arrow v ++ (arrow v' ++ z))) (sym (append_assoc (views b v) (views b v') us)) ∙ rank_append h s F us
+    front : (us : List StatementUse) → rank h s (arrow v ++ (arrow v' ++ (uses_of_view b v ++ (uses_of_view b v' ++ us)))) ≡ min (rank h s F) (rank h s us)
+    front us = ap (λ z. rank h s (arrow v ++ (arrow v' ++ z))) (sym (append_assoc (uses_of_view b v) (uses_of_view b v') us)) ∙ rank_append h s F us
 
     first : rank h s F ≤ rank h s (arrow v)
-    first = let r = rank_append h s (arrow v) (arrow v' ++ (views b v ++ views b v')) in omega (arith, r)
+    first = let r = rank_append h s (arrow v) (arrow v' ++ (uses_of_view b v ++ uses_of_view b v')) in omega (arith, r)
 
     second : rank h s F ≤ rank h s (arrow v')
     second =
-        let r = rank_append h s (arrow v) (arrow v' ++ (views b v ++ views b v')) in
-        let t = rank_append h s (arrow v') (views b v ++ views b v') in
+        let r = rank_append h s (arrow v) (arrow v' ++ (uses_of_view b v ++ uses_of_view b v')) in
+        let t = rank_append h s (arrow v') (uses_of_view b v ++ uses_of_view b v') in
         omega (arith, r, t)
 
-    two : (x y : List Use) → 2 ≤ rank h s x → 2 ≤ rank h s y → 2 ≤ rank h s (x ++ y)
+    two : (x y : List StatementUse) → 2 ≤ rank h s x → 2 ≤ rank h s y → 2 ≤ rank h s (x ++ y)
     two x y l m = let r = rank_append h s x y in omega (arith, r, l, m)
 
     low : rank h s F ≤ 2 → min (rank h s F) (rank h s (covered h c v ++ covered h c v')) ≡ min (rank h s F) (rank h s (asked_covered h c v ++ asked_covered h c v'))
@@ -144,10 +144,10 @@ copy_rank h s c b v v' a a' = front (covered h c v ++ covered h c v') ∙ (split
 
 -- returns
 
-return_ranks : (h : Classes) (s : Objects) → AllSettled h s → (v : Value) (own found target : Conversion) (c d e f : ClassId) → IsOf s v c → Converts h c own d → Converts h d found e → Converts h e target f
-    → rank h s (Reads v ∷ convert v own) < 12 → rank h s (Reads v ∷ convert v own) ≤ rank h s (convert (converted v own) found ++ convert (converted (converted v own) found) target)
+return_ranks : (h : Classes) (s : Objects) → AllSettled h s → (v : Value) (own found target : Conversion) (c d e f : ClassId) → IsOf s v c → ConvertsClass h c own d → ConvertsClass h d found e → ConvertsClass h e target f
+    → rank h s (Reads v ∷ convert v own) < 12 → rank h s (Reads v ∷ convert v own) ≤ rank h s (convert (converted_to v own) found ++ convert (converted_to (converted_to v own) found) target)
 return_ranks h s all v own found target c d e f a to_own to_found to_target =
-    let v' = converted v own in let v'' = converted v' found in
+    let v' = converted_to v own in let v'' = converted_to v' found in
     let r = rank_append h s (convert v' found) (convert v'' target) in
     let l = convert_late h s v' found in let m = convert_late h s v'' target in
     let late : 2 ≤ rank h s (convert v' found ++ convert v'' target) = omega (arith, r, l, m) in
@@ -161,11 +161,11 @@ return_ranks h s all v own found target c d e f a to_own to_found to_target =
     let y = convert_steady h s v'' target (converted_steady h s all v' d e found (converted_of h s v c d own a to_own) to_found steady') in
     omega (arith, r, x, y)))
 
-return_answers : (h : Classes) (s : Objects) → AllSettled h s → (v : Value) (own found target : Conversion) (c d e f : ClassId) → IsOf s v c → Converts h c own d → Converts h d found e → Converts h e target f
-    → Answers h s (Reads v ∷ (convert v own ++ (convert (converted v own) found ++ convert (converted (converted v own) found) target)))
-    (sorted (Reads v ∷ convert v own) ++ (sorted (convert (converted v own) found) ++ sorted (convert (converted (converted v own) found) target)))
+return_answers : (h : Classes) (s : Objects) → AllSettled h s → (v : Value) (own found target : Conversion) (c d e f : ClassId) → IsOf s v c → ConvertsClass h c own d → ConvertsClass h d found e → ConvertsClass h e target f
+    → Answers h s (Reads v ∷ (convert v own ++ (convert (converted_to v own) found ++ convert (converted_to (converted_to v own) found) target)))
+    (sorted (Reads v ∷ convert v own) ++ (sorted (convert (converted_to v own) found) ++ sorted (convert (converted_to (converted_to v own) found) target)))
 return_answers h s all v own found target c d e f a to_own to_found to_target =
-    let v' = converted v own in let v'' = converted v' found in
+    let v' = converted_to v own in let v'' = converted_to v' found in
     let A = Reads v ∷ convert v own in let B = convert v' found in let C = convert v'' target in
     by_then h s A (B ++ C) (sorted A) (sorted B ++ sorted C) (by_sort h s A)
     (by_then h s B C (sorted B) (sorted C) (by_sort h s B) (by_sort h s C) (convert_then h s v' found C (convert_late h s v'' target)
@@ -174,17 +174,17 @@ return_answers h s all v own found target c d e f a to_own to_found to_target =
 
 return_of_argument : (h : Classes) (s : Sight) → AllSettled h s.objects → (w : Wanted) (x : Option Argument) → IsReturn h s w x → Answers h s.objects (return_uses s w x) (return_order s w x)
 return_of_argument h s all w None typed = empty h s.objects
-return_of_argument h s all w (Some a) typed = return_answers h s.objects all (value s a.operand) a.conversion w.found w.target typed.0 typed.1 typed.2 typed.3 typed.4 typed.5 typed.6 typed.7
+return_of_argument h s all w (Some a) typed = return_answers h s.objects all (value_of_operand s a.operand) a.conversion w.found w.target typed.0 typed.1 typed.2 typed.3 typed.4 typed.5 typed.6 typed.7
 
-pub statement_answers : (h : Classes) → IsHierarchy h → (s : Sight) (w : Wanted) → AllSettled h s.objects → (kind : TypedKind) → IsTyped h s w kind → Answers h s.objects (uses_of h s w kind) (order h s w kind)
+pub statement_answers : (h : Classes) → IsHierarchy h → (s : Sight) (w : Wanted) → AllSettled h s.objects → (kind : TypedKind) → IsStatementAt h s w kind → Answers h s.objects (uses_of h s w kind) (order h s w kind)
 statement_answers h keeps s w all (Declare n x) typed = declared_answers h keeps s all x typed
 statement_answers h keeps s w all (Assign variable x) typed = right_answers h keeps s all x.right x.conversion typed
 statement_answers h keeps s w all (Write place x) typed = write_answers h keeps s all place x typed
 statement_answers h keeps s w all (Copy to from c) typed =
     let b = has_virtual_base h c in
     by_rank h s.objects (uses_of h s w (Copy to from c)) _ (order h s w (Copy to from c))
-    (copy_rank h s.objects c b (value s to) (value s from) (covers_alike h keeps s.objects all c (value s to) typed.0) (covers_alike h keeps s.objects all c (value s from) typed.1))
-    (by_sort h s.objects (arrow (value s to) ++ (arrow (value s from) ++ (views b (value s to) ++ (views b (value s from) ++ (asked_covered h c (value s to) ++ asked_covered h c (value s from)))))))
+    (copy_rank h s.objects c b (value_of_operand s to) (value_of_operand s from) (covers_alike h keeps s.objects all c (value_of_operand s to) typed.0) (covers_alike h keeps s.objects all c (value_of_operand s from) typed.1))
+    (by_sort h s.objects (arrow (value_of_operand s to) ++ (arrow (value_of_operand s from) ++ (uses_of_view b (value_of_operand s to) ++ (uses_of_view b (value_of_operand s from) ++ (asked_covered h c (value_of_operand s to) ++ asked_covered h c (value_of_operand s from)))))))
 statement_answers h keeps s w all (Call call) typed = call_answers h keeps s call typed
 statement_answers h keeps s w all (Delete x c) typed = by_sort h s.objects (kind_uses h (λ us. true) s w (Delete x c))
 statement_answers h keeps s w all (If x other behind) typed = by_sort h s.objects (kind_uses h (λ us. true) s w (If x other behind))
@@ -196,5 +196,5 @@ statement_answers h keeps s w all (PrintView x c) typed = by_sort h s.objects (k
 statement_answers h keeps s w all (Dump x c) typed = by_sort h s.objects (kind_uses h (λ us. true) s w (Dump x c))
 
 -- the first test of the staged order that fails is the least rule that is broken
-pub staged_refuses : (h : Classes) (s : Sight) (w : Wanted) (kind : TypedKind) → IsHierarchy h → AllSettled h s.objects → IsTyped h s w kind → refusal h s w kind ≡ staged h s w kind
+pub staged_refuses : (h : Classes) (s : Sight) (w : Wanted) (kind : TypedKind) → IsHierarchy h → AllSettled h s.objects → IsStatementAt h s w kind → statement_refusal h s w kind ≡ staged h s w kind
 staged_refuses h s w kind keeps all typed = (statement_answers h keeps s w all kind typed).same

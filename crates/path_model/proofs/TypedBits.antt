@@ -14,8 +14,8 @@ use Rattle.cxx_program.specs.declared.operand.TypedOperand.{TypedOperand}
 use Rattle.cxx_program.specs.declared.operand.Conversion.{Conversion}
 use Rattle.cxx_program.specs.declared.operand.Argument.{Argument}
 use Rattle.cxx_program.specs.Typed.{Scope, HasType, IsArgument, a_value, a_null, IsKept, whole, in_bits, width_within}
-use Rattle.path_model.specs.Values.{Value, Unset, Number, Null, Pointer, Leaf, to_number, converted}
-use Rattle.path_model.specs.TypedStates.{IsValue, IsHeld, IsLeafMade, width_of_leaf}
+use Rattle.path_model.specs.Values.{Value, Unset, Number, Null, Pointer, Leaf, to_number, converted_to}
+use Rattle.path_model.specs.TypedStates.{IsValue, IsInBitField, IsLeafMade, width_of_leaf}
 use Rattle.path_model.proofs.TypedRanges.{kept_in_width, width_in_range}
 use Rattle.path_model.proofs.TypedValues.{converted_value}
 
@@ -40,7 +40,7 @@ pub made_width : (h : Classes) (cs : List ClassId) (l : Leaf) (t : ValueType Cla
 made_width h cs l t a = ap (λ o. width_within h o l.member) a.part.of_class
 
 -- what is unset is held anywhere
-pub unset_held : (width : Option ℕ) (t : ValueType ClassId) → IsHeld width Unset t
+pub unset_held : (width : Option ℕ) (t : ValueType ClassId) → IsInBitField width Unset t
 unset_held None t = tt
 unset_held (Some n) t = tt
 
@@ -52,7 +52,7 @@ bits_typed h cs n s t l (Number z) a = width_in_range t n (kept_in t n z) l (kep
 bits_typed h cs n s t l Null a = absurd a
 bits_typed h cs n s t l (Pointer p) a = absurd a
 
-bits_held : (h : Classes) (cs : List ClassId) (n : ℕ) (s t : Scalar) → (v : Value) → IsValue h cs v (NumberType s) → IsHeld (Some n) (to_number (kept_in t n) v) (NumberType t)
+bits_held : (h : Classes) (cs : List ClassId) (n : ℕ) (s t : Scalar) → (v : Value) → IsValue h cs v (NumberType s) → IsInBitField (Some n) (to_number (kept_in t n) v) (NumberType t)
 bits_held h cs n s t Unset a = tt
 bits_held h cs n s t (Number z) a = kept_in_width t n z
 bits_held h cs n s t Null a = absurd a
@@ -60,14 +60,14 @@ bits_held h cs n s t (Pointer p) a = absurd a
 
 -- what a leaf of this width keeps of an operand, where operands have the values of their types
 module _ (h : Classes) (cs : List ClassId) (e : Scope) (value : TypedOperand → Value) (typed : (x : TypedOperand) (t : ValueType ClassId) → HasType e x t → IsValue h cs (value x) t) where
-  pub given_typed : (x : Argument) (t : ValueType ClassId) → IsArgument h e x t → IsValue h cs (converted (value x.operand) x.conversion) t
+  pub given_typed : (x : Argument) (t : ValueType ClassId) → IsArgument h e x t → IsValue h cs (converted_to (value x.operand) x.conversion) t
   given_typed _ _ (a_value x u t has fits) = converted_value h cs u t x.conversion fits (value x.operand) (typed x.operand u has)
   given_typed _ _ (a_null d) = tt
 
-  pub kept_typed : (x : Argument) (t : ValueType ClassId) (width : Option ℕ) → HasRoom width t → IsKept h e width x t → IsValue h cs (converted (value x.operand) x.conversion) t
+  pub kept_typed : (x : Argument) (t : ValueType ClassId) (width : Option ℕ) → HasRoom width t → IsKept h e width x t → IsValue h cs (converted_to (value x.operand) x.conversion) t
   kept_typed _ _ _ room (whole x t fits) = given_typed x t fits
-  kept_typed _ _ _ room (in_bits x n s t has is) = subst (λ (c : Conversion). IsValue h cs (converted (value x.operand) c) (NumberType t)) (sym is) (bits_typed h cs n s t (room.most n t refl refl) (value x.operand) (typed x.operand (NumberType s) has))
+  kept_typed _ _ _ room (in_bits x n s t has is) = subst (λ (c : Conversion). IsValue h cs (converted_to (value x.operand) c) (NumberType t)) (sym is) (bits_typed h cs n s t (room.most n t refl refl) (value x.operand) (typed x.operand (NumberType s) has))
 
-  pub kept_held : (x : Argument) (t : ValueType ClassId) (width : Option ℕ) → IsKept h e width x t → IsHeld width (converted (value x.operand) x.conversion) t
+  pub kept_held : (x : Argument) (t : ValueType ClassId) (width : Option ℕ) → IsKept h e width x t → IsInBitField width (converted_to (value x.operand) x.conversion) t
   kept_held _ _ _ (whole x t fits) = tt
-  kept_held _ _ _ (in_bits x n s t has is) = subst (λ (c : Conversion). IsHeld (Some n) (converted (value x.operand) c) (NumberType t)) (sym is) (bits_held h cs n s t (value x.operand) (typed x.operand (NumberType s) has))
+  kept_held _ _ _ (in_bits x n s t has is) = subst (λ (c : Conversion). IsInBitField (Some n) (converted_to (value x.operand) c) (NumberType t)) (sym is) (bits_held h cs n s t (value x.operand) (typed x.operand (NumberType s) has))

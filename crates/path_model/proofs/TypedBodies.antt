@@ -19,8 +19,8 @@ use Rattle.cxx_program.specs.declared.program.TypedProgram.{TypedProgram}
 use Rattle.cxx_program.specs.Typed.{Types, this_of, parameters_of, HasBody, IsTypedBody, IsTypedProgram}
 use Rattle.cxx_subobject.proofs.PathLemmas.{same_id}
 use Rattle.path_model.specs.Values.{Value, Unset}
-use Rattle.path_model.specs.States.{Target, same_function, same_owner, body_of, is_body, start_locals, entered}
-use Rattle.path_model.specs.Runs.{first_value, no_objects, main_frames, start}
+use Rattle.path_model.specs.States.{Target, same_function, same_owner, owned_body, is_body, start_locals, entered_body}
+use Rattle.path_model.specs.Runs.{start_value, no_objects, main_frames, start}
 use Rattle.path_model.specs.TypedStates.{IsValue, AreValues, IsThis, IsTypedRunning, IsOpened, width_of_leaf}
 use Rattle.path_model.proofs.TypedRanges.{zero_in_range}
 use Rattle.path_model.proofs.TypedValues.{values_append}
@@ -56,7 +56,7 @@ listed_typed h program a o body e =
     (owner_is body.owner o p.1, a.bodies body (contains_from_has program.bodies body p.0))
 
 -- the body that is found is its owner's, and typed
-pub body_typed : (h : Classes) (program : TypedProgram) → IsTypedProgram h program → (o : Owner) (body : TypedBody) → body_of program o ≡ Some body → (body.owner ≡ o) × IsTypedBody h program.globals body
+pub body_typed : (h : Classes) (program : TypedProgram) → IsTypedProgram h program → (o : Owner) (body : TypedBody) → owned_body program o ≡ Some body → (body.owner ≡ o) × IsTypedBody h program.globals body
 body_typed h program a Main body e = a.main body e
 body_typed h program a (Function f) body e = listed_typed h program a (Function f) body e
 body_typed h program a (Constructor c) body e = listed_typed h program a (Constructor c) body e
@@ -66,7 +66,7 @@ pub same_function_itself : (f : FunctionId) → same_owner (Function f) (Functio
 same_function_itself f = rw (eq-eqb f.class.0 f.class.0 refl, eq-eqb f.index f.index refl) refl
 
 -- a function that has a body is found
-pub function_found : (h : Classes) (program : TypedProgram) → IsTypedProgram h program → (f : FunctionId) → HasBody h (Function f) → (body : TypedBody) × (body_of program (Function f) ≡ Some body)
+pub function_found : (h : Classes) (program : TypedProgram) → IsTypedProgram h program → (f : FunctionId) → HasBody h (Function f) → (body : TypedBody) × (owned_body program (Function f) ≡ Some body)
 function_found h program a f has =
     let differ : Function f ≢ Main = λ e. cc in
     let b = a.complete (Function f) differ has in
@@ -92,12 +92,12 @@ start_values h cs body vs ts us is a =
     (subst (λ n. AreValues h cs (replicate n Unset) us) (sym (left_over h cs vs ts us a)) (unset_values h cs us)))
 
 -- a body at its first statement
-pub entered_typed : (h : Classes) (program : TypedProgram) (cs : List ClassId) → IsTypedProgram h program → (o : Owner) (body : TypedBody) → body_of program o ≡ Some body → (v : Value) → IsThis h cs (this_of o) v
-    → (vs : List Value) → AreValues h cs vs (parameters_of h o) → (found : Conversion) (target : Option Target) → IsTypedRunning h program cs (entered body v vs found target) body
+pub entered_typed : (h : Classes) (program : TypedProgram) (cs : List ClassId) → IsTypedProgram h program → (o : Owner) (body : TypedBody) → owned_body program o ≡ Some body → (v : Value) → IsThis h cs (this_of o) v
+    → (vs : List Value) → AreValues h cs vs (parameters_of h o) → (found : Conversion) (target : Option Target) → IsTypedRunning h program cs (entered_body body v vs found target) body
 entered_typed h program cs a o body there v this vs values found target =
     let b = body_typed h program a o body there in
     record {
-      there = ap (body_of program) b.0 ∙ there;
+      there = ap (owned_body program) b.0 ∙ there;
       this = subst (λ (x : Owner). IsThis h cs (this_of x) v) (sym b.0) this;
       locals = start_values h cs body vs (parameters_of h body.owner) b.1.others b.1.parameters (subst (λ (x : Owner). AreValues h cs vs (parameters_of h x)) (sym b.0) values);
       next = omega arith;
@@ -105,16 +105,16 @@ entered_typed h program cs a o body there v this vs values found target =
 
 -- the start
 
-first_typed : (h : Classes) (cs : List ClassId) (t : ValueType ClassId) → IsValue h cs (first_value t) t
+first_typed : (h : Classes) (cs : List ClassId) (t : ValueType ClassId) → IsValue h cs (start_value t) t
 first_typed h cs (NumberType t) = zero_in_range t
 first_typed h cs (PointerType c) = tt
 
-first_values : (h : Classes) (cs : List ClassId) (ts : Types) → AreValues h cs (map first_value ts) ts
+first_values : (h : Classes) (cs : List ClassId) (ts : Types) → AreValues h cs (map start_value ts) ts
 first_values h cs [] = tt
 first_values h cs (t ∷ ts) = (first_typed h cs t, first_values h cs ts)
 
 start_typed : (h : Classes) (program : TypedProgram) → IsTypedProgram h program → (o : Option TypedBody) → program.main ≡ o → is_body o ≡ true
-    → IsSound h program (record { objects = no_objects; globals = map first_value program.globals; frames = main_frames o })
+    → IsSound h program (record { objects = no_objects; globals = map start_value program.globals; frames = main_frames o })
 start_typed h program a None e some = absurd (let f : false ≡ true = some in cc)
 start_typed h program a (Some body) e some =
     let owner = (a.main body e).0 in

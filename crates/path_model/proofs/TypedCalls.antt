@@ -32,12 +32,12 @@ use Rattle.cxx_program.specs.declared.program.TypedProgram.{TypedProgram}
 use Rattle.cxx_program.specs.Typed.{Types, Scope, Converts, IsWay, IsCall, parameter_types, parameters_in, parameters_of, return_in, IsTypedProgram}
 use Rattle.path_rules.specs.declared.Undefined.TheVariants.{PureCall}
 use Rattle.path_plan.specs.Places.{part}
-use Rattle.path_model.specs.Values.{Value, Pointer, Objects, Sight, value, argument_value, inner_part, to_base as moved}
-use Rattle.path_model.specs.States.{Target, Frame, InBody, State, with_frames, entered}
-use Rattle.path_model.specs.Uses.{Views, Takes, views, takes, argument_uses, is_shared, is_shared_way, goes_to, receiver, call_uses}
+use Rattle.path_model.specs.Values.{Value, Pointer, Objects, Sight, value_of_operand, argument_value, inner_part, to_base as moved}
+use Rattle.path_model.specs.States.{Target, Frame, InBody, ProgramState, with_frames, entered_body}
+use Rattle.path_model.specs.Uses.{Views, Takes, uses_of_view, takes, argument_uses, is_shared, is_shared_way, goes_to, receiver_value, call_uses}
 use Rattle.path_model.specs.Rules.{refused, names, is_pure_by, is_outside}
-use Rattle.path_model.specs.Rules.{is_pure_at as is_pure_part}
-use Rattle.path_model.specs.Effects.{result_conversion, at_part, runs_at, overrider_by, dispatched, runs, body_entered, function_entered, called_at, called}
+use Rattle.path_model.specs.Rules.{is_pure_in_view as is_pure_part}
+use Rattle.path_model.specs.Effects.{result_conversion, at_part, runs_at, overrider_by, overrider_in_view, runs, body_entered, function_entered, called_at, called}
 use Rattle.path_model.specs.TypedStates.{IsPartMade, AreValues, FitsTarget, FitsResult, IsOpened}
 use Rattle.path_model.proofs.Facts.{inner_seen}
 use Rattle.path_model.proofs.TypedValues.{IsTypedSight, inner_made, operand_typed, arguments_typed}
@@ -67,7 +67,7 @@ result_fits h globals body f g d target df a waits = record {
 }
 
 -- the body of the function that runs
-run_sound : (h : Classes) (program : TypedProgram) → IsTypedProgram h program → (s : State) (body : TypedBody) → IsOnTop program body s.frames → (values : List Value) (call : TypedCall) (d : FunctionRecord ClassId) (target : Option Target)
+run_sound : (h : Classes) (program : TypedProgram) → IsTypedProgram h program → (s : ProgramState) (body : TypedBody) → IsOnTop program body s.frames → (values : List Value) (call : TypedCall) (d : FunctionRecord ClassId) (target : Option Target)
     → declaration_of h call.function ≡ Some d → AreValues h s.objects.classes values (parameter_types d) → Waits h program.globals body d.ret target → (p : ObjectPart) (g : FunctionId) → RunsFor h call.function d g → IsPartMade h s.objects.classes p g.class
     → IsSound h program s → IsSoundNext h program (function_entered h program s values call target (Some (p, g)))
 run_sound h program a s body top values call d target df fits waits p g r made b =
@@ -78,7 +78,7 @@ run_sound h program a s body top values call d target df fits waits p g r made b
     let own : AreValues h cs values (parameters_of h (Function g)) = subst (λ (o : Option (FunctionRecord ClassId)). AreValues h cs values (parameters_in o)) (sym r.there) (subst (λ (ts : Types). AreValues h cs values ts) (sym r.parameters) fits) in
     let owner = (body_typed h program a (Function g) new found.1).0 in
     let opened : IsOpened h program (Function g) conv target s.frames = on_top_called program (FitsResult h program.globals (Function g) conv target) body s.frames top (result_fits h program.globals body call.function g d target df r waits) in
-    let next : IsSound h program (with_frames s (InBody (entered new (Pointer p) values conv target) ∷ s.frames)) = record {
+    let next : IsSound h program (with_frames s (InBody (entered_body new (Pointer p) values conv target) ∷ s.frames)) = record {
       typed = record {
         globals = b.typed.globals;
         leaves = b.typed.leaves;
@@ -96,7 +96,7 @@ way_names : (h : Classes) (s : Objects) (p : ObjectPart) (c k : ClassId) (q : Op
 way_names h s p c k None made way = record { part = p; is = refl; made = subst (λ (d : ClassId). IsPartMade h s.classes p d) way made }
 way_names h s p c k (Some i) made way = record { part = inner_part p i; is = refl; made = inner_made h s.classes p c k i made way.valid way.class }
 
-receiver_names : (h : Classes) (e : Scope) (see : Sight) (call : TypedCall) (d : FunctionRecord ClassId) → (c : IsCall h e call d) → (a : NamesPart h see.objects (value see call.pointer) call.class) → NamesPart h see.objects (receiver see call) call.function.class
+receiver_names : (h : Classes) (e : Scope) (see : Sight) (call : TypedCall) (d : FunctionRecord ClassId) → (c : IsCall h e call d) → (a : NamesPart h see.objects (value_of_operand see call.pointer) call.class) → NamesPart h see.objects (receiver_value see call) call.function.class
 receiver_names h e see call d c a =
     let w = way_names h see.objects a.part call.class c.through call.qualifier a.made c.way in
     record {
@@ -107,7 +107,7 @@ receiver_names h e see call d c a =
 
 -- what a call that is dispatched asks
 
-views_has : (b : Bool) (v : Value) → b ≡ true → Has (views b v) (Views v)
+views_has : (b : Bool) (v : Value) → b ≡ true → Has (uses_of_view b v) (Views v)
 views_has true v e = inl refl
 views_has false v e = let f : false ≡ true = e in absurd (cc)
 
@@ -115,28 +115,28 @@ takes_has : (b : Bool) (v : Value) (f : FunctionId) → b ≡ true → Has (take
 takes_has true v f e = inl refl
 takes_has false v f e = let g : false ≡ true = e in absurd (cc)
 
-has_views : (see : Sight) (call : TypedCall) → call.is_dispatched ≡ true → Has (call_uses see call) (Views (value see call.pointer))
+has_views : (see : Sight) (call : TypedCall) → call.is_dispatched ≡ true → Has (call_uses see call) (Views (value_of_operand see call.pointer))
 has_views see call e =
-    let v = value see call.pointer in
+    let v = value_of_operand see call.pointer in
     let b = call.is_dispatched || is_shared_way call.qualifier in
-    inr (inr (inr (has_left (views b v) _ (Views v) (views_has b v (or_left call.is_dispatched (is_shared_way call.qualifier) e)))))
+    inr (inr (inr (has_left (uses_of_view b v) _ (Views v) (views_has b v (or_left call.is_dispatched (is_shared_way call.qualifier) e)))))
 
-has_takes : (see : Sight) (call : TypedCall) → call.is_dispatched ≡ true → Has (call_uses see call) (Takes (receiver see call) call.function)
+has_takes : (see : Sight) (call : TypedCall) → call.is_dispatched ≡ true → Has (call_uses see call) (Takes (receiver_value see call) call.function)
 has_takes see call e =
-    let v = value see call.pointer in
-    let u = Takes (receiver see call) call.function in
-    inr (inr (inr (has_right (views (call.is_dispatched || is_shared_way call.qualifier) v) _ u
-    (has_right (views (is_shared call.base) (goes_to call.qualifier v)) _ u
-    (has_right (flat_map (argument_uses see) call.arguments) _ u (takes_has call.is_dispatched (receiver see call) call.function e))))))
+    let v = value_of_operand see call.pointer in
+    let u = Takes (receiver_value see call) call.function in
+    inr (inr (inr (has_right (uses_of_view (call.is_dispatched || is_shared_way call.qualifier) v) _ u
+    (has_right (uses_of_view (is_shared call.base) (goes_to call.qualifier v)) _ u
+    (has_right (flat_map (argument_uses see) call.arguments) _ u (takes_has call.is_dispatched (receiver_value see call) call.function e))))))
 
 -- the receiver of a call that is dispatched is a subobject of what the pointer names
-dispatched_receiver : (h : Classes) (e : Scope) (see : Sight) (call : TypedCall) (d : FunctionRecord ClassId) → IsCall h e call d → call.qualifier ≡ None → (p : ObjectPart) → value see call.pointer ≡ Pointer p → receiver see call ≡ Pointer (inner_part p call.base)
-dispatched_receiver h e see call d c none p is = ap (λ q. moved call.base (goes_to q (value see call.pointer))) none ∙ ap (moved call.base) is
+dispatched_receiver : (h : Classes) (e : Scope) (see : Sight) (call : TypedCall) (d : FunctionRecord ClassId) → IsCall h e call d → call.qualifier ≡ None → (p : ObjectPart) → value_of_operand see call.pointer ≡ Pointer p → receiver_value see call ≡ Pointer (inner_part p call.base)
+dispatched_receiver h e see call d c none p is = ap (λ q. moved call.base (goes_to q (value_of_operand see call.pointer))) none ∙ ap (moved call.base) is
 
 -- what runs in a dispatched call
 record Dispatches (h : Classes) (s : Objects) (f : FunctionId) (d : FunctionRecord ClassId) (p : ObjectPart) : Type 0 where
   pub overrider : Overrider
-  pub is : dispatched h s p f ≡ Some (at_part p overrider)
+  pub is : overrider_in_view h s p f ≡ Some (at_part p overrider)
   pub runs : RunsFor h f d overrider.function
   pub made_at : IsPartMade h s.classes (part p.object p.owner overrider.at) overrider.function.class
 
@@ -163,8 +163,8 @@ module _ (h : Classes) (keeps : IsHierarchy h) (fine : HasNoFault h) (s : Object
 module _ (h : Classes) (keeps : IsHierarchy h) (fine : HasNoFault h) (program : TypedProgram) (a : IsTypedProgram h program) (e : Scope) (see : Sight) (sees : IsTypedSight h e see) (running : AreRunningParts h see.objects) (globals : List Value) (frames : List Frame) (body : TypedBody)
     (top : IsOnTop program body frames) (call : TypedCall) (d : FunctionRecord ClassId) (c : IsCall h e call d) (target : Option Target) (waits : Waits h program.globals body d.ret target) (clear : refused h see.objects (call_uses see call) ≡ None)
     (b : IsSound h program (record { objects = see.objects; globals = globals; frames = frames })) where
-  pointer_names : NamesPart h see.objects (value see call.pointer) call.class
-  pointer_names = followed h see.objects (call_uses see call) clear (value see call.pointer) (inl refl) (inr (inl refl)) call.class (operand_typed h e see sees call.pointer (PointerType call.class) c.pointer)
+  pointer_names : NamesPart h see.objects (value_of_operand see call.pointer) call.class
+  pointer_names = followed h see.objects (call_uses see call) clear (value_of_operand see call.pointer) (inl refl) (inr (inl refl)) call.class (operand_typed h e see sees call.pointer (PointerType call.class) c.pointer)
 
   values_fit : AreValues h see.objects.classes (map (argument_value see) call.arguments) (parameter_types d)
   values_fit = arguments_typed h e see sees call.arguments (parameter_types d) c.arguments
@@ -174,12 +174,12 @@ module _ (h : Classes) (keeps : IsHierarchy h) (fine : HasNoFault h) (program : 
   enters p g r made = run_sound h program a (record { objects = see.objects; globals = globals; frames = frames }) body top (map (argument_value see) call.arguments) call d target c.declared values_fit waits p g r made b
 
   by_dispatch : (p : ObjectPart) → Dispatches h see.objects call.function d p
-      → IsSoundNext h program (function_entered h program (record { objects = see.objects; globals = globals; frames = frames }) (map (argument_value see) call.arguments) call target (dispatched h see.objects p call.function))
+      → IsSoundNext h program (function_entered h program (record { objects = see.objects; globals = globals; frames = frames }) (map (argument_value see) call.arguments) call target (overrider_in_view h see.objects p call.function))
   by_dispatch p r = subst (λ (o : Option (ObjectPart × FunctionId)). IsSoundNext h program (function_entered h program (record { objects = see.objects; globals = globals; frames = frames }) (map (argument_value see) call.arguments) call target o)) (sym r.is)
       (enters (part p.object p.owner r.overrider.at) r.overrider.function r.runs r.made_at)
 
-  by_view : (p : ObjectPart) → receiver see call ≡ Pointer p → IsPartMade h see.objects.classes p call.function.class → call.is_dispatched ≡ true
-      → IsSoundNext h program (function_entered h program (record { objects = see.objects; globals = globals; frames = frames }) (map (argument_value see) call.arguments) call target (dispatched h see.objects p call.function))
+  by_view : (p : ObjectPart) → receiver_value see call ≡ Pointer p → IsPartMade h see.objects.classes p call.function.class → call.is_dispatched ≡ true
+      → IsSoundNext h program (function_entered h program (record { objects = see.objects; globals = globals; frames = frames }) (map (argument_value see) call.arguments) call target (overrider_in_view h see.objects p call.function))
   by_view p is made flag =
       let n = pointer_names in
       let w = c.dispatched flag in
@@ -189,14 +189,14 @@ module _ (h : Classes) (keeps : IsHierarchy h) (fine : HasNoFault h) (program : 
       let base : IsSubobject h call.class call.base = subst (λ (k : ClassId). IsSubobject h k call.base) through c.base in
       let seen = viewed h see.objects (call_uses see call) clear n.part (subst (λ (v : Value). Has (call_uses see call) (Views v)) n.is (has_views see call flag)) in
       let seen_in = inner_seen h keeps see.objects n.part call.class call.base n.made.of_class base seen in
-      let pure = unbroken h see.objects (call_uses see call) clear (Takes (receiver see call) call.function) (has_takes see call flag) PureCall in
+      let pure = unbroken h see.objects (call_uses see call) clear (Takes (receiver_value see call) call.function) (has_takes see call flag) PureCall in
       let pure_at : is_pure_part h see.objects call.function p ≡ false = sym (ap (names (is_pure_part h see.objects call.function)) is) ∙ pure in
       by_dispatch p (dispatches h keeps fine see.objects running call.function d c.declared w.1 p made (subst (λ (q : ObjectPart). is_outside h see.objects q ≡ false) at seen_in) pure_at)
 
-  at_receiver : (p : ObjectPart) → receiver see call ≡ Pointer p → IsPartMade h see.objects.classes p call.function.class
+  at_receiver : (p : ObjectPart) → receiver_value see call ≡ Pointer p → IsPartMade h see.objects.classes p call.function.class
       → IsSoundNext h program (function_entered h program (record { objects = see.objects; globals = globals; frames = frames }) (map (argument_value see) call.arguments) call target (runs h see.objects call p))
   at_receiver p is made = split call.is_dispatched (λ q. call.is_dispatched ≡ q
-      → IsSoundNext h program (function_entered h program (record { objects = see.objects; globals = globals; frames = frames }) (map (argument_value see) call.arguments) call target (if q then dispatched h see.objects p call.function else Some (p, call.function))))
+      → IsSoundNext h program (function_entered h program (record { objects = see.objects; globals = globals; frames = frames }) (map (argument_value see) call.arguments) call target (if q then overrider_in_view h see.objects p call.function else Some (p, call.function))))
       (λ flag _. by_view p is made flag)
       (λ flag _. enters p call.function (runs_itself h call.function d c.declared (c.defined flag)) made) refl
 

@@ -25,9 +25,9 @@ use Rattle.path_plan.specs.Plans.{upto}
 use Rattle.path_plan.proofs.Members.{has_count}
 use Rattle.path_model.specs.Values.{Value, Pointer, Leaf, inner_part}
 use Rattle.path_model.specs.Places.{leaf, typed_leaves, member_leaves, own_leaves, leaves_within, leaves_of}
-use Rattle.path_model.specs.States.{State, with_objects}
+use Rattle.path_model.specs.States.{ProgramState, with_objects}
 use Rattle.path_model.specs.Effects.{same_leaf, value_behind, copied, copied_at}
-use Rattle.path_model.specs.TypedStates.{IsPartMade, IsValue, IsHeld, IsLeafMade, width_of_leaf}
+use Rattle.path_model.specs.TypedStates.{IsPartMade, IsValue, IsInBitField, IsLeafMade, width_of_leaf}
 use Rattle.path_model.proofs.TypedValues.{inner_made}
 use Rattle.path_model.proofs.TypedPlaces.{element_made}
 use Rattle.path_model.proofs.TypedFrames.{IsSound, IsSoundNext}
@@ -110,7 +110,7 @@ module _ (h : Classes) (cs : List ClassId) where
       subst (λ (x : Leaf). Q x (values pair.1) t) same (over pair.0 pair.1 (values pair.1) t goes (old pair.1 t (along_made h cs pair.0 pair.1 t goes first)))
 
 -- a copy of one part into another of its class
-pub copied_sound : (h : Classes) (program : TypedProgram) (s : State) (c : ClassId) (v w : Value) → NamesPart h s.objects v c → NamesPart h s.objects w c → IsSound h program s → IsSoundNext h program (copied_at h s c v w)
+pub copied_sound : (h : Classes) (program : TypedProgram) (s : ProgramState) (c : ClassId) (v w : Value) → NamesPart h s.objects v c → NamesPart h s.objects w c → IsSound h program s → IsSoundNext h program (copied_at h s c v w)
 copied_sound h program s c v w a b k =
     let cs = s.objects.classes in
     let to = a.part in
@@ -122,7 +122,7 @@ copied_sound h program s c v w a b k =
         leaves = λ l t made.
             behind_keeps h cs (λ x v u. IsValue h cs v u) (λ x y v u goes is. is) s.objects.leaf k.typed.leaves (leaves_of h c to) (leaves_of h c from) along l t made (find (λ (pair : Leaf × Leaf). same_leaf pair.0 l) (zip (leaves_of h c to) (leaves_of h c from))) refl;
         held = λ l t made.
-            behind_keeps h cs (λ x v u. IsHeld (width_of_leaf h x) v u) (λ x y v u goes is. subst (λ o. IsHeld o v u) (sym (along_width h cs x y goes)) is) s.objects.leaf k.typed.held (leaves_of h c to) (leaves_of h c from) along l t made
+            behind_keeps h cs (λ x v u. IsInBitField (width_of_leaf h x) v u) (λ x y v u goes is. subst (λ o. IsInBitField o v u) (sym (along_width h cs x y goes)) is) s.objects.leaf k.typed.held (leaves_of h c to) (leaves_of h c from) along l t made
             (find (λ (pair : Leaf × Leaf). same_leaf pair.0 l) (zip (leaves_of h c to) (leaves_of h c from))) refl;
         frames = k.typed.frames;
         running = k.typed.running;

@@ -23,16 +23,16 @@ use Rattle.cxx_program.specs.declared.program.TypedBody.{TypedBody}
 use Rattle.cxx_program.specs.declared.program.TypedProgram.{TypedProgram}
 use Rattle.cxx_program.specs.Typed.{HasType, of_variable, of_this, of_number, IsKept, no_scope, IsTypedInit, AreInitsOf, IsTypedProgram}
 use Rattle.path_plan.specs.Places.{part, same_part}
-use Rattle.path_plan.specs.Phases.{Event, Begin, Ready, Init, Body, Done, Ending, Bases, End, part_of, rest_of, pushed, popped}
+use Rattle.path_plan.specs.Phases.{PartEvent, Begin, Ready, Init, Body, Done, Ending, Bases, End, part_of, rest_of, with_pushed_part, popped}
 use Rattle.path_plan.proofs.Same.{owner_same, part_same}
-use Rattle.path_plan.specs.Places.{same_owner as same_place}
-use Rattle.path_model.specs.Values.{Value, Leaf, Objects, converted}
+use Rattle.path_plan.specs.Places.{same_complete_object as same_place}
+use Rattle.path_model.specs.Values.{Value, Leaf, Objects, converted_to}
 use Rattle.path_model.specs.Places.{leaf}
-use Rattle.path_model.specs.States.{body_of, inits_in, init_of}
+use Rattle.path_model.specs.States.{owned_body, inits_in, member_init}
 use Rattle.path_model.specs.Outs.{class_or_first}
 use Rattle.path_model.specs.Effects.{with_leaf, same_leaf}
 use Rattle.path_model.specs.Steps.{constant, init_value, class_of_part, leaves_after, objects_after}
-use Rattle.path_model.specs.TypedStates.{IsPartMade, IsValue, IsHeld, IsLeafMade, width_of_leaf}
+use Rattle.path_model.specs.TypedStates.{IsPartMade, IsValue, IsInBitField, IsLeafMade, width_of_leaf}
 use Rattle.path_model.proofs.TypedBits.{member_room, made_width, unset_held, kept_typed, kept_held}
 use Rattle.path_model.proofs.TypedViews.{AreRunningParts, both_left, both_right}
 use Rattle.path_model.proofs.TypedBodies.{body_typed}
@@ -53,7 +53,7 @@ leaf_type_is ty (Some n) t u e is = absurd (let f : None ≡ Some u = subst (λ 
 member_type : (h : Classes) (c : ClassId) (m i : ℕ) (t u : ValueType ClassId) → leaf_type h c m ≡ Some u → IsElement h c m i (ValueField t) → u ≡ t
 member_type h c m i t u e el = leaf_type_is el.member.ty el.member.count t u (sym (ap leaf_type_in el.there) ∙ e) el.type_is
 
-pub inits_of : (h : Classes) (program : TypedProgram) → IsTypedProgram h program → (c : ClassId) (o : Option TypedBody) → body_of program (Constructor c) ≡ o → (init : TypedInit) → Has (inits_in o) init → IsTypedInit h c init
+pub inits_of : (h : Classes) (program : TypedProgram) → IsTypedProgram h program → (c : ClassId) (o : Option TypedBody) → owned_body program (Constructor c) ≡ o → (init : TypedInit) → Has (inits_in o) init → IsTypedInit h c init
 inits_of h program a c None e init has = absurd has
 inits_of h program a c (Some body) e init has =
     let b = body_typed h program a (Constructor c) body e in
@@ -61,12 +61,12 @@ inits_of h program a c (Some body) e init has =
     inits.each init (contains_from_has body.inits init has)
 
 -- what an initializer of the member gives has its type, and its bits can hold it
-init_typed : (h : Classes) (program : TypedProgram) (cs : List ClassId) → IsHierarchy h → IsTypedProgram h program → (c : ClassId) (m i : ℕ) (t : ValueType ClassId) → IsElement h c m i (ValueField t) → (o : Option TypedInit) → init_of program c m ≡ o
-    → IsValue h cs (init_value o) t × IsHeld (width_of_member h c m) (init_value o) t
+init_typed : (h : Classes) (program : TypedProgram) (cs : List ClassId) → IsHierarchy h → IsTypedProgram h program → (c : ClassId) (m i : ℕ) (t : ValueType ClassId) → IsElement h c m i (ValueField t) → (o : Option TypedInit) → member_init program c m ≡ o
+    → IsValue h cs (init_value o) t × IsInBitField (width_of_member h c m) (init_value o) t
 init_typed h program cs keeps a c m i t el None e = (tt, unset_held (width_of_member h c m) t)
 init_typed h program cs keeps a c m i t el (Some init) e =
-    let p = find_passes (λ (x : TypedInit). nat_eq x.member m) (inits_in (body_of program (Constructor c))) init e in
-    let is = inits_of h program a c (body_of program (Constructor c)) refl init p.0 in
+    let p = find_passes (λ (x : TypedInit). nat_eq x.member m) (inits_in (owned_body program (Constructor c))) init e in
+    let is = inits_of h program a c (owned_body program (Constructor c)) refl init p.0 in
     let number = eqb-true init.member m p.1 in
     let at : leaf_type h c m ≡ Some is.type = ap (leaf_type h c) (sym number) ∙ is.of_member in
     let same = member_type h c m i t is.type at el in
@@ -94,39 +94,39 @@ class_of_made : (h : Classes) (cs : List ClassId) (p : ObjectPart) (c : ClassId)
 class_of_made h cs p c a = ap class_or_first a.of_class
 
 init_leaf : (h : Classes) (program : TypedProgram) (cs : List ClassId) → IsHierarchy h → IsTypedProgram h program → (p : ObjectPart) (m : ℕ) (t : ValueType ClassId) → (made : IsLeafMade h cs (leaf p m 0) t)
-    → IsValue h cs (init_value (init_of program (class_of_part p) m)) t × IsHeld (width_of_leaf h (leaf p m 0)) (init_value (init_of program (class_of_part p) m)) t
+    → IsValue h cs (init_value (member_init program (class_of_part p) m)) t × IsInBitField (width_of_leaf h (leaf p m 0)) (init_value (member_init program (class_of_part p) m)) t
 init_leaf h program cs keeps a p m t made =
     let class = sym (class_of_made h cs p made.class made.part) in
-    let r = init_typed h program cs keeps a made.class m 0 t made.element (init_of program made.class m) refl in (
-      subst (λ (c : ClassId). IsValue h cs (init_value (init_of program c m)) t) class r.0,
-      subst (λ w. IsHeld w (init_value (init_of program (class_of_part p) m)) t) (sym (made_width h cs (leaf p m 0) t made))
-          (subst (λ (c : ClassId). IsHeld (width_of_member h made.class m) (init_value (init_of program c m)) t) class r.1),
+    let r = init_typed h program cs keeps a made.class m 0 t made.element (member_init program made.class m) refl in (
+      subst (λ (c : ClassId). IsValue h cs (init_value (member_init program c m)) t) class r.0,
+      subst (λ w. IsInBitField w (init_value (member_init program (class_of_part p) m)) t) (sym (made_width h cs (leaf p m 0) t made))
+          (subst (λ (c : ClassId). IsInBitField (width_of_member h made.class m) (init_value (member_init program c m)) t) class r.1),
     )
 
 -- an event keeps what holds of each leaf, where it holds of what an initializer gives
-leaves_keep : (h : Classes) (program : TypedProgram) (cs : List ClassId) (Q : Leaf → Value → ValueType ClassId → Type 0) → ((p : ObjectPart) (m : ℕ) (t : ValueType ClassId) → IsLeafMade h cs (leaf p m 0) t → Q (leaf p m 0) (init_value (init_of program (class_of_part p) m)) t)
-    → (values : Leaf → Value) (e : Event) → ((m : Leaf) (t : ValueType ClassId) → IsLeafMade h cs m t → Q m (values m) t) → (m : Leaf) (t : ValueType ClassId) → IsLeafMade h cs m t → Q m (leaves_after program values e m) t
+leaves_keep : (h : Classes) (program : TypedProgram) (cs : List ClassId) (Q : Leaf → Value → ValueType ClassId → Type 0) → ((p : ObjectPart) (m : ℕ) (t : ValueType ClassId) → IsLeafMade h cs (leaf p m 0) t → Q (leaf p m 0) (init_value (member_init program (class_of_part p) m)) t)
+    → (values : Leaf → Value) (e : PartEvent) → ((m : Leaf) (t : ValueType ClassId) → IsLeafMade h cs m t → Q m (values m) t) → (m : Leaf) (t : ValueType ClassId) → IsLeafMade h cs m t → Q m (leaves_after program values e m) t
 leaves_keep h program cs Q new values (Begin p) old = old
 leaves_keep h program cs Q new values (Ready p) old = old
-leaves_keep h program cs Q new values (Init p m) old = leaf_set_keeps h cs Q values (leaf p m 0) (init_value (init_of program (class_of_part p) m)) (new p m) old
+leaves_keep h program cs Q new values (Init p m) old = leaf_set_keeps h cs Q values (leaf p m 0) (init_value (member_init program (class_of_part p) m)) (new p m) old
 leaves_keep h program cs Q new values (Body p) old = old
 leaves_keep h program cs Q new values (Done p) old = old
 leaves_keep h program cs Q new values (Ending p) old = old
 leaves_keep h program cs Q new values (Bases p) old = old
 leaves_keep h program cs Q new values (End p) old = old
 
-pub leaves_typed : (h : Classes) (program : TypedProgram) (cs : List ClassId) (values : Leaf → Value) → IsHierarchy h → IsTypedProgram h program → (e : Event)
+pub leaves_typed : (h : Classes) (program : TypedProgram) (cs : List ClassId) (values : Leaf → Value) → IsHierarchy h → IsTypedProgram h program → (e : PartEvent)
     → ((m : Leaf) (t : ValueType ClassId) → IsLeafMade h cs m t → IsValue h cs (values m) t) → (m : Leaf) (t : ValueType ClassId) → IsLeafMade h cs m t → IsValue h cs (leaves_after program values e m) t
 leaves_typed h program cs values keeps a e old = leaves_keep h program cs (λ l v t. IsValue h cs v t) (λ p m t made. (init_leaf h program cs keeps a p m t made).0) values e old
 
-pub leaves_held : (h : Classes) (program : TypedProgram) (cs : List ClassId) (values : Leaf → Value) → IsHierarchy h → IsTypedProgram h program → (e : Event)
-    → ((m : Leaf) (t : ValueType ClassId) → IsLeafMade h cs m t → IsHeld (width_of_leaf h m) (values m) t) → (m : Leaf) (t : ValueType ClassId) → IsLeafMade h cs m t → IsHeld (width_of_leaf h m) (leaves_after program values e m) t
-leaves_held h program cs values keeps a e old = leaves_keep h program cs (λ l v t. IsHeld (width_of_leaf h l) v t) (λ p m t made. (init_leaf h program cs keeps a p m t made).1) values e old
+pub leaves_held : (h : Classes) (program : TypedProgram) (cs : List ClassId) (values : Leaf → Value) → IsHierarchy h → IsTypedProgram h program → (e : PartEvent)
+    → ((m : Leaf) (t : ValueType ClassId) → IsLeafMade h cs m t → IsInBitField (width_of_leaf h m) (values m) t) → (m : Leaf) (t : ValueType ClassId) → IsLeafMade h cs m t → IsInBitField (width_of_leaf h m) (leaves_after program values e m) t
+leaves_held h program cs values keeps a e old = leaves_keep h program cs (λ l v t. IsInBitField (width_of_leaf h l) v t) (λ p m t made. (init_leaf h program cs keeps a p m t made).1) values e old
 
 -- what runs
 
 pushed_runs : (h : Classes) (s : Objects) (p : ObjectPart) (class : ClassId) → slice_get s.classes p.object ≡ Some class → IsPartOf h class p → AreRunningParts h s
-    → (k : ℕ) (c : ClassId) (o : List Step) (x : Subobject) → slice_get s.classes k ≡ Some c → Has (pushed s.phases.running p k o) x → IsPartOf h c (part k o x)
+    → (k : ℕ) (c : ClassId) (o : List Step) (x : Subobject) → slice_get s.classes k ≡ Some c → Has (with_pushed_part s.phases.running p k o) x → IsPartOf h c (part k o x)
 pushed_runs h s p class made inside old k c o x got has = split (same_place p.object p.owner k o) (λ b. Has (if b then p.at ∷ s.phases.running k o else s.phases.running k o) x → IsPartOf h c (part k o x))
     (λ e has. ⊎_elim (λ top.
     let same = owner_same p.object p.owner k o e in
@@ -145,7 +145,7 @@ popped_runs : (h : Classes) (s : Objects) (p : ObjectPart) → AreRunningParts h
 popped_runs h s p old k c o x got has = split (same_place p.object p.owner k o) (λ b. Has (if b then rest_of (s.phases.running k o) else s.phases.running k o) x → IsPartOf h c (part k o x))
     (λ _ has. old k c o x got (rest_has (s.phases.running k o) x has)) (λ _ has. old k c o x got has) has
 
-pub runs_after : (h : Classes) (program : TypedProgram) (s : Objects) (e : Event) (class : ClassId) → slice_get s.classes (part_of e).object ≡ Some class → IsPartOf h class (part_of e) → AreRunningParts h s → AreRunningParts h (objects_after program s e)
+pub runs_after : (h : Classes) (program : TypedProgram) (s : Objects) (e : PartEvent) (class : ClassId) → slice_get s.classes (part_of e).object ≡ Some class → IsPartOf h class (part_of e) → AreRunningParts h s → AreRunningParts h (objects_after program s e)
 runs_after h program s (Begin p) class made inside old = pushed_runs h s p class made inside old
 runs_after h program s (Ready p) class made inside old = old
 runs_after h program s (Init p m) class made inside old = old

@@ -11,15 +11,15 @@ use Rattle.cxx_program.specs.declared.program.Owner.{Owner}
 use Rattle.cxx_program.specs.declared.program.TypedBody.{TypedBody}
 use Rattle.cxx_program.specs.declared.program.TypedProgram.{TypedProgram}
 use Rattle.cxx_program.specs.Typed.{scope_of, this_of, variable_type}
-use Rattle.path_model.specs.Values.{Value, converted}
-use Rattle.path_model.specs.States.{Target, Running, Frame, InBody, InPlan, State, body_of, with_local, with_local_in, assigned, sight}
-use Rattle.path_model.specs.Effects.{Next, Goes, Refuses, Ends, Wrong, given}
-use Rattle.path_model.specs.TypedStates.{IsValue, AreValues, IsThis, FitsTarget, IsCalledFrom, FitsObject, AreTypedFrames, IsTypedState}
+use Rattle.path_model.specs.Values.{Value, converted_to}
+use Rattle.path_model.specs.States.{Target, RunningBody, Frame, InBody, InPlan, ProgramState, owned_body, with_local, with_local_in, assigned, sight}
+use Rattle.path_model.specs.Effects.{Next, Goes, Refuses, Ends, Wrong, given_to_target}
+use Rattle.path_model.specs.TypedStates.{IsValue, AreValues, IsThis, FitsTarget, IsCalledFrom, FitsMadeObject, AreTypedFrames, IsTypedState}
 use Rattle.path_model.proofs.TypedValues.{IsTypedSight, values_set, values_grown, this_grown, converted_value}
 use Rattle.path_model.proofs.TypedViews.{AreRunningParts}
 
 -- a state that is typed, and what runs in its objects are parts of them
-pub record IsSound (h : Classes) (program : TypedProgram) (s : State) : Type 0 where
+pub record IsSound (h : Classes) (program : TypedProgram) (s : ProgramState) : Type 0 where
   pub typed : IsTypedState h program s
   pub runs : AreRunningParts h s.objects
 
@@ -33,13 +33,13 @@ IsSoundNext h program Wrong = ⊥
 -- a body of the program is on top
 abbrev pub IsOnTop : TypedProgram → TypedBody → List Frame → Type 0
 IsOnTop program body [] = ⊥
-IsOnTop program body (InBody f ∷ below) = body_of program f.owner ≡ Some body
+IsOnTop program body (InBody f ∷ below) = owned_body program f.owner ≡ Some body
 IsOnTop program body (InPlan f ∷ below) = ⊥
 
 -- more objects
 
 called_grown : (h : Classes) (program : TypedProgram) (cs more : List ClassId) (k : ℕ) (target : Option Target) (below : List Frame)
-    → IsCalledFrom program (FitsObject h program.globals cs k target) below → IsCalledFrom program (FitsObject h program.globals (cs ++ more) k target) below
+    → IsCalledFrom program (FitsMadeObject h program.globals cs k target) below → IsCalledFrom program (FitsMadeObject h program.globals (cs ++ more) k target) below
 called_grown h program cs more k target [] a = absurd a
 called_grown h program cs more k target (InBody g ∷ below) (body, there, fits) = (body, there, record { class = fits.class; made = get_front cs more k fits.class fits.made; fits = fits.fits })
 called_grown h program cs more k target (InPlan g ∷ below) a = absurd a
@@ -51,7 +51,7 @@ frames_grown h program cs more (InBody f ∷ below) ((body, r), opened, rest) =
 frames_grown h program cs more (InPlan f ∷ below) (called, rest) = (called_grown h program cs more f.object f.target below called, frames_grown h program cs more below rest)
 
 -- a body that runs is the one that is found
-same_body : (program : TypedProgram) (o : Owner) (a b : TypedBody) → body_of program o ≡ Some a → body_of program o ≡ Some b → a ≡ b
+same_body : (program : TypedProgram) (o : Owner) (a b : TypedBody) → owned_body program o ≡ Some a → owned_body program o ≡ Some b → a ≡ b
 same_body program o a b e f = let g : Some a ≡ Some b = sym e ∙ f in cc
 
 -- a local takes a value
@@ -70,7 +70,7 @@ local_some (InBody f ∷ below) n v some e = let g : InBody (with_local f n v) �
 local_some (InPlan f ∷ below) n v some e = let g : InPlan f ∷ below ≡ [] = e in cc
 
 -- a variable of the body on top takes a value
-pub assigned_sound : (h : Classes) (program : TypedProgram) (s : State) (body : TypedBody) → IsOnTop program body s.frames → (x : Variable) (t : ValueType ClassId) → variable_type (scope_of h program.globals body) x ≡ Some t
+pub assigned_sound : (h : Classes) (program : TypedProgram) (s : ProgramState) (body : TypedBody) → IsOnTop program body s.frames → (x : Variable) (t : ValueType ClassId) → variable_type (scope_of h program.globals body) x ≡ Some t
     → (v : Value) → IsValue h s.objects.classes v t → IsSound h program s → IsSound h program (assigned s x v)
 assigned_sound h program s body top (Global n) t is v fits a = record {
   typed = record { globals = values_set h s.objects.classes s.globals program.globals n t v a.typed.globals is fits; leaves = a.typed.leaves; held = a.typed.held; frames = a.typed.frames; running = a.typed.running };
@@ -82,11 +82,11 @@ assigned_sound h program s body top (Local n) t is v fits a = record {
 }
 
 -- who waits for a value takes it
-pub given_sound : (h : Classes) (program : TypedProgram) (s : State) (body : TypedBody) → IsOnTop program body s.frames → (t : ValueType ClassId) (target : Option Target) → FitsTarget h program.globals body t target
-    → (v : Value) → IsValue h s.objects.classes v t → IsSound h program s → IsSound h program (given s v target)
+pub given_sound : (h : Classes) (program : TypedProgram) (s : ProgramState) (body : TypedBody) → IsOnTop program body s.frames → (t : ValueType ClassId) (target : Option Target) → FitsTarget h program.globals body t target
+    → (v : Value) → IsValue h s.objects.classes v t → IsSound h program s → IsSound h program (given_to_target s v target)
 given_sound h program s body top t None fits v is a = a
 given_sound h program s body top t (Some target) (u, there, converts) v is a =
-    assigned_sound h program s body top target.variable u there (converted v target.conversion) (converted_value h s.objects.classes t u target.conversion converts v is) a
+    assigned_sound h program s body top target.variable u there (converted_to v target.conversion) (converted_value h s.objects.classes t u target.conversion converts v is) a
 
 -- the body that called
 pub called_on_top : (program : TypedProgram) (P : TypedBody → Type 0) (below : List Frame) → IsCalledFrom program P below → (body : TypedBody) × IsOnTop program body below × P body
@@ -104,7 +104,7 @@ called_some program P [] a e = a
 called_some program P (f ∷ below) a e = let g : f ∷ below ≡ [] = e in cc
 
 -- what the body on top sees
-pub sight_typed : (h : Classes) (program : TypedProgram) (s : State) (f : Running) (below : List Frame) (body : TypedBody) → s.frames ≡ InBody f ∷ below → body_of program f.owner ≡ Some body → body.owner ≡ f.owner → IsTypedState h program s
+pub sight_typed : (h : Classes) (program : TypedProgram) (s : ProgramState) (f : RunningBody) (below : List Frame) (body : TypedBody) → s.frames ≡ InBody f ∷ below → owned_body program f.owner ≡ Some body → body.owner ≡ f.owner → IsTypedState h program s
     → IsTypedSight h (scope_of h program.globals body) (sight s f)
 sight_typed h program s f below body frames there owner a =
     let top = subst (λ (fs : List Frame). AreTypedFrames h program s.objects.classes fs) frames a.frames in

@@ -17,11 +17,11 @@ use Rattle.cxx_program.specs.declared.statement.Converted.{Converted}
 use Rattle.cxx_program.specs.declared.program.TypedBody.{TypedBody}
 use Rattle.cxx_program.specs.declared.program.TypedProgram.{TypedProgram}
 use Rattle.cxx_program.specs.Typed.{Scope, scope_of, variable_type, zero_operand, Converts, IsCall, HasRight, an_operand, a_calculation, a_comparison, a_negation, a_read, an_address, a_result, an_object, a_cast, a_type_test, IsConverted, a_right, a_null_right, IsTypedProgram}
-use Rattle.path_model.specs.Values.{Value, Sight, converted}
+use Rattle.path_model.specs.Values.{Value, Sight, converted_to}
 use Rattle.path_model.specs.Uses.{right_uses}
 use Rattle.path_model.specs.Rules.{refused, is_clear}
 use Rattle.path_model.specs.States.{Frame, assigned}
-use Rattle.path_model.specs.Effects.{right_value, taker, taken}
+use Rattle.path_model.specs.Effects.{right_side_value, taker, taken}
 use Rattle.path_model.specs.TypedStates.{IsValue}
 use Rattle.path_model.proofs.TypedValues.{IsTypedSight}
 use Rattle.path_model.proofs.TypedRights.{converted_right_typed}
@@ -68,11 +68,11 @@ inverse h e _ _ (a_null_right d) other = absurd (other refl)
 module _ (h : Classes) (keeps : IsHierarchy h) (fine : HasNoFault h) (program : TypedProgram) (a : IsTypedProgram h program) (see : Sight) (globals : List Value) (frames : List Frame) (body : TypedBody) (top : IsOnTop program body frames)
     (sees : IsTypedSight h (scope_of h program.globals body) see) (b : IsSound h program (record { objects = see.objects; globals = globals; frames = frames })) where
   module _ (variable : Variable) (t : ValueType ClassId) (is : variable_type (scope_of h program.globals body) variable ≡ Some t) where
-    sets : (x : Converted) → IsConverted h (scope_of h program.globals body) x t → (v : Value) → v ≡ converted (right_value h see x.right) x.conversion → IsValue h see.objects.classes v t
+    sets : (x : Converted) → IsConverted h (scope_of h program.globals body) x t → (v : Value) → v ≡ converted_to (right_side_value h see x.right) x.conversion → IsValue h see.objects.classes v t
     sets x fits v same = subst (λ (w : Value). IsValue h see.objects.classes w t) (sym same) (converted_right_typed h keeps (scope_of h program.globals body) see b.runs sees x t fits)
 
-    set_sound : (r : TypedRight) (c : Conversion) → IsConverted h (scope_of h program.globals body) (record { right = r; conversion = c }) t → IsSound h program (assigned (record { objects = see.objects; globals = globals; frames = frames }) variable (converted (right_value h see r) c))
-    set_sound r c fits = assigned_sound h program (record { objects = see.objects; globals = globals; frames = frames }) body top variable t is (converted (right_value h see r) c) (sets (record { right = r; conversion = c }) fits (converted (right_value h see r) c) refl) b
+    set_sound : (r : TypedRight) (c : Conversion) → IsConverted h (scope_of h program.globals body) (record { right = r; conversion = c }) t → IsSound h program (assigned (record { objects = see.objects; globals = globals; frames = frames }) variable (converted_to (right_side_value h see r) c))
+    set_sound r c fits = assigned_sound h program (record { objects = see.objects; globals = globals; frames = frames }) body top variable t is (converted_to (right_side_value h see r) c) (sets (record { right = r; conversion = c }) fits (converted_to (right_side_value h see r) c) refl) b
 
     result_waits : (call : TypedCall) (c : Conversion) (u : ValueType ClassId) → (k : IsResult h (scope_of h program.globals body) call u) → Converts h u c t → Waits h program.globals body k.declared.ret (taker variable c)
     result_waits call c u k fits = record {

@@ -33,7 +33,7 @@ use Rattle.cxx_search.proofs.Finals.{found_final}
 use Rattle.cxx_search.proofs.Casts.{of_class}
 use Rattle.cxx_program.specs.declared.operand.Conversion.TheVariants.{Same as ToSame}
 use Rattle.cxx_program.specs.Typed.{Types, Converts, to_same, to_base, parameter_types}
-use Rattle.path_model.specs.Effects.{base_conversion, class_conversion, result_conversion}
+use Rattle.path_model.specs.Effects.{base_conversion, conversion_to_class, result_conversion}
 
 -- signatures and declarations
 
@@ -73,7 +73,7 @@ base_found h keeps x y s only differ =
     subst (λ (o : Option Subobject). Converts h (PointerType x) (base_conversion o) (PointerType y)) (sym found.1)
     (to_base x y i (record { valid = has_preorder h x i passed.0; class = class; proper = proper }))
 
-derived_conversion : (h : Classes) → IsHierarchy h → (x y : ClassId) (s : Subobject) → IsOnlyBase h x y s → Converts h (PointerType x) (class_conversion h x y) (PointerType y)
+derived_conversion : (h : Classes) → IsHierarchy h → (x y : ClassId) (s : Subobject) → IsOnlyBase h x y s → Converts h (PointerType x) (conversion_to_class h x y) (PointerType y)
 derived_conversion h keeps x y s only = split (nat_eq x.0 y.0) (λ b. Converts h (PointerType x) (if b then ToSame else base_conversion (find (is_of_class y) (preorder h x))) (PointerType y))
     (λ e. subst (λ (c : ClassId). Converts h (PointerType x) ToSame (PointerType c)) (same_id x y (eqb-true x.0 y.0 e)) (to_same (PointerType x)))
     (λ e. base_found h keeps x y s only e)
@@ -91,7 +91,7 @@ same_returns h t = record {
 
 derived_returns : (h : Classes) → IsHierarchy h → (x y : ClassId) (s : Subobject) → IsOnlyBase h x y s → ReturnsFor h (ValueReturn (PointerType x)) (ValueReturn (PointerType y))
 derived_returns h keeps x y s only = record {
-  result = λ v e. (PointerType y, refl, let same : PointerType x ≡ v = cc in subst (λ (t : ValueType ClassId). Converts h t (class_conversion h x y) (PointerType y)) same (derived_conversion h keeps x y s only));
+  result = λ v e. (PointerType y, refl, let same : PointerType x ≡ v = cc in subst (λ (t : ValueType ClassId). Converts h t (conversion_to_class h x y) (PointerType y)) same (derived_conversion h keeps x y s only));
   back = λ w e. (PointerType x, refl);
 }
 

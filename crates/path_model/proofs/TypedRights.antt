@@ -21,21 +21,21 @@ use Rattle.cxx_program.specs.declared.statement.TypedRight.{TypedRight}
 use Rattle.cxx_program.specs.declared.statement.Converted.{Converted}
 use Rattle.cxx_program.specs.Typed.{Scope, Casts, cast_same, cast_up, cast_down, cast_dynamic, calculated_type, HasRight, an_operand, a_calculation, a_comparison, a_negation, a_read, an_address, a_result, an_object, a_cast, a_type_test, IsConverted, a_right, a_null_right, IsPlace, zero_operand, of_number}
 use Rattle.cxx_hierarchy.specs.declared.records.FieldType.TheVariants.{Value as ValueField, Object}
-use Rattle.path_model.specs.Values.{Value, Unset, Number, Null, Pointer, Objects, Sight, value, converted, argument_value}
+use Rattle.path_model.specs.Values.{Value, Unset, Number, Null, Pointer, Objects, Sight, value_of_operand, converted_to, argument_value}
 use Rattle.path_model.specs.Places.{leaf_at, leaf_value, address_value}
 use Rattle.path_model.specs.Uses.{cast_value, view_cast, view_of, value_or, derived_of}
-use Rattle.path_model.specs.Effects.{truth, calculated, arithmetic_value, is_same_pointer, negated, is_number_zero, is_type, type_of, type_equal, right_value}
+use Rattle.path_model.specs.Effects.{truth_as_number, calculated_value, arithmetic_value, is_same_pointer, negated, is_number_zero, is_type, typeid_class, type_equal, right_side_value}
 use Rattle.path_model.specs.TypedStates.{IsPartMade, IsValue}
 use Rattle.path_model.proofs.TypedRanges.{wrapped_in_range, bit_in_range, zero_in_range}
 use Rattle.path_model.proofs.TypedValues.{IsTypedSight, inner_made, operand_typed, converted_value}
 use Rattle.path_model.proofs.TypedPlaces.{leaf_made, object_made}
 use Rattle.path_model.proofs.TypedViews.{AreRunningParts, derived_made, cast_made}
-use Rattle.path_model.specs.Typed.{IsCast}
+use Rattle.path_model.specs.Typed.{IsCastFrom}
 
-pub truth_typed : (h : Classes) (cs : List ClassId) (b : Bool) → IsValue h cs (truth b) (NumberType TheBool)
+pub truth_typed : (h : Classes) (cs : List ClassId) (b : Bool) → IsValue h cs (truth_as_number b) (NumberType TheBool)
 truth_typed h cs b = bit_in_range b
 
-calculated_typed : (h : Classes) (cs : List ClassId) (op : Operator) (t : Scalar) (a b : ℤ) → IsValue h cs (calculated op t a b) (NumberType (calculated_type op t))
+calculated_typed : (h : Classes) (cs : List ClassId) (op : Operator) (t : Scalar) (a b : ℤ) → IsValue h cs (calculated_value op t a b) (NumberType (calculated_type op t))
 calculated_typed h cs Add t a b = wrapped_in_range t (a +ℤ b)
 calculated_typed h cs Subtract t a b = wrapped_in_range t (a -ℤ b)
 calculated_typed h cs Multiply t a b = wrapped_in_range t (a *ℤ b)
@@ -67,7 +67,7 @@ type_equal_typed : (h : Classes) (s : Objects) (d : ClassId) (v : Value) → IsV
 type_equal_typed h s d Unset = tt
 type_equal_typed h s d (Number z) = tt
 type_equal_typed h s d Null = tt
-type_equal_typed h s d (Pointer p) = is_type_typed h s.classes d (type_of h s p)
+type_equal_typed h s d (Pointer p) = is_type_typed h s.classes d (typeid_class h s p)
 
 -- casts
 
@@ -114,21 +114,21 @@ address_typed h e cs place d b (Number z) p = absurd p
 address_typed h e cs place d b Null p = tt
 address_typed h e cs place d b (Pointer q) p = object_made h cs e place d q p b
 
-pub right_typed : (h : Classes) → IsHierarchy h → (e : Scope) (s : Sight) → AreRunningParts h s.objects → IsTypedSight h e s → (r : TypedRight) (t : ValueType ClassId) → HasRight h e r t → IsValue h s.objects.classes (right_value h s r) t
+pub right_typed : (h : Classes) → IsHierarchy h → (e : Scope) (s : Sight) → AreRunningParts h s.objects → IsTypedSight h e s → (r : TypedRight) (t : ValueType ClassId) → HasRight h e r t → IsValue h s.objects.classes (right_side_value h s r) t
 right_typed h keeps e s runs a _ _ (an_operand x t has) = operand_typed h e s a x t has
-right_typed h keeps e s runs a _ _ (a_calculation op u t x y left right) = arithmetic_typed h s.objects.classes op (common_type u t) (value s x) (value s y)
+right_typed h keeps e s runs a _ _ (a_calculation op u t x y left right) = arithmetic_typed h s.objects.classes op (common_type u t) (value_of_operand s x) (value_of_operand s y)
 right_typed h keeps e s runs a _ _ (a_comparison differ x y c left right) =
     bit_in_range (if differ then not (is_same_pointer (argument_value s x) (argument_value s y)) else is_same_pointer (argument_value s x) (argument_value s y))
-right_typed h keeps e s runs a _ _ (a_negation x t has) = negated_typed h s.objects.classes (value s x)
-right_typed h keeps e s runs a _ _ (a_read place t b) = read_typed h e s a place t b (value s place.pointer) (operand_typed h e s a place.pointer (PointerType place.class) b.pointer)
-right_typed h keeps e s runs a _ _ (an_address place d b) = address_typed h e s.objects.classes place d b (value s place.pointer) (operand_typed h e s a place.pointer (PointerType place.class) b.pointer)
+right_typed h keeps e s runs a _ _ (a_negation x t has) = negated_typed h s.objects.classes (value_of_operand s x)
+right_typed h keeps e s runs a _ _ (a_read place t b) = read_typed h e s a place t b (value_of_operand s place.pointer) (operand_typed h e s a place.pointer (PointerType place.class) b.pointer)
+right_typed h keeps e s runs a _ _ (an_address place d b) = address_typed h e s.objects.classes place d b (value_of_operand s place.pointer) (operand_typed h e s a place.pointer (PointerType place.class) b.pointer)
 right_typed h keeps e s runs a _ _ (a_result call f t c is) = tt
 right_typed h keeps e s runs a _ _ (an_object c known) = tt
-right_typed h keeps e s runs a _ _ (a_cast cast x c d has casts) = cast_typed h keeps s.objects runs cast c d casts (value s x) (operand_typed h e s a x (PointerType c) has)
-right_typed h keeps e s runs a _ _ (a_type_test x c d has poly known) = type_equal_typed h s.objects d (value s x)
+right_typed h keeps e s runs a _ _ (a_cast cast x c d has casts) = cast_typed h keeps s.objects runs cast c d casts (value_of_operand s x) (operand_typed h e s a x (PointerType c) has)
+right_typed h keeps e s runs a _ _ (a_type_test x c d has poly known) = type_equal_typed h s.objects d (value_of_operand s x)
 
-pub converted_right_typed : (h : Classes) → IsHierarchy h → (e : Scope) (s : Sight) → AreRunningParts h s.objects → IsTypedSight h e s → (x : Converted) (t : ValueType ClassId) → IsConverted h e x t → IsValue h s.objects.classes (converted (right_value h s x.right) x.conversion) t
-converted_right_typed h keeps e s runs a _ _ (a_right x u t has fits) = converted_value h s.objects.classes u t x.conversion fits (right_value h s x.right) (right_typed h keeps e s runs a x.right u has)
+pub converted_right_typed : (h : Classes) → IsHierarchy h → (e : Scope) (s : Sight) → AreRunningParts h s.objects → IsTypedSight h e s → (x : Converted) (t : ValueType ClassId) → IsConverted h e x t → IsValue h s.objects.classes (converted_to (right_side_value h s x.right) x.conversion) t
+converted_right_typed h keeps e s runs a _ _ (a_right x u t has fits) = converted_value h s.objects.classes u t x.conversion fits (right_side_value h s x.right) (right_typed h keeps e s runs a x.right u has)
 converted_right_typed h keeps e s runs a _ _ (a_null_right d) = tt
 
 -- a right side that is converted has a type
@@ -136,7 +136,7 @@ pub converted_type : (h : Classes) (e : Scope) (x : Converted) (t : ValueType Cl
 converted_type h e _ _ (a_right x u t has fits) = (u, has)
 converted_type h e _ _ (a_null_right d) = (NumberType Int, an_operand zero_operand (NumberType Int) (of_number (pos 0) Int (zero_in_range Int)))
 
-pub cast_given : (h : Classes) (c d : ClassId) (cast : TypedCast) → Casts h c cast d → IsCast h c cast
+pub cast_given : (h : Classes) (c d : ClassId) (cast : TypedCast) → Casts h c cast d → IsCastFrom h c cast
 cast_given h c d _ (cast_same _) = tt
 cast_given h c d _ (cast_up _ _ i proper) = (d, proper)
 cast_given h c d _ (cast_down _ _ i proper root known) = tt

@@ -20,11 +20,11 @@ use Rattle.cxx_program.specs.declared.program.TypedBody.{TypedBody}
 use Rattle.cxx_program.specs.declared.program.TypedProgram.{TypedProgram}
 use Rattle.cxx_program.specs.Typed.{Scope, IsPlace, place_width, returns_of}
 use Rattle.path_model.specs.declared.outs.Out.{Out}
-use Rattle.path_model.specs.Values.{Value, Unset, Number, Null, Pointer, Objects, converted}
+use Rattle.path_model.specs.Values.{Value, Unset, Number, Null, Pointer, Objects, converted_to}
 use Rattle.path_model.specs.Places.{leaf_at}
-use Rattle.path_model.specs.States.{Target, Running, Frame, InBody, State, body_of, with_objects, with_frames, at_statement}
-use Rattle.path_model.specs.Effects.{leaf_set, written, object_ended, deleted, going, branched, block_at, is_number_zero, result_given, left_by, returned, value_out, part_out, view_part, part_at, view_out, class_of_view, type_of, class_out, type_out, object_out, dump_out, telling}
-use Rattle.path_model.specs.TypedStates.{IsPartMade, IsValue, IsHeld, width_of_leaf, FitsResult, FitsObject, IsCalledFrom, IsOpened}
+use Rattle.path_model.specs.States.{Target, RunningBody, Frame, InBody, ProgramState, owned_body, with_objects, with_frames, at_statement}
+use Rattle.path_model.specs.Effects.{leaf_set, written, object_ended, deleted, going_on_at, branched, block_at, is_number_zero, result_given, left_by, returned, value_out, part_out, view_part, part_in_same_object, view_out, class_of_view, typeid_class, class_out, type_out, object_out, dump_out, telling}
+use Rattle.path_model.specs.TypedStates.{IsPartMade, IsValue, IsInBitField, width_of_leaf, FitsResult, FitsMadeObject, IsCalledFrom, IsOpened}
 use Rattle.path_model.proofs.TypedValues.{converted_value}
 use Rattle.path_model.proofs.TypedPlaces.{leaf_made, width_at, one_type}
 use Rattle.path_model.proofs.TypedViews.{AreRunningParts, view_valid}
@@ -33,7 +33,7 @@ use Rattle.path_model.proofs.TypedEvents.{leaf_set_keeps}
 use Rattle.path_model.proofs.TypedUses.{NamesPart, HasView}
 
 -- a leaf takes a value
-pub written_sound : (h : Classes) (program : TypedProgram) (s : State) (e : Scope) (place : TypedPlace) (t : ValueType ClassId) → IsPlace h e place (ValueField t) → (w v : Value) → IsValue h s.objects.classes w t → IsHeld (place_width h place) w t
+pub written_sound : (h : Classes) (program : TypedProgram) (s : ProgramState) (e : Scope) (place : TypedPlace) (t : ValueType ClassId) → IsPlace h e place (ValueField t) → (w v : Value) → IsValue h s.objects.classes w t → IsInBitField (place_width h place) w t
     → NamesPart h s.objects v place.class → IsSound h program s → IsSoundNext h program (written s place w v)
 written_sound h program s e place t is w v fits held a b =
     let cs = s.objects.classes in
@@ -43,8 +43,8 @@ written_sound h program s e place t is w v fits held a b =
       typed = record {
         globals = b.typed.globals;
         leaves = leaf_set_keeps h cs (λ l x u. IsValue h cs x u) s.objects.leaf (leaf_at p place) w (λ u other. subst (λ (z : ValueType ClassId). IsValue h cs w z) (one_type h cs cs (leaf_at p place) t u made other) fits) b.typed.leaves;
-        held = leaf_set_keeps h cs (λ l x u. IsHeld (width_of_leaf h l) x u) s.objects.leaf (leaf_at p place) w
-            (λ u other. subst (λ (z : ValueType ClassId). IsHeld (width_of_leaf h (leaf_at p place)) w z) (one_type h cs cs (leaf_at p place) t u made other) (subst (λ o. IsHeld o w t) (width_at h cs e place t p a.made is) held)) b.typed.held;
+        held = leaf_set_keeps h cs (λ l x u. IsInBitField (width_of_leaf h l) x u) s.objects.leaf (leaf_at p place) w
+            (λ u other. subst (λ (z : ValueType ClassId). IsInBitField (width_of_leaf h (leaf_at p place)) w z) (one_type h cs cs (leaf_at p place) t u made other) (subst (λ o. IsInBitField o w t) (width_at h cs e place t p a.made is) held)) b.typed.held;
         frames = b.typed.frames;
         running = b.typed.running;
       };
@@ -53,20 +53,20 @@ written_sound h program s e place t is w v fits held a b =
     subst (λ (x : Value). IsSoundNext h program (written s place w x)) (sym a.is) r
 
 -- an object ends
-ended_sound : (h : Classes) (program : TypedProgram) (s : State) (body : TypedBody) → IsOnTop program body s.frames → (k : ℕ) (c : ClassId) (o : Option ClassId) → slice_get s.objects.classes k ≡ o → o ≡ Some c → IsSound h program s → IsSoundNext h program (object_ended h program s k o)
+ended_sound : (h : Classes) (program : TypedProgram) (s : ProgramState) (body : TypedBody) → IsOnTop program body s.frames → (k : ℕ) (c : ClassId) (o : Option ClassId) → slice_get s.objects.classes k ≡ o → o ≡ Some c → IsSound h program s → IsSoundNext h program (object_ended h program s k o)
 ended_sound h program s body top k c None e is b = let f : None ≡ Some c = is in absurd (cc)
 ended_sound h program s body top k c (Some d) e is b = record {
   typed = record {
     globals = b.typed.globals;
     leaves = b.typed.leaves;
     held = b.typed.held;
-    frames = (on_top_called program (FitsObject h program.globals s.objects.classes k None) body s.frames top (record { class = d; made = e; fits = tt }), b.typed.frames);
+    frames = (on_top_called program (FitsMadeObject h program.globals s.objects.classes k None) body s.frames top (record { class = d; made = e; fits = tt }), b.typed.frames);
     running = λ g. cc;
   };
   runs = b.runs;
 }
 
-pub deleted_sound : (h : Classes) (program : TypedProgram) (s : State) (body : TypedBody) → IsOnTop program body s.frames → (v : Value) (c : ClassId) → IsValue h s.objects.classes v (PointerType c) → (v ≡ Unset → ⊥) → IsSound h program s → IsSoundNext h program (deleted h program s v)
+pub deleted_sound : (h : Classes) (program : TypedProgram) (s : ProgramState) (body : TypedBody) → IsOnTop program body s.frames → (v : Value) (c : ClassId) → IsValue h s.objects.classes v (PointerType c) → (v ≡ Unset → ⊥) → IsSound h program s → IsSoundNext h program (deleted h program s v)
 deleted_sound h program s body top Unset c a set b = set refl
 deleted_sound h program s body top (Number z) c a set b = a
 deleted_sound h program s body top Null c a set b = b
@@ -74,7 +74,7 @@ deleted_sound h program s body top (Pointer p) c a set b = ended_sound h program
 
 -- control goes on
 
-pub at_sound : (h : Classes) (program : TypedProgram) (s : State) (f : Running) (below : List Frame) (body : TypedBody) (m : ℕ) → body_of program f.owner ≡ Some body → m ≤ length body.statements
+pub at_sound : (h : Classes) (program : TypedProgram) (s : ProgramState) (f : RunningBody) (below : List Frame) (body : TypedBody) (m : ℕ) → owned_body program f.owner ≡ Some body → m ≤ length body.statements
     → IsSound h program (with_frames s (InBody f ∷ below)) → IsSound h program (with_frames s (InBody (at_statement f m) ∷ below))
 at_sound h program s f below body m there le b =
     let top = b.typed.frames.0 in
@@ -90,13 +90,13 @@ at_sound h program s f below body m there le b =
       runs = b.runs;
     }
 
-pub branched_sound : (h : Classes) (program : TypedProgram) (x : Objects) (globals : List Value) (f : Running) (below : List Frame) (body : TypedBody) → body_of program f.owner ≡ Some body
+pub branched_sound : (h : Classes) (program : TypedProgram) (x : Objects) (globals : List Value) (f : RunningBody) (below : List Frame) (body : TypedBody) → owned_body program f.owner ≡ Some body
     → (v : Value) (t : Scalar) → IsValue h x.classes v (NumberType t) → (v ≡ Unset → ⊥) → (yes_at no_at : ℕ) → yes_at ≤ length body.statements → no_at ≤ length body.statements
     → IsSound h program (record { objects = x; globals = globals; frames = InBody f ∷ below }) → IsSoundNext h program (branched (record { objects = x; globals = globals; frames = InBody f ∷ below }) v yes_at no_at)
 branched_sound h program x globals f below body there Unset t a set yes_at no_at le le' b = set refl
 branched_sound h program x globals f below body there (Number z) t a set yes_at no_at le le' b =
-    let s : State = record { objects = x; globals = globals; frames = InBody f ∷ below } in
-    split (is_number_zero z) (λ q. IsSound h program (going s (if q then no_at else yes_at))) (λ _. at_sound h program s f below body no_at there le' b) (λ _. at_sound h program s f below body yes_at there le b)
+    let s : ProgramState = record { objects = x; globals = globals; frames = InBody f ∷ below } in
+    split (is_number_zero z) (λ q. IsSound h program (going_on_at s (if q then no_at else yes_at))) (λ _. at_sound h program s f below body no_at there le' b) (λ _. at_sound h program s f below body yes_at there le b)
 branched_sound h program x globals f below body there Null t a set yes_at no_at le le' b = a
 branched_sound h program x globals f below body there (Pointer p) t a set yes_at no_at le le' b = a
 
@@ -111,15 +111,15 @@ ReturnsValue h cs r None = Unit {0}
 ReturnsValue h cs Void (Some v) = ⊥
 ReturnsValue h cs (ValueReturn t) (Some v) = IsValue h cs v t
 
-result_sound : (h : Classes) (program : TypedProgram) (s : State) (body : TypedBody) → IsOnTop program body s.frames → (o : Owner) (found : Conversion) (target : Option Target) → FitsResult h program.globals o found target body
+result_sound : (h : Classes) (program : TypedProgram) (s : ProgramState) (body : TypedBody) → IsOnTop program body s.frames → (o : Owner) (found : Conversion) (target : Option Target) → FitsResult h program.globals o found target body
     → (v : Option Value) (r : ReturnType ClassId) → returns_of h o ≡ Some r → ReturnsValue h s.objects.classes r v → IsSound h program s → IsSound h program (result_given s found target v)
 result_sound h program s body top o found target fits None r is a b = b
 result_sound h program s body top o found target fits (Some v) Void is a b = absurd a
 result_sound h program s body top o found target fits (Some v) (ValueReturn t) is a b =
     let k = fits.result t is in
-    given_sound h program s body top k.0 target k.2 (converted v found) (converted_value h s.objects.classes t k.0 found k.1 v a) b
+    given_sound h program s body top k.0 target k.2 (converted_to v found) (converted_value h s.objects.classes t k.0 found k.1 v a) b
 
-pub returned_sound : (h : Classes) (program : TypedProgram) (s : State) (f : Running) (below : List Frame) (v : Option Value) (r : ReturnType ClassId) → returns_of h f.owner ≡ Some r → ReturnsValue h s.objects.classes r v
+pub returned_sound : (h : Classes) (program : TypedProgram) (s : ProgramState) (f : RunningBody) (below : List Frame) (v : Option Value) (r : ReturnType ClassId) → returns_of h f.owner ≡ Some r → ReturnsValue h s.objects.classes r v
     → IsSound h program (with_frames s (InBody f ∷ below)) → IsSoundNext h program (returned s f below v)
 returned_sound h program s f below v r is a b = by_owner f.owner refl
   where
@@ -135,7 +135,7 @@ returned_sound h program s f below v r is a b = by_owner f.owner refl
 
 -- what is told
 
-pub told_sound : (h : Classes) (program : TypedProgram) (s : State) (o : Option Out) → (o ≡ None → ⊥) → IsSound h program s → IsSoundNext h program (telling s o)
+pub told_sound : (h : Classes) (program : TypedProgram) (s : ProgramState) (o : Option Out) → (o ≡ None → ⊥) → IsSound h program s → IsSoundNext h program (telling s o)
 told_sound h program s None some b = some refl
 told_sound h program s (Some out) some b = b
 
@@ -146,7 +146,7 @@ value_told x Null set e = cc
 value_told x (Pointer p) set e = cc
 
 pub part_told : (h : Classes) (x : Objects) (p : ObjectPart) → HasView h x p → part_out x (view_part h x p) ≡ None → ⊥
-part_told h x p a e = let f : part_out x (part_at p (Some a.view)) ≡ None = ap (λ o. part_out x (part_at p o)) (sym a.is) ∙ e in cc
+part_told h x p a e = let f : part_out x (part_in_same_object p (Some a.view)) ≡ None = ap (λ o. part_out x (part_in_same_object p o)) (sym a.is) ∙ e in cc
 
 pub view_told : (h : Classes) (x : Objects) (v : Value) (c : ClassId) → IsValue h x.classes v (PointerType c) → (v ≡ Unset → ⊥) → ((p : ObjectPart) → v ≡ Pointer p → HasView h x p) → view_out h x v ≡ None → ⊥
 view_told h x Unset c a set view e = set refl
@@ -154,7 +154,7 @@ view_told h x (Number z) c a set view e = a
 view_told h x Null c a set view e = cc
 view_told h x (Pointer p) c a set view e = part_told h x p (view p refl) e
 
-class_told : (h : Classes) (x : Objects) (runs : AreRunningParts h x) (p : ObjectPart) (c : ClassId) → IsPartMade h x.classes p c → HasView h x p → class_out (type_of h x p) ≡ None → ⊥
+class_told : (h : Classes) (x : Objects) (runs : AreRunningParts h x) (p : ObjectPart) (c : ClassId) → IsPartMade h x.classes p c → HasView h x p → class_out (typeid_class h x p) ≡ None → ⊥
 class_told h x runs p c a v e =
     let there = class_there h a.inside.0 v.view (view_valid h x runs p c a v.view v.is) in
     let f : class_out (Some there.0) ≡ None = ap class_out (sym (ap class_of_view v.is ∙ there.1)) ∙ e in cc

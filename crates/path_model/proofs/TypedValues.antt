@@ -17,7 +17,7 @@ use Rattle.cxx_program.specs.declared.operand.TypedOperand.{TypedOperand}
 use Rattle.cxx_program.specs.declared.operand.Conversion.{Conversion}
 use Rattle.cxx_program.specs.declared.operand.Argument.{Argument}
 use Rattle.cxx_program.specs.Typed.{Types, Scope, variable_type, HasType, of_variable, of_this, of_number, Converts, to_number, to_same, to_base, IsArgument, a_value, a_null}
-use Rattle.path_model.specs.Values.{Value, Unset, Number, Null, Pointer, Leaf, Sight, or_unset, variable_value, value, converted, argument_value, inner_part}
+use Rattle.path_model.specs.Values.{Value, Unset, Number, Null, Pointer, Leaf, Sight, or_unset, variable_value, value_of_operand, converted_to, argument_value, inner_part}
 use Rattle.path_model.specs.TypedStates.{IsPartMade, IsValue, AreValues, IsLeafMade, IsThis}
 use Rattle.path_model.proofs.TypedRanges.{stored_in_range}
 
@@ -84,7 +84,7 @@ inner_made h cs p c d i a valid class = record {
 
 -- conversions
 
-pub converted_value : (h : Classes) (cs : List ClassId) (s t : ValueType ClassId) (c : Conversion) → Converts h s c t → (v : Value) → IsValue h cs v s → IsValue h cs (converted v c) t
+pub converted_value : (h : Classes) (cs : List ClassId) (s t : ValueType ClassId) (c : Conversion) → Converts h s c t → (v : Value) → IsValue h cs v s → IsValue h cs (converted_to v c) t
 converted_value h cs _ _ _ (to_number s t) Unset a = tt
 converted_value h cs _ _ _ (to_number s t) (Number z) a = stored_in_range t z
 converted_value h cs _ _ _ (to_number s t) Null a = absurd a
@@ -105,13 +105,13 @@ pub variable_typed : (h : Classes) (e : Scope) (s : Sight) → IsTypedSight h e 
 variable_typed h e s a (Global n) t is = values_at h s.objects.classes s.globals e.globals n t a.globals is
 variable_typed h e s a (Local n) t is = values_at h s.objects.classes s.locals e.locals n t a.locals is
 
-pub operand_typed : (h : Classes) (e : Scope) (s : Sight) → IsTypedSight h e s → (x : TypedOperand) (t : ValueType ClassId) → HasType e x t → IsValue h s.objects.classes (value s x) t
+pub operand_typed : (h : Classes) (e : Scope) (s : Sight) → IsTypedSight h e s → (x : TypedOperand) (t : ValueType ClassId) → HasType e x t → IsValue h s.objects.classes (value_of_operand s x) t
 operand_typed h e s a _ _ (of_variable x t is) = variable_typed h e s a x t is
 operand_typed h e s a _ _ (of_this c is) = this_value h s.objects.classes e.this c s.this is a.this
 operand_typed h e s a _ _ (of_number z t is) = is
 
 pub argument_typed : (h : Classes) (e : Scope) (s : Sight) → IsTypedSight h e s → (x : Argument) (t : ValueType ClassId) → IsArgument h e x t → IsValue h s.objects.classes (argument_value s x) t
-argument_typed h e s a _ _ (a_value x u t has fits) = converted_value h s.objects.classes u t x.conversion fits (value s x.operand) (operand_typed h e s a x.operand u has)
+argument_typed h e s a _ _ (a_value x u t has fits) = converted_value h s.objects.classes u t x.conversion fits (value_of_operand s x.operand) (operand_typed h e s a x.operand u has)
 argument_typed h e s a _ _ (a_null d) = tt
 
 pub arguments_typed : (h : Classes) (e : Scope) (s : Sight) → IsTypedSight h e s → (xs : List Argument) (ts : Types) → AllZip (IsArgument h e) xs ts → AreValues h s.objects.classes (map (argument_value s) xs) ts

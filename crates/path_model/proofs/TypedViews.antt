@@ -17,7 +17,7 @@ use Rattle.cxx_search.specs.Searches.{is_of_class, cast_in, preorder_of}
 use Rattle.cxx_search.specs.Casts.{IsCast, leads_down, leads_across, leads_nowhere, IsTarget}
 use Rattle.cxx_search.proofs.Casts.{cast_is, of_class}
 use Rattle.path_plan.specs.Places.{part}
-use Rattle.path_plan.specs.Phases.{first_of, is_complete}
+use Rattle.path_plan.specs.Phases.{top_subobject, is_complete}
 use Rattle.path_model.specs.Values.{Objects}
 use Rattle.path_model.specs.Places.{owner_class, class_within, member_class, object_in}
 use Rattle.path_model.specs.Uses.{class_of_owner, view_of, view_in, derived_of}
@@ -36,11 +36,11 @@ owner_is h classes k c d (step ∷ rest) made (e, b, up, valid, class, el) =
 pub owner_made : (h : Classes) (s : Objects) (p : ObjectPart) (c : ClassId) → (a : IsPartMade h s.classes p c) → class_of_owner h s p ≡ Some a.inside.0
 owner_made h s p c a = owner_is h s.classes p.object a.class a.inside.0 p.owner a.made a.inside.1
 
-first_has : (xs : List Subobject) (x : Subobject) → first_of xs ≡ Some x → Has xs x
+first_has : (xs : List Subobject) (x : Subobject) → top_subobject xs ≡ Some x → Has xs x
 first_has [] x e = absurd (let f : None ≡ Some x = e in cc)
 first_has (y ∷ xs) x e = inl (let f : Some y ≡ Some x = e in cc)
 
-running_valid : (h : Classes) (s : Objects) → AreRunningParts h s → (p : ObjectPart) (c : ClassId) → (a : IsPartMade h s.classes p c) → (x : Subobject) → first_of (s.phases.running p.object p.owner) ≡ Some x → IsSubobject h a.inside.0 x
+running_valid : (h : Classes) (s : Objects) → AreRunningParts h s → (p : ObjectPart) (c : ClassId) → (a : IsPartMade h s.classes p c) → (x : Subobject) → top_subobject (s.phases.running p.object p.owner) ≡ Some x → IsSubobject h a.inside.0 x
 running_valid h s runs p c a x e =
     let r = runs p.object a.class p.owner x a.made (first_has (s.phases.running p.object p.owner) x e) in
     let same : r.0 ≡ a.inside.0 = let f : Some r.0 ≡ Some a.inside.0 = sym (owner_is h s.classes p.object a.class r.0 p.owner a.made r.1) ∙ owner_made h s p c a in cc in
@@ -50,7 +50,7 @@ pub view_valid : (h : Classes) (s : Objects) → AreRunningParts h s → (p : Ob
 view_valid h s runs p c a x e =
     let d = a.inside.0 in
     let seen : view_in s.phases p.object p.owner (Some d) ≡ Some x = ap (view_in s.phases p.object p.owner) (sym (owner_made h s p c a)) ∙ e in
-    split (is_complete (s.phases.phase (part p.object p.owner (whole_of d)))) (λ b. (if b then Some (whole_of d) else first_of (s.phases.running p.object p.owner)) ≡ Some x → IsSubobject h d x)
+    split (is_complete (s.phases.phase (part p.object p.owner (whole_of d)))) (λ b. (if b then Some (whole_of d) else top_subobject (s.phases.running p.object p.owner)) ≡ Some x → IsSubobject h d x)
     (λ _ f. let same : whole_of d ≡ x = cc in subst (λ (y : Subobject). IsSubobject h d y) same (whole [] tt))
     (λ _ f. running_valid h s runs p c a x f) seen
 

@@ -39,17 +39,17 @@ use Rattle.path_plan.specs.Whole.{whole_part, construction, destruction}
 use Rattle.path_plan.specs.Runs.{renewed}
 use Rattle.path_model.specs.declared.outs.Out.{Out}
 use Rattle.path_model.specs.declared.outs.Out.TheVariants.{Number as NumberOut, Pointer as PointerOut, TypeName as TypeNameOut, Dump as DumpOut, Call as CallOut}
-use Rattle.path_model.specs.Values.{Value, Unset, Number, Null, Pointer, Leaf, Objects, Sight, value, converted, argument_value}
+use Rattle.path_model.specs.Values.{Value, Unset, Number, Null, Pointer, Leaf, Objects, Sight, value_of_operand, converted_to, argument_value}
 use Rattle.cxx_search.specs.Searches.{is_of_class, final_in}
 use Rattle.path_model.specs.Places.{leaf_at, leaf_value, address_value, leaves_of}
-use Rattle.path_model.specs.Uses.{view_of, cast_value, receiver}
-use Rattle.path_model.specs.States.{Target, Running, Frame, InBody, InPlan, State, body_of, bodies_of, with_objects, with_frames, at_statement, assigned, entered, sight}
+use Rattle.path_model.specs.Uses.{view_of, cast_value, receiver_value}
+use Rattle.path_model.specs.States.{Target, RunningBody, Frame, InBody, InPlan, ProgramState, owned_body, plan_bodies, with_objects, with_frames, at_statement, assigned, entered_body, sight}
 use Rattle.path_model.specs.Outs.{location_of, dump_leaf}
 
 -- where a step leads: to a state, with what it tells; to a rule that refuses it, with the line; or to the end of the run. What
 -- no program within the rules meets is wrong
 pub data Next : Type 0 where
-  Goes : State → List Out → Next
+  Goes : ProgramState → List Out → Next
   Refuses : Undefined → (line : ℕ) → Next
   Ends : Next
   Wrong : Next
@@ -57,22 +57,22 @@ pub data Next : Type 0 where
 -- values
 
 -- a truth value as a number: 1 or 0 (ISO C++03 4.5 p4)
-abbrev pub truth : Bool → Value
-truth b = Number (if b then pos 1 else pos 0)
+abbrev pub truth_as_number : Bool → Value
+truth_as_number b = Number (if b then pos 1 else pos 0)
 
 -- two numbers of one type; a result outside a signed type is refused, one outside an unsigned type wraps (ISO C++03 5.7, 3.9.1)
-abbrev pub calculated : Operator → Scalar → ℤ → ℤ → Value
-calculated Add t a b = Number (wrapped t (a +ℤ b))
-calculated Subtract t a b = Number (wrapped t (a -ℤ b))
-calculated Multiply t a b = Number (wrapped t (a *ℤ b))
-calculated Less t a b = truth (int_lt a b)
-calculated LessEqual t a b = truth (not (int_lt b a))
-calculated Equal t a b = truth (not (int_lt a b) && not (int_lt b a))
-calculated NotEqual t a b = truth (not (not (int_lt a b) && not (int_lt b a)))
+abbrev pub calculated_value : Operator → Scalar → ℤ → ℤ → Value
+calculated_value Add t a b = Number (wrapped t (a +ℤ b))
+calculated_value Subtract t a b = Number (wrapped t (a -ℤ b))
+calculated_value Multiply t a b = Number (wrapped t (a *ℤ b))
+calculated_value Less t a b = truth_as_number (int_lt a b)
+calculated_value LessEqual t a b = truth_as_number (not (int_lt b a))
+calculated_value Equal t a b = truth_as_number (not (int_lt a b) && not (int_lt b a))
+calculated_value NotEqual t a b = truth_as_number (not (not (int_lt a b) && not (int_lt b a)))
 
 -- of two numbers, read in the common type; of anything else nothing
 abbrev pub arithmetic_value : Operator → Scalar → Value → Value → Value
-arithmetic_value op t (Number a) (Number b) = calculated op t (wrapped t a) (wrapped t b)
+arithmetic_value op t (Number a) (Number b) = calculated_value op t (wrapped t a) (wrapped t b)
 arithmetic_value op t a b = Unset
 
 -- pointers are equal where both are null or name one subobject (ISO C++03 5.10)
@@ -88,18 +88,18 @@ is_number_zero z = not (int_lt z (pos 0)) && not (int_lt (pos 0) z)
 -- `!x` (ISO C++03 5.3.1 p8)
 abbrev pub negated : Value → Value
 negated Unset = Unset
-negated (Number z) = truth (is_number_zero z)
+negated (Number z) = truth_as_number (is_number_zero z)
 negated Null = Unset
 negated (Pointer p) = Unset
 
 -- this subobject of the complete object that the part belongs to
-abbrev pub part_at : ObjectPart → Option Subobject → Option ObjectPart
-part_at p None = None
-part_at p (Some x) = Some (part p.object p.owner x)
+abbrev pub part_in_same_object : ObjectPart → Option Subobject → Option ObjectPart
+part_in_same_object p None = None
+part_in_same_object p (Some x) = Some (part p.object p.owner x)
 
 -- the subobject that the view of a part's complete object is, as a part
 abbrev pub view_part : Classes → Objects → ObjectPart → Option ObjectPart
-view_part h s p = part_at p (view_of h s p)
+view_part h s p = part_in_same_object p (view_of h s p)
 
 -- the class of the view, if there is one
 abbrev pub class_of_view : Option Subobject → Option ClassId
@@ -107,33 +107,33 @@ class_of_view None = None
 class_of_view (Some x) = class_of x
 
 -- the class that `typeid(*p)` names: that of the view (ISO C++03 5.2.8 p2, 12.7 p4)
-abbrev pub type_of : Classes → Objects → ObjectPart → Option ClassId
-type_of h s p = class_of_view (view_of h s p)
+abbrev pub typeid_class : Classes → Objects → ObjectPart → Option ClassId
+typeid_class h s p = class_of_view (view_of h s p)
 
 -- whether the two classes are one
 abbrev pub is_type : ClassId → Option ClassId → Value
 is_type d None = Unset
-is_type d (Some c) = truth (nat_eq d.0 c.0)
+is_type d (Some c) = truth_as_number (nat_eq d.0 c.0)
 
 -- `typeid(*p) == typeid(D)` (ISO C++03 5.2.8)
 abbrev pub type_equal : Classes → Objects → ClassId → Value → Value
 type_equal h s d Unset = Unset
 type_equal h s d (Number z) = Unset
 type_equal h s d Null = Unset
-type_equal h s d (Pointer p) = is_type d (type_of h s p)
+type_equal h s d (Pointer p) = is_type d (typeid_class h s p)
 
 -- the value of a right side that is no call and no `new`
-abbrev pub right_value : Classes → Sight → TypedRight → Value
-right_value h s (Operand x) = value s x
-right_value h s (Arithmetic op t x y) = arithmetic_value op t (value s x) (value s y)
-right_value h s (SamePointer differ a b) = truth (if differ then not (is_same_pointer (argument_value s a) (argument_value s b)) else is_same_pointer (argument_value s a) (argument_value s b))
-right_value h s (Not x) = negated (value s x)
-right_value h s (Read place) = leaf_value s place (value s place.pointer)
-right_value h s (Address place d) = address_value place d (value s place.pointer)
-right_value h s (CallRight call) = Unset
-right_value h s (New c) = Unset
-right_value h s (Cast cast x) = cast_value h s.objects cast (value s x)
-right_value h s (TypeEqual x d) = type_equal h s.objects d (value s x)
+abbrev pub right_side_value : Classes → Sight → TypedRight → Value
+right_side_value h s (Operand x) = value_of_operand s x
+right_side_value h s (Arithmetic op t x y) = arithmetic_value op t (value_of_operand s x) (value_of_operand s y)
+right_side_value h s (SamePointer differ a b) = truth_as_number (if differ then not (is_same_pointer (argument_value s a) (argument_value s b)) else is_same_pointer (argument_value s a) (argument_value s b))
+right_side_value h s (Not x) = negated (value_of_operand s x)
+right_side_value h s (Read place) = leaf_value s place (value_of_operand s place.pointer)
+right_side_value h s (Address place d) = address_value place d (value_of_operand s place.pointer)
+right_side_value h s (CallRight call) = Unset
+right_side_value h s (New c) = Unset
+right_side_value h s (Cast cast x) = cast_value h s.objects cast (value_of_operand s x)
+right_side_value h s (TypeEqual x d) = type_equal h s.objects d (value_of_operand s x)
 
 -- leaves
 
@@ -166,8 +166,8 @@ copied h c to from s = record {
 -- objects
 
 -- one more heap object, of which nothing was begun
-abbrev pub made : Objects → ClassId → Objects
-made s c = record {
+abbrev pub with_new_object : Objects → ClassId → Objects
+with_new_object s c = record {
   classes = s.classes ++ c ∷ [];
   is_closed = λ k. if nat_eq k (length s.classes) then false else s.is_closed k;
   phases = renewed (length s.classes) s.phases;
@@ -176,11 +176,11 @@ made s c = record {
 
 -- the plan frame of a `new`
 abbrev pub building : Classes → TypedProgram → ℕ → ClassId → Option Target → Frame
-building h program k c target = InPlan (record { object = k; is_building = true; events = construction h (bodies_of program) k c; target = target })
+building h program k c target = InPlan (record { object = k; is_building = true; events = construction h (plan_bodies program) k c; target = target })
 
 -- the plan frame of a `delete`
 abbrev pub ending : Classes → TypedProgram → ℕ → ClassId → Frame
-ending h program k c = InPlan (record { object = k; is_building = false; events = destruction h (bodies_of program) k c; target = None })
+ending h program k c = InPlan (record { object = k; is_building = false; events = destruction h (plan_bodies program) k c; target = None })
 
 -- calls
 
@@ -190,12 +190,12 @@ base_conversion None = ToSame
 base_conversion (Some i) = ToBase i
 
 -- from a class to itself or to its one base of class d
-abbrev pub class_conversion : Classes → ClassId → ClassId → Conversion
-class_conversion h c d = if nat_eq c.0 d.0 then ToSame else base_conversion (find (is_of_class d) (preorder h c))
+abbrev pub conversion_to_class : Classes → ClassId → ClassId → Conversion
+conversion_to_class h c d = if nat_eq c.0 d.0 then ToSame else base_conversion (find (is_of_class d) (preorder h c))
 
 -- from a function's own result to that of the declaration that was found: only pointers may differ (ISO C++03 10.3 p5)
 abbrev pub result_conversion : Classes → Option (ReturnType ClassId) → Option (ReturnType ClassId) → Conversion
-result_conversion h (Some (ValueReturn (PointerType c))) (Some (ValueReturn (PointerType d))) = class_conversion h c d
+result_conversion h (Some (ValueReturn (PointerType c))) (Some (ValueReturn (PointerType d))) = conversion_to_class h c d
 result_conversion h own found = ToSame
 
 -- the function that runs, and the part that is its `this`
@@ -213,35 +213,35 @@ overrider_by h None y f = None
 overrider_by h (Some x) y f = final_in h x y f
 
 -- the final overrider by the view (ISO C++03 10.3 p2, 12.7 p3)
-abbrev pub dispatched : Classes → Objects → ObjectPart → FunctionId → Option (ObjectPart × FunctionId)
-dispatched h s p f = runs_at p (overrider_by h (view_of h s p) p.at f)
+abbrev pub overrider_in_view : Classes → Objects → ObjectPart → FunctionId → Option (ObjectPart × FunctionId)
+overrider_in_view h s p f = runs_at p (overrider_by h (view_of h s p) p.at f)
 
 -- what a call runs: the final overrider, or without dispatch the function that was found (ISO C++03 5.2.2, 10.3 p12)
 abbrev pub runs : Classes → Objects → TypedCall → ObjectPart → Option (ObjectPart × FunctionId)
-runs h s call p = if call.is_dispatched then dispatched h s p call.function else Some (p, call.function)
+runs h s call p = if call.is_dispatched then overrider_in_view h s p call.function else Some (p, call.function)
 
 -- the body of the function on top of the frames, and the call told
-abbrev pub body_entered : Classes → State → List Value → TypedCall → Option Target → ObjectPart × FunctionId → Option TypedBody → Next
+abbrev pub body_entered : Classes → ProgramState → List Value → TypedCall → Option Target → ObjectPart × FunctionId → Option TypedBody → Next
 body_entered h s values call target run None = Wrong
 body_entered h s values call target run (Some body) = Goes
-    (with_frames s (InBody (entered body (Pointer run.0) values (result_conversion h (return_of h run.1) (return_of h call.function)) target) ∷ s.frames))
+    (with_frames s (InBody (entered_body body (Pointer run.0) values (result_conversion h (return_of h run.1) (return_of h call.function)) target) ∷ s.frames))
     (CallOut run.1 (location_of s.objects run.0) ∷ [])
 
 -- the function's body; a pure function has none, and a call of it is refused
-abbrev pub function_entered : Classes → TypedProgram → State → List Value → TypedCall → Option Target → Option (ObjectPart × FunctionId) → Next
+abbrev pub function_entered : Classes → TypedProgram → ProgramState → List Value → TypedCall → Option Target → Option (ObjectPart × FunctionId) → Next
 function_entered h program s values call target None = Wrong
-function_entered h program s values call target (Some run) = body_entered h s values call target run (body_of program (Function run.1))
+function_entered h program s values call target (Some run) = body_entered h s values call target run (owned_body program (Function run.1))
 
 -- a call through a pointer to the subobject in which the function was found
-abbrev pub called_at : Classes → TypedProgram → State → List Value → TypedCall → Option Target → Value → Next
+abbrev pub called_at : Classes → TypedProgram → ProgramState → List Value → TypedCall → Option Target → Value → Next
 called_at h program s values call target Unset = Wrong
 called_at h program s values call target (Number z) = Wrong
 called_at h program s values call target Null = Wrong
 called_at h program s values call target (Pointer p) = function_entered h program s values call target (runs h s.objects call p)
 
 -- a call opens the body of the function; s stands behind the statement, and see is what the statement sees
-abbrev pub called : Classes → TypedProgram → Sight → State → TypedCall → Option Target → Next
-called h program see s call target = called_at h program s (map (argument_value see) call.arguments) call target (receiver see call)
+abbrev pub called : Classes → TypedProgram → Sight → ProgramState → TypedCall → Option Target → Next
+called h program see s call target = called_at h program s (map (argument_value see) call.arguments) call target (receiver_value see call)
 
 -- statements
 
@@ -250,46 +250,46 @@ abbrev pub taker : Variable → Conversion → Option Target
 taker variable conversion = Some (record { variable = variable; conversion = conversion })
 
 -- `new` makes the object and begins its plan (ISO C++03 5.3.4)
-abbrev pub new_made : Classes → TypedProgram → State → ClassId → Option Target → Next
-new_made h program s c target = Goes (with_frames (with_objects s (made s.objects c)) (building h program (length s.objects.classes) c target ∷ s.frames)) []
+abbrev pub new_made : Classes → TypedProgram → ProgramState → ClassId → Option Target → Next
+new_made h program s c target = Goes (with_frames (with_objects s (with_new_object s.objects c)) (building h program (length s.objects.classes) c target ∷ s.frames)) []
 
 -- a variable takes a right side
-abbrev pub taken : Classes → TypedProgram → Sight → State → Variable → TypedRight → Conversion → Next
-taken h program see s variable (Operand x) c = Goes (assigned s variable (converted (right_value h see (Operand x)) c)) []
-taken h program see s variable (Arithmetic op t x y) c = Goes (assigned s variable (converted (right_value h see (Arithmetic op t x y)) c)) []
-taken h program see s variable (SamePointer differ a b) c = Goes (assigned s variable (converted (right_value h see (SamePointer differ a b)) c)) []
-taken h program see s variable (Not x) c = Goes (assigned s variable (converted (right_value h see (Not x)) c)) []
-taken h program see s variable (Read place) c = Goes (assigned s variable (converted (right_value h see (Read place)) c)) []
-taken h program see s variable (Address place d) c = Goes (assigned s variable (converted (right_value h see (Address place d)) c)) []
+abbrev pub taken : Classes → TypedProgram → Sight → ProgramState → Variable → TypedRight → Conversion → Next
+taken h program see s variable (Operand x) c = Goes (assigned s variable (converted_to (right_side_value h see (Operand x)) c)) []
+taken h program see s variable (Arithmetic op t x y) c = Goes (assigned s variable (converted_to (right_side_value h see (Arithmetic op t x y)) c)) []
+taken h program see s variable (SamePointer differ a b) c = Goes (assigned s variable (converted_to (right_side_value h see (SamePointer differ a b)) c)) []
+taken h program see s variable (Not x) c = Goes (assigned s variable (converted_to (right_side_value h see (Not x)) c)) []
+taken h program see s variable (Read place) c = Goes (assigned s variable (converted_to (right_side_value h see (Read place)) c)) []
+taken h program see s variable (Address place d) c = Goes (assigned s variable (converted_to (right_side_value h see (Address place d)) c)) []
 taken h program see s variable (CallRight call) c = called h program see s call (taker variable c)
 taken h program see s variable (New d) c = new_made h program s d (taker variable c)
-taken h program see s variable (Cast cast x) c = Goes (assigned s variable (converted (right_value h see (Cast cast x)) c)) []
-taken h program see s variable (TypeEqual x d) c = Goes (assigned s variable (converted (right_value h see (TypeEqual x d)) c)) []
+taken h program see s variable (Cast cast x) c = Goes (assigned s variable (converted_to (right_side_value h see (Cast cast x)) c)) []
+taken h program see s variable (TypeEqual x d) c = Goes (assigned s variable (converted_to (right_side_value h see (TypeEqual x d)) c)) []
 
 -- a local with or without a right side (ISO C++03 6.7)
-abbrev pub declared : Classes → TypedProgram → Sight → State → ℕ → Option Converted → Next
-declared h program see s n None = Goes s []
-declared h program see s n (Some x) = taken h program see s (Local n) x.right x.conversion
+abbrev pub local_declared : Classes → TypedProgram → Sight → ProgramState → ℕ → Option Converted → Next
+local_declared h program see s n None = Goes s []
+local_declared h program see s n (Some x) = taken h program see s (Local n) x.right x.conversion
 
 -- a leaf takes a value (ISO C++03 5.17)
-abbrev pub written : State → TypedPlace → Value → Value → Next
+abbrev pub written : ProgramState → TypedPlace → Value → Value → Next
 written s place v Unset = Wrong
 written s place v (Number z) = Wrong
 written s place v Null = Wrong
 written s place v (Pointer p) = Goes (with_objects s (leaf_set s.objects (leaf_at p place) v)) []
 
 -- `*to = *from` of two parts of class c (ISO C++03 12.8)
-abbrev pub copied_at : Classes → State → ClassId → Value → Value → Next
+abbrev pub copied_at : Classes → ProgramState → ClassId → Value → Value → Next
 copied_at h s c (Pointer to) (Pointer from) = Goes (with_objects s (copied h c to from s.objects)) []
 copied_at h s c a b = Wrong
 
 -- the plan of destruction of a heap object
-abbrev pub object_ended : Classes → TypedProgram → State → ℕ → Option ClassId → Next
+abbrev pub object_ended : Classes → TypedProgram → ProgramState → ℕ → Option ClassId → Next
 object_ended h program s k None = Wrong
 object_ended h program s k (Some c) = Goes (with_frames s (ending h program k c ∷ s.frames)) []
 
 -- `delete` of null does nothing; that of a pointer ends its heap object (ISO C++03 5.3.5)
-abbrev pub deleted : Classes → TypedProgram → State → Value → Next
+abbrev pub deleted : Classes → TypedProgram → ProgramState → Value → Next
 deleted h program s Unset = Wrong
 deleted h program s (Number z) = Wrong
 deleted h program s Null = Goes s []
@@ -302,13 +302,13 @@ frames_at (InBody f ∷ below) n = InBody (at_statement f n) ∷ below
 frames_at (InPlan f ∷ below) n = InPlan f ∷ below
 
 -- control goes on at this statement
-abbrev pub going : State → ℕ → State
-going s n = with_frames s (frames_at s.frames n)
+abbrev pub going_on_at : ProgramState → ℕ → ProgramState
+going_on_at s n = with_frames s (frames_at s.frames n)
 
 -- a condition holds where its number is not 0; a block without statements is passed over
-abbrev pub branched : State → Value → ℕ → ℕ → Next
+abbrev pub branched : ProgramState → Value → ℕ → ℕ → Next
 branched s Unset yes_at no_at = Wrong
-branched s (Number z) yes_at no_at = Goes (going s (if is_number_zero z then no_at else yes_at)) []
+branched s (Number z) yes_at no_at = Goes (going_on_at s (if is_number_zero z then no_at else yes_at)) []
 branched s Null yes_at no_at = Wrong
 branched s (Pointer p) yes_at no_at = Wrong
 
@@ -317,24 +317,24 @@ abbrev pub block_at : (n end behind : ℕ) → ℕ
 block_at n end behind = if nat_eq n end then behind else n
 
 -- a variable takes a value, with its conversion; without a variable the value is dropped
-abbrev pub given : State → Value → Option Target → State
-given s v None = s
-given s v (Some target) = assigned s target.variable (converted v target.conversion)
+abbrev pub given_to_target : ProgramState → Value → Option Target → ProgramState
+given_to_target s v None = s
+given_to_target s v (Some target) = assigned s target.variable (converted_to v target.conversion)
 
 -- the result of a `return`, if it has one
-abbrev pub result_given : State → Conversion → Option Target → Option Value → State
+abbrev pub result_given : ProgramState → Conversion → Option Target → Option Value → ProgramState
 result_given s found target None = s
-result_given s found target (Some v) = given s (converted v found) target
+result_given s found target (Some v) = given_to_target s (converted_to v found) target
 
 -- what a `return` leads to, by whose body it leaves: constructors and destructors have none
-abbrev pub left_by : Owner → State → Next
+abbrev pub left_by : Owner → ProgramState → Next
 left_by Main s = Ends
 left_by (Function g) s = Goes s []
 left_by (Constructor c) s = Wrong
 left_by (Destructor c) s = Wrong
 
 -- a `return` leaves the body, and the frame below takes the result; that of `main` ends the run
-abbrev pub returned : State → Running → List Frame → Option Value → Next
+abbrev pub returned : ProgramState → RunningBody → List Frame → Option Value → Next
 returned s f below v = left_by f.owner (result_given (with_frames s below) f.found f.target v)
 
 -- the value of a `return`, if it has one
@@ -371,7 +371,7 @@ abbrev pub type_out : Classes → Objects → Value → Option Out
 type_out h s Unset = None
 type_out h s (Number z) = None
 type_out h s Null = None
-type_out h s (Pointer p) = class_out (type_of h s p)
+type_out h s (Pointer p) = class_out (typeid_class h s p)
 
 -- the dump of a heap object: its number, its class and its leaves
 abbrev pub object_out : Classes → Objects → ℕ → Option ClassId → Option Out
@@ -386,26 +386,26 @@ dump_out h s Null = None
 dump_out h s (Pointer p) = object_out h s p.object (slice_get s.classes p.object)
 
 -- the state and one thing told
-abbrev pub telling : State → Option Out → Next
+abbrev pub telling : ProgramState → Option Out → Next
 telling s None = Wrong
 telling s (Some out) = Goes s (out ∷ [])
 
 -- on is the state in which control has gone on, and see what the statement sees
-abbrev pub kind_effect : Classes → TypedProgram → Sight → State → Running → List Frame → (n next : ℕ) → TypedKind → Next
-kind_effect h program see on f below n next (Declare m x) = declared h program see on m x
+abbrev pub kind_effect : Classes → TypedProgram → Sight → ProgramState → RunningBody → List Frame → (n next : ℕ) → TypedKind → Next
+kind_effect h program see on f below n next (Declare m x) = local_declared h program see on m x
 kind_effect h program see on f below n next (Assign variable x) = taken h program see on variable x.right x.conversion
-kind_effect h program see on f below n next (Write place x) = written on place (argument_value see x) (value see place.pointer)
-kind_effect h program see on f below n next (Copy to from c) = copied_at h on c (value see to) (value see from)
+kind_effect h program see on f below n next (Write place x) = written on place (argument_value see x) (value_of_operand see place.pointer)
+kind_effect h program see on f below n next (Copy to from c) = copied_at h on c (value_of_operand see to) (value_of_operand see from)
 kind_effect h program see on f below n next (Call call) = called h program see on call None
-kind_effect h program see on f below n next (Delete x c) = deleted h program on (value see x)
-kind_effect h program see on f below n next (If x other behind) = branched on (value see x) (block_at (n + 1) other next) (block_at other behind next)
-kind_effect h program see on f below n next (While x behind) = branched on (value see x) (block_at (n + 1) behind n) next
+kind_effect h program see on f below n next (Delete x c) = deleted h program on (value_of_operand see x)
+kind_effect h program see on f below n next (If x other behind) = branched on (value_of_operand see x) (block_at (n + 1) other next) (block_at other behind next)
+kind_effect h program see on f below n next (While x behind) = branched on (value_of_operand see x) (block_at (n + 1) behind n) next
 kind_effect h program see on f below n next (Return x) = returned on f below (returned_value see x)
-kind_effect h program see on f below n next (Print x) = telling on (value_out on.objects (value see x))
-kind_effect h program see on f below n next (PrintType x c) = telling on (type_out h on.objects (value see x))
-kind_effect h program see on f below n next (PrintView x c) = telling on (view_out h on.objects (value see x))
-kind_effect h program see on f below n next (Dump x c) = telling on (dump_out h on.objects (value see x))
+kind_effect h program see on f below n next (Print x) = telling on (value_out on.objects (value_of_operand see x))
+kind_effect h program see on f below n next (PrintType x c) = telling on (type_out h on.objects (value_of_operand see x))
+kind_effect h program see on f below n next (PrintView x c) = telling on (view_out h on.objects (value_of_operand see x))
+kind_effect h program see on f below n next (Dump x c) = telling on (dump_out h on.objects (value_of_operand see x))
 
 -- what statement number n of the frame f does, over the frames below; s is the state before
-abbrev pub effect : Classes → TypedProgram → State → Running → List Frame → ℕ → TypedStatement → Next
-effect h program s f below n statement = kind_effect h program (sight s f) (going s statement.next) f below n statement.next statement.kind
+abbrev pub effect : Classes → TypedProgram → ProgramState → RunningBody → List Frame → ℕ → TypedStatement → Next
+effect h program s f below n statement = kind_effect h program (sight s f) (going_on_at s statement.next) f below n statement.next statement.kind

@@ -11,9 +11,9 @@ use Rattle.cxx_program.specs.declared.program.Owner.TheVariants.{Main}
 use Rattle.cxx_program.specs.declared.program.TypedBody.{TypedBody}
 use Rattle.cxx_program.specs.declared.program.TypedProgram.{TypedProgram}
 use Rattle.path_plan.specs.Places.{ObjectPart}
-use Rattle.path_plan.specs.Phases.{Event, Done}
+use Rattle.path_plan.specs.Phases.{PartEvent, Done}
 use Rattle.path_plan.specs.Views.{Fits}
-use Rattle.path_model.specs.States.{Running, Planned, Frame, InBody, InPlan}
+use Rattle.path_model.specs.States.{RunningBody, Planned, Frame, InBody, InPlan}
 use Rattle.path_model.specs.Steps.{class_of_part}
 use Rattle.path_model.specs.Runs.{state_at}
 
@@ -37,11 +37,11 @@ abbrev pub IsFreeOfPlans : Classes → (ClassId → ℕ) → TypedProgram → (n
 IsFreeOfPlans h sizes program n k = (f : Planned) → IsPlanAtWork h sizes program n f → f.object ≡ k → ⊥
 
 -- the body is on top of these frames
-abbrev pub IsBodyOnTop : Classes → (ClassId → ℕ) → TypedProgram → (n : ℕ) → Running → (below : List Frame) → Type 0
+abbrev pub IsBodyOnTop : Classes → (ClassId → ℕ) → TypedProgram → (n : ℕ) → RunningBody → (below : List Frame) → Type 0
 IsBodyOnTop h sizes program n g below = (state_at h sizes program n).frames ≡ InBody g ∷ below
 
 -- the event can happen
-abbrev pub FitsAfter : Classes → (ClassId → ℕ) → TypedProgram → (n : ℕ) → Event → Type 0
+abbrev pub FitsAfter : Classes → (ClassId → ℕ) → TypedProgram → (n : ℕ) → PartEvent → Type 0
 FitsAfter h sizes program n e = Fits h (state_at h sizes program n).objects.phases e
 
 -- what runs first, if anything does, is the body of `main`
@@ -50,7 +50,7 @@ MainIsMain program = (body : TypedBody) → program.main ≡ Some body → body.
 
 -- the first of these frames is that of a construction, whose next event says that a part of class c is done
 abbrev pub StandsOnConstruction : List Frame → ClassId → Type 0
-StandsOnConstruction below c = (f : Planned) × (rest : List Frame) × (p : ObjectPart) × (es : List Event) × (below ≡ InPlan f ∷ rest) × (f.is_building ≡ true) × (f.events ≡ Done p ∷ es) × (class_of_part p ≡ c)
+StandsOnConstruction below c = (f : Planned) × (rest : List Frame) × (p : ObjectPart) × (es : List PartEvent) × (below ≡ InPlan f ∷ rest) × (f.is_building ≡ true) × (f.events ≡ Done p ∷ es) × (class_of_part p ≡ c)
 
 -- the first of these frames is that of a destruction
 abbrev pub StandsOnDestruction : List Frame → Type 0

@@ -22,7 +22,7 @@ use Rattle.path_plan.specs.Places.{part}
 use Rattle.path_plan.specs.Phases.{is_ready, is_complete}
 use Rattle.path_model.specs.Values.{Value, Unset, Number, Null, Pointer, Objects, Sight}
 use Rattle.cxx_search.specs.Searches.{is_within, final_in, is_pure_overrider}
-use Rattle.path_model.specs.Uses.{Use, Reads, Follows, Guards, Passes, Views, Takes, Downs, Deletes, Dumps, Closes, Overflows, class_of_owner, view_of, derived_of, Wanted, kind_uses}
+use Rattle.path_model.specs.Uses.{StatementUse, Reads, Follows, Guards, Passes, Views, Takes, Downs, Deletes, Dumps, Closes, Overflows, class_of_owner, view_of, derived_of, Wanted, kind_uses}
 
 -- in the order in which they are asked
 abbrev pub rules : List Undefined
@@ -68,8 +68,8 @@ is_pure_by h None y f = false
 is_pure_by h (Some x) y f = is_pure_overrider h (final_in h x y f)
 
 -- the same, in the view of the complete object
-abbrev pub is_pure_at : Classes → Objects → FunctionId → ObjectPart → Bool
-is_pure_at h s f p = is_pure_by h (view_of h s p) p.at f
+abbrev pub is_pure_in_view : Classes → Objects → FunctionId → ObjectPart → Bool
+is_pure_in_view h s f p = is_pure_by h (view_of h s p) p.at f
 
 -- there is no such subobject
 abbrev pub is_nowhere : Option Subobject → Bool
@@ -122,7 +122,7 @@ abbrev pub overflows : Operator → Scalar → Value → Value → Bool
 overflows op t (Number a) (Number b) = is_signed t && is_result_over op t (wrapped t a) (wrapped t b)
 overflows op t a b = false
 
-abbrev pub breaks : Classes → Objects → Undefined → Use → Bool
+abbrev pub breaks : Classes → Objects → Undefined → StatementUse → Bool
 -- U1: the pointer of `->`, `*p`, `typeid(*p)` or `dump` is null
 breaks h s NullUse (Follows v) = is_null v
 -- U2: the step reads a pointer value that names a closed heap object
@@ -137,7 +137,7 @@ breaks h s OutsideView (Views v) = names (is_outside h s) v
 -- U5: the step reads an unset variable or leaf
 breaks h s UnsetUse (Reads v) = is_unset v
 -- U6: the final overrider in the view is pure
-breaks h s PureCall (Takes v f) = names (is_pure_at h s f) v
+breaks h s PureCall (Takes v f) = names (is_pure_in_view h s f) v
 -- U7: a static downcast from X to T, and the subobject is not that base of any T subobject of its complete object
 breaks h s BadDowncast (Downs v target i) = names (λ p. is_nowhere (derived_of h s target i p)) v
 -- U8: `delete` through a class whose destructor is not virtual, and the subobject is not the whole of its complete object
@@ -154,11 +154,11 @@ breaks h s Overflow (Overflows op t a b) = overflows op t a b
 breaks h s rule other = false
 
 -- some use breaks the rule
-abbrev pub is_broken : Classes → Objects → List Use → Undefined → Bool
+abbrev pub is_broken : Classes → Objects → List StatementUse → Undefined → Bool
 is_broken h s uses rule = list_any (breaks h s rule) uses
 
 -- the first of U1 to U12 that some of the uses breaks
-unfoldable pub refused : Classes → Objects → List Use → Option Undefined
+unfoldable pub refused : Classes → Objects → List StatementUse → Option Undefined
 refused h s uses = find (is_broken h s uses) rules
 
 -- no rule
@@ -167,16 +167,16 @@ is_nothing None = true
 is_nothing (Some r) = false
 
 -- the uses break no rule
-abbrev pub is_clear : Classes → Objects → List Use → Bool
+abbrev pub is_clear : Classes → Objects → List StatementUse → Bool
 is_clear h s uses = is_nothing (refused h s uses)
 
 -- the uses of a statement
-abbrev pub uses_of : Classes → Sight → Wanted → TypedKind → List Use
+abbrev pub uses_of : Classes → Sight → Wanted → TypedKind → List StatementUse
 uses_of h s w kind = kind_uses h (is_clear h s.objects) s w kind
 
 -- the rule that refuses a statement
-abbrev pub refusal : Classes → Sight → Wanted → TypedKind → Option Undefined
-refusal h s w kind = refused h s.objects (uses_of h s w kind)
+abbrev pub statement_refusal : Classes → Sight → Wanted → TypedKind → Option Undefined
+statement_refusal h s w kind = refused h s.objects (uses_of h s w kind)
 
 -- the function has a result
 abbrev pub returns_value : Option (ReturnType ClassId) → Bool
@@ -185,7 +185,7 @@ returns_value (Some Void) = false
 returns_value (Some (ValueReturn t)) = true
 
 -- the use that a closing step makes
-abbrev pub closes : Bool → List Use
+abbrev pub closes : Bool → List StatementUse
 closes true = Closes ∷ []
 closes false = []
 

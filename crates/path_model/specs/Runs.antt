@@ -20,17 +20,17 @@ use Rattle.cxx_program.specs.declared.program.TypedProgram.{TypedProgram}
 use Rattle.path_rules.specs.declared.Undefined.{Undefined}
 use Rattle.path_plan.specs.Phases.{Raw}
 use Rattle.path_model.specs.declared.outs.Out.{Out}
-use Rattle.path_model.specs.Values.{Value, Unset, Number, Null, Pointer, Objects, Sight, value}
-use Rattle.path_model.specs.States.{Running, Frame, InBody, InPlan, State, body_of, entered, sight}
+use Rattle.path_model.specs.Values.{Value, Unset, Number, Null, Pointer, Objects, Sight, value_of_operand}
+use Rattle.path_model.specs.States.{RunningBody, Frame, InBody, InPlan, ProgramState, owned_body, entered_body, sight}
 use Rattle.path_model.specs.Effects.{Next, Goes, Refuses, Ends, Wrong}
 use Rattle.path_model.specs.Steps.{step}
 
 -- the start: no object, numbers 0 and pointers null in the globals, and `main` at its first statement
 
 -- a global starts as 0 or null (ISO C++03 3.6.2)
-abbrev pub first_value : ValueType ClassId → Value
-first_value (NumberType t) = Number (pos 0)
-first_value (PointerType c) = Null
+abbrev pub start_value : ValueType ClassId → Value
+start_value (NumberType t) = Number (pos 0)
+start_value (PointerType c) = Null
 
 -- no heap object was made
 abbrev pub no_objects : Objects
@@ -39,21 +39,21 @@ no_objects = record { classes = []; is_closed = λ k. false; phases = record { p
 -- `main` at its first statement
 abbrev pub main_frames : Option TypedBody → List Frame
 main_frames None = []
-main_frames (Some body) = InBody (entered body Unset [] ToSame None) ∷ []
+main_frames (Some body) = InBody (entered_body body Unset [] ToSame None) ∷ []
 
 -- the state in which a run begins
-abbrev pub start : TypedProgram → State
-start program = record { objects = no_objects; globals = map first_value program.globals; frames = main_frames program.main }
+abbrev pub start : TypedProgram → ProgramState
+start program = record { objects = no_objects; globals = map start_value program.globals; frames = main_frames program.main }
 
 -- limits
 
 -- an object's size in the heap, in bytes: the next multiple of 16
-abbrev pub rounded : ℕ → ℕ
-rounded size = (size + 15) / 16 * 16
+abbrev pub size_in_heap : ℕ → ℕ
+size_in_heap size = (size + 15) / 16 * 16
 
 -- the sum of the sizes of all objects made
 abbrev pub heap_total : (ClassId → ℕ) → List ClassId → ℕ
-heap_total sizes classes = sum_by (λ c. rounded (sizes c)) classes
+heap_total sizes classes = sum_by (λ c. size_in_heap (sizes c)) classes
 
 -- 64 MiB
 abbrev pub most_heap_bytes : ℕ
@@ -106,51 +106,51 @@ abbrev pub demand_of : Sight → TypedKind → Demand
 demand_of s (Declare n x) = converted_demand x
 demand_of s (Assign variable x) = right_demand x.right
 demand_of s (Call call) = asks_call
-demand_of s (Delete x c) = delete_demand (value s x)
+demand_of s (Delete x c) = delete_demand (value_of_operand s x)
 demand_of s other = asks_nothing
 
 -- one more would be open than may be
-abbrev pub call_limit : State → Option LimitNo
+abbrev pub call_limit : ProgramState → Option LimitNo
 call_limit s = if nat_le most_open (open_count s.frames) then Some L10 else None
 
 -- the heap comes before the count of what is open
-abbrev pub limit_of : (ClassId → ℕ) → State → Demand → Option LimitNo
+abbrev pub limit_of : (ClassId → ℕ) → ProgramState → Demand → Option LimitNo
 limit_of sizes s asks_nothing = None
 limit_of sizes s asks_call = call_limit s
-limit_of sizes s (asks_object c) = if nat_lt most_heap_bytes (heap_total sizes s.objects.classes + rounded (sizes c)) then Some L8 else call_limit s
+limit_of sizes s (asks_object c) = if nat_lt most_heap_bytes (heap_total sizes s.objects.classes + size_in_heap (sizes c)) then Some L8 else call_limit s
 
 -- the limit that a statement would pass
-abbrev pub statement_limit : (ClassId → ℕ) → State → Running → Option TypedStatement → Option LimitNo
+abbrev pub statement_limit : (ClassId → ℕ) → ProgramState → RunningBody → Option TypedStatement → Option LimitNo
 statement_limit sizes s f None = None
 statement_limit sizes s f (Some statement) = limit_of sizes s (demand_of (sight s f) statement.kind)
 
 -- that of the next statement of a body
-abbrev pub body_limit : (ClassId → ℕ) → State → Running → Option TypedBody → Option LimitNo
+abbrev pub body_limit : (ClassId → ℕ) → ProgramState → RunningBody → Option TypedBody → Option LimitNo
 body_limit sizes s f None = None
 body_limit sizes s f (Some body) = statement_limit sizes s f (slice_get body.statements f.next)
 
 -- that of the frame on top; an event asks for nothing
-abbrev pub frame_limit : (ClassId → ℕ) → TypedProgram → State → List Frame → Option LimitNo
+abbrev pub frame_limit : (ClassId → ℕ) → TypedProgram → ProgramState → List Frame → Option LimitNo
 frame_limit sizes program s [] = None
-frame_limit sizes program s (InBody f ∷ below) = body_limit sizes s f (body_of program f.owner)
+frame_limit sizes program s (InBody f ∷ below) = body_limit sizes s f (owned_body program f.owner)
 frame_limit sizes program s (InPlan f ∷ below) = None
 
 -- the limit that the step would pass, by the size of each class in bytes
-abbrev pub limit_at : (ClassId → ℕ) → TypedProgram → State → Option LimitNo
+abbrev pub limit_at : (ClassId → ℕ) → TypedProgram → ProgramState → Option LimitNo
 limit_at sizes program s = frame_limit sizes program s s.frames
 
 -- runs
 
 -- where a run goes from a state: a step that no rule refuses may still pass a limit
 pub data Move : Type 0 where
-  Moves : State → List Out → Move
+  Moves : ProgramState → List Out → Move
   IsRefused : Undefined → (line : ℕ) → Move
   IsLimited : LimitNo → Move
   IsOver : Move
   IsWrong : Move
 
 -- a step that passes a limit is not taken
-abbrev pub within : Option LimitNo → State → List Out → Move
+abbrev pub within : Option LimitNo → ProgramState → List Out → Move
 within None s outs = Moves s outs
 within (Some limit) s outs = IsLimited limit
 
@@ -162,7 +162,7 @@ move_by Ends limit = IsOver
 move_by Wrong limit = IsWrong
 
 -- where a run goes from a state
-abbrev pub move : Classes → (ClassId → ℕ) → TypedProgram → State → Move
+abbrev pub move : Classes → (ClassId → ℕ) → TypedProgram → ProgramState → Move
 move h sizes program s = move_by (step h program s) (limit_at sizes program s)
 
 -- how a run ends
@@ -180,7 +180,7 @@ pub record Ran : Type 0 where
   pub steps : ℕ
 
 -- the run from a state, by its first move and the rest
-abbrev pub ran_by : Move → (State → Ran) → Ran
+abbrev pub ran_by : Move → (ProgramState → Ran) → Ran
 ran_by (Moves s outs) rest = record { outs = outs ++ (rest s).outs; ending = (rest s).ending; steps = 1 + (rest s).steps }
 ran_by (IsRefused rule line) rest = record { outs = []; ending = UndefinedAt rule line; steps = 0 }
 ran_by (IsLimited limit) rest = record { outs = []; ending = LimitMet limit; steps = 0 }
@@ -188,7 +188,7 @@ ran_by IsOver rest = record { outs = []; ending = Done; steps = 1 }
 ran_by IsWrong rest = record { outs = []; ending = WentWrong; steps = 0 }
 
 -- what is told from a state with this many steps left, and how it ends
-abbrev pub run_from : Classes → (ClassId → ℕ) → TypedProgram → ℕ → State → Ran
+abbrev pub run_from : Classes → (ClassId → ℕ) → TypedProgram → ℕ → ProgramState → Ran
 run_from h sizes program zero s = record { outs = []; ending = OutOfSteps; steps = 0 }
 run_from h sizes program (suc n) s = ran_by (move h sizes program s) (run_from h sizes program n)
 
@@ -197,12 +197,12 @@ abbrev pub run_of : Classes → (ClassId → ℕ) → TypedProgram → ℕ → R
 run_of h sizes program steps = run_from h sizes program steps (start program)
 
 -- the state behind a move; without a step it is the same
-abbrev pub state_behind : Move → State → State
+abbrev pub state_behind : Move → ProgramState → ProgramState
 state_behind (Moves new outs) s = new
 state_behind other s = s
 
 -- the state after n steps
-abbrev pub state_at : Classes → (ClassId → ℕ) → TypedProgram → ℕ → State
+abbrev pub state_at : Classes → (ClassId → ℕ) → TypedProgram → ℕ → ProgramState
 state_at h sizes program zero = start program
 state_at h sizes program (suc n) = state_behind (move h sizes program (state_at h sizes program n)) (state_at h sizes program n)
 
@@ -217,13 +217,13 @@ outs_at h sizes program zero = []
 outs_at h sizes program (suc n) = outs_at h sizes program n ++ outs_in (move h sizes program (state_at h sizes program n))
 
 -- the move is a step, and the run goes on
-abbrev pub is_taken : Move → Bool
-is_taken (Moves new outs) = true
-is_taken other = false
+abbrev pub is_step_taken : Move → Bool
+is_step_taken (Moves new outs) = true
+is_step_taken other = false
 
 -- the first n steps are taken, and the run has not ended
 abbrev pub IsRunning : Classes → (ClassId → ℕ) → TypedProgram → ℕ → Type 0
-IsRunning h sizes program n = (k : ℕ) → k < n → is_taken (move h sizes program (state_at h sizes program k)) ≡ true
+IsRunning h sizes program n = (k : ℕ) → k < n → is_step_taken (move h sizes program (state_at h sizes program k)) ≡ true
 
 -- a run that is behind its first n steps, with what it does from there
 abbrev pub behind : ℕ → List Out → Ran → Ran

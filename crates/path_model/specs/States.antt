@@ -11,7 +11,7 @@ use Rattle.cxx_program.specs.declared.program.Owner.TheVariants.{Main, Function,
 use Rattle.cxx_program.specs.declared.program.TypedInit.{TypedInit}
 use Rattle.cxx_program.specs.declared.program.TypedBody.{TypedBody}
 use Rattle.cxx_program.specs.declared.program.TypedProgram.{TypedProgram}
-use Rattle.path_plan.specs.Phases.{Event}
+use Rattle.path_plan.specs.Phases.{PartEvent}
 use Rattle.path_plan.specs.Plans.{Bodies}
 use Rattle.path_model.specs.Values.{Value, Unset, Objects, Sight}
 use Rattle.path_model.specs.Uses.{Wanted}
@@ -30,11 +30,11 @@ same_owner (Destructor c) (Destructor d) = nat_eq c.0 d.0
 same_owner a b = false
 
 -- the body of an owner
-abbrev pub body_of : TypedProgram → Owner → Option TypedBody
-body_of program Main = program.main
-body_of program (Function f) = find (λ body. same_owner body.owner (Function f)) program.bodies
-body_of program (Constructor c) = find (λ body. same_owner body.owner (Constructor c)) program.bodies
-body_of program (Destructor c) = find (λ body. same_owner body.owner (Destructor c)) program.bodies
+abbrev pub owned_body : TypedProgram → Owner → Option TypedBody
+owned_body program Main = program.main
+owned_body program (Function f) = find (λ body. same_owner body.owner (Function f)) program.bodies
+owned_body program (Constructor c) = find (λ body. same_owner body.owner (Constructor c)) program.bodies
+owned_body program (Destructor c) = find (λ body. same_owner body.owner (Destructor c)) program.bodies
 
 -- there is a body
 abbrev pub is_body : Option TypedBody → Bool
@@ -47,8 +47,8 @@ inits_in None = []
 inits_in (Some body) = body.inits
 
 -- the initializer of a member, in the constructor of class c
-abbrev pub init_of : TypedProgram → ClassId → ℕ → Option TypedInit
-init_of program c m = find (λ init. nat_eq init.member m) (inits_in (body_of program (Constructor c)))
+abbrev pub member_init : TypedProgram → ClassId → ℕ → Option TypedInit
+member_init program c m = find (λ init. nat_eq init.member m) (inits_in (owned_body program (Constructor c)))
 
 -- there is an initializer
 abbrev pub is_init : Option TypedInit → Bool
@@ -56,11 +56,11 @@ is_init None = false
 is_init (Some init) = true
 
 -- what the plans of objects look at
-abbrev pub bodies_of : TypedProgram → Bodies
-bodies_of program = record {
-  constructor = λ c. is_body (body_of program (Constructor c));
-  destructor = λ c. is_body (body_of program (Destructor c));
-  initializer = λ c m. is_init (init_of program c m);
+abbrev pub plan_bodies : TypedProgram → Bodies
+plan_bodies program = record {
+  constructor = λ c. is_body (owned_body program (Constructor c));
+  destructor = λ c. is_body (owned_body program (Destructor c));
+  initializer = λ c m. is_init (member_init program c m);
 }
 
 -- frames
@@ -72,7 +72,7 @@ pub record Target : Type 0 where
 
 -- a body that runs: whose it is, `this`, the locals, the number of its next statement, how a result becomes one of the class
 -- of the declaration that was found, and who takes it
-pub record Running : Type 0 where
+pub record RunningBody : Type 0 where
   pub owner : Owner
   pub this : Value
   pub locals : List Value
@@ -84,21 +84,21 @@ pub record Running : Type 0 where
 pub record Planned : Type 0 where
   pub object : ℕ
   pub is_building : Bool
-  pub events : List Event
+  pub events : List PartEvent
   pub target : Option Target
 
 pub data Frame : Type 0 where
-  InBody : Running → Frame
+  InBody : RunningBody → Frame
   InPlan : Planned → Frame
 
 -- frames stand with the innermost first
-pub record State : Type 0 where
+pub record ProgramState : Type 0 where
   pub objects : Objects
   pub globals : List Value
   pub frames : List Frame
 
 -- what the statement of a body sees
-abbrev pub sight : State → Running → Sight
+abbrev pub sight : ProgramState → RunningBody → Sight
 sight s f = record { objects = s.objects; globals = s.globals; this = f.this; locals = f.locals }
 
 -- how a result becomes a value of who takes it
@@ -107,25 +107,25 @@ target_conversion None = ToSame
 target_conversion (Some target) = target.conversion
 
 -- what a return of the frame does with its result
-abbrev pub wanted : Running → Wanted
-wanted f = record { found = f.found; target = target_conversion f.target }
+abbrev pub wanted_result : RunningBody → Wanted
+wanted_result f = record { found = f.found; target = target_conversion f.target }
 
 -- changes of a state, one part at a time
 
 -- other objects
-abbrev pub with_objects : State → Objects → State
+abbrev pub with_objects : ProgramState → Objects → ProgramState
 with_objects s objects = record { objects = objects; globals = s.globals; frames = s.frames }
 
 -- other frames
-abbrev pub with_frames : State → List Frame → State
+abbrev pub with_frames : ProgramState → List Frame → ProgramState
 with_frames s frames = record { objects = s.objects; globals = s.globals; frames = frames }
 
 -- the next statement is n
-abbrev pub at_statement : Running → ℕ → Running
+abbrev pub at_statement : RunningBody → ℕ → RunningBody
 at_statement f n = record { owner = f.owner; this = f.this; locals = f.locals; next = n; found = f.found; target = f.target }
 
 -- a local takes a value
-abbrev pub with_local : Running → ℕ → Value → Running
+abbrev pub with_local : RunningBody → ℕ → Value → RunningBody
 with_local f n v = record { owner = f.owner; this = f.this; locals = slice_set f.locals n v; next = f.next; found = f.found; target = f.target }
 
 -- a variable of the innermost frame takes a value; a plan has no locals
@@ -135,7 +135,7 @@ with_local_in (InBody f ∷ below) n v = InBody (with_local f n v) ∷ below
 with_local_in (InPlan f ∷ below) n v = InPlan f ∷ below
 
 -- a variable takes a value
-abbrev pub assigned : State → Variable → Value → State
+abbrev pub assigned : ProgramState → Variable → Value → ProgramState
 assigned s (Global n) v = record { objects = s.objects; globals = slice_set s.globals n v; frames = s.frames }
 assigned s (Local n) v = with_frames s (with_local_in s.frames n v)
 
@@ -144,5 +144,5 @@ abbrev pub start_locals : TypedBody → List Value → List Value
 start_locals body values = values ++ replicate (length body.locals - length values) Unset
 
 -- a body at its first statement: its arguments, and the other locals unset
-abbrev pub entered : TypedBody → Value → List Value → Conversion → Option Target → Running
-entered body this values found target = record { owner = body.owner; this = this; locals = start_locals body values; next = 0; found = found; target = target }
+abbrev pub entered_body : TypedBody → Value → List Value → Conversion → Option Target → RunningBody
+entered_body body this values found target = record { owner = body.owner; this = this; locals = start_locals body values; next = 0; found = found; target = target }

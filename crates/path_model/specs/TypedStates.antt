@@ -17,7 +17,7 @@ use Rattle.cxx_program.specs.declared.program.TypedBody.{TypedBody}
 use Rattle.cxx_program.specs.declared.program.TypedProgram.{TypedProgram}
 use Rattle.cxx_program.specs.Typed.{Types, Converts, scope_of, this_of, returns_of, variable_type, width_within}
 use Rattle.path_model.specs.Values.{Value, Unset, Number, Null, Pointer, Leaf}
-use Rattle.path_model.specs.States.{Target, Running, Frame, InBody, InPlan, State, body_of}
+use Rattle.path_model.specs.States.{Target, RunningBody, Frame, InBody, InPlan, ProgramState, owned_body}
 
 -- values
 
@@ -39,10 +39,10 @@ IsValue h classes (Pointer p) (NumberType t) = ⊥
 IsValue h classes (Pointer p) (PointerType c) = IsPartMade h classes p c
 
 -- a number in a bit-field of n bits is one that n bits of the type can hold (ISO C++03 9.6)
-abbrev pub IsHeld : Option ℕ → Value → ValueType ClassId → Type 0
-IsHeld None v t = Unit {0}
-IsHeld (Some n) (Number z) (NumberType t) = IsInWidth t n z
-IsHeld (Some n) v t = Unit {0}
+abbrev pub IsInBitField : Option ℕ → Value → ValueType ClassId → Type 0
+IsInBitField None v t = Unit {0}
+IsInBitField (Some n) (Number z) (NumberType t) = IsInWidth t n z
+IsInBitField (Some n) v t = Unit {0}
 
 -- each value is one of the type at its place
 abbrev pub AreValues : Classes → List ClassId → List Value → Types → Type 0
@@ -66,8 +66,8 @@ IsThis h classes None v = v ≡ Unset
 IsThis h classes (Some c) v = (p : ObjectPart) × (v ≡ Pointer p) × IsPartMade h classes p c
 
 -- a body that runs: one of the program, with values of the types of its locals, at one of its statements or at its end
-pub record IsTypedRunning (h : Classes) (program : TypedProgram) (classes : List ClassId) (f : Running) (body : TypedBody) : Type 0 where
-  pub there : body_of program f.owner ≡ Some body
+pub record IsTypedRunning (h : Classes) (program : TypedProgram) (classes : List ClassId) (f : RunningBody) (body : TypedBody) : Type 0 where
+  pub there : owned_body program f.owner ≡ Some body
   pub this : IsThis h classes (this_of f.owner) f.this
   pub locals : AreValues h classes f.locals body.locals
   pub next : f.next ≤ length body.statements
@@ -85,7 +85,7 @@ pub record FitsResult (h : Classes) (globals : Types) (owner : Owner) (found : C
 -- a body of the program is next, and what it waits for is as P says
 abbrev pub IsCalledFrom : TypedProgram → (TypedBody → Type 0) → List Frame → Type 0
 IsCalledFrom program P [] = ⊥
-IsCalledFrom program P (InBody g ∷ below) = (body : TypedBody) × (body_of program g.owner ≡ Some body) × P body
+IsCalledFrom program P (InBody g ∷ below) = (body : TypedBody) × (owned_body program g.owner ≡ Some body) × P body
 IsCalledFrom program P (InPlan g ∷ below) = ⊥
 
 -- a plan is next
@@ -103,7 +103,7 @@ IsOpened h program (Constructor c) found target below = IsOverPlan below
 IsOpened h program (Destructor c) found target below = IsOverPlan below
 
 -- the object of a plan was made, and a pointer to it fits who waits for it
-pub record FitsObject (h : Classes) (globals : Types) (classes : List ClassId) (object : ℕ) (target : Option Target) (body : TypedBody) : Type 0 where
+pub record FitsMadeObject (h : Classes) (globals : Types) (classes : List ClassId) (object : ℕ) (target : Option Target) (body : TypedBody) : Type 0 where
   pub class : ClassId
   pub made : slice_get classes object ≡ Some class
   pub fits : FitsTarget h globals body (PointerType class) target
@@ -113,14 +113,14 @@ abbrev pub AreTypedFrames : Classes → TypedProgram → List ClassId → List F
 AreTypedFrames h program classes [] = Unit {0}
 AreTypedFrames h program classes (InBody f ∷ below) =
     ((body : TypedBody) × IsTypedRunning h program classes f body) × IsOpened h program f.owner f.found f.target below × AreTypedFrames h program classes below
-AreTypedFrames h program classes (InPlan f ∷ below) = IsCalledFrom program (FitsObject h program.globals classes f.object f.target) below × AreTypedFrames h program classes below
+AreTypedFrames h program classes (InPlan f ∷ below) = IsCalledFrom program (FitsMadeObject h program.globals classes f.object f.target) below × AreTypedFrames h program classes below
 
 -- states
 
 -- globals, leaves and frames hold values of their types, bit-fields what their bits can hold, and there is a frame
-pub record IsTypedState (h : Classes) (program : TypedProgram) (s : State) : Type 0 where
+pub record IsTypedState (h : Classes) (program : TypedProgram) (s : ProgramState) : Type 0 where
   pub globals : AreValues h s.objects.classes s.globals program.globals
   pub leaves : (l : Leaf) (t : ValueType ClassId) → IsLeafMade h s.objects.classes l t → IsValue h s.objects.classes (s.objects.leaf l) t
-  pub held : (l : Leaf) (t : ValueType ClassId) → IsLeafMade h s.objects.classes l t → IsHeld (width_of_leaf h l) (s.objects.leaf l) t
+  pub held : (l : Leaf) (t : ValueType ClassId) → IsLeafMade h s.objects.classes l t → IsInBitField (width_of_leaf h l) (s.objects.leaf l) t
   pub frames : AreTypedFrames h program s.objects.classes s.frames
   pub running : s.frames ≢ []

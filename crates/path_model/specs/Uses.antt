@@ -34,32 +34,32 @@ use Rattle.path_plan.specs.Places.{part, element}
 use Rattle.path_plan.specs.Phases.{Phases}
 use Rattle.path_plan.specs.Plans.{upto}
 use Rattle.path_plan.specs.Views.{view}
-use Rattle.path_model.specs.Values.{Value, Unset, Number, Null, Pointer, Objects, Sight, value, converted, to_base, inner_part}
+use Rattle.path_model.specs.Values.{Value, Unset, Number, Null, Pointer, Objects, Sight, value_of_operand, converted_to, to_base, inner_part}
 use Rattle.path_model.specs.Places.{passed_part, leaf_value, address_value, owner_class}
 use Rattle.cxx_search.specs.Searches.{is_within, is_of_class, cast_in, has_virtual_base, destructor_of, preorder_of}
 
-pub data Use : Type 0 where
+pub data StatementUse : Type 0 where
   -- of a variable, parameter or leaf
-  Reads : Value → Use
+  Reads : Value → StatementUse
   -- `->`, `*p`, `typeid(*p)` or `dump`
-  Follows : Value → Use
+  Follows : Value → StatementUse
   -- a guarded use: `->`, a copy, typeid, `delete`, a cast, a conversion to another class
-  Guards : Value → Use
+  Guards : Value → StatementUse
   -- a class member that the written path passes through, or that a copy covers
-  Passes : ObjectPart → Use
+  Passes : ObjectPart → StatementUse
   -- the step needs the view of the complete object, and starts from this subobject
-  Views : Value → Use
+  Views : Value → StatementUse
   -- a call of the function by the view
-  Takes : Value → FunctionId → Use
+  Takes : Value → FunctionId → StatementUse
   -- a static downcast, to the class whose subobject the pointer is to be
-  Downs : Value → (target : ClassId) → Subobject → Use
+  Downs : Value → (target : ClassId) → Subobject → StatementUse
   -- `delete`, through a class whose destructor is virtual or not
-  Deletes : Value → (is_virtual : Bool) → Use
-  Dumps : Value → Use
+  Deletes : Value → (is_virtual : Bool) → StatementUse
+  Dumps : Value → StatementUse
   -- the closing step of a function with a result
-  Closes : Use
+  Closes : StatementUse
   -- a sum, difference, product or comparison in the common type
-  Overflows : Operator → Scalar → Value → Value → Use
+  Overflows : Operator → Scalar → Value → Value → StatementUse
 
 -- the view of the complete object that a part belongs to, and of which class that is
 
@@ -86,43 +86,43 @@ abbrev pub is_shared : Subobject → Bool
 is_shared i = is_shared_root i.root
 
 -- the view is needed if so
-abbrev pub views : Bool → Value → List Use
-views true v = Views v ∷ []
-views false v = []
+abbrev pub uses_of_view : Bool → Value → List StatementUse
+uses_of_view true v = Views v ∷ []
+uses_of_view false v = []
 
 -- a conversion to another class is a guarded use; that to a subobject behind a virtual base needs the view (ISO C++03 4.10, 12.7 p2)
-abbrev pub convert : Value → Conversion → List Use
+abbrev pub convert : Value → Conversion → List StatementUse
 convert v (ToNumber t) = []
 convert v (ToBits t n) = []
 convert v ToNull = []
 convert v ToSame = []
-convert v (ToBase i) = Guards v ∷ views (is_shared i) v
+convert v (ToBase i) = Guards v ∷ uses_of_view (is_shared i) v
 
 -- `p->`, `*p` or `typeid(*p)`
-abbrev pub arrow : Value → List Use
+abbrev pub arrow : Value → List StatementUse
 arrow v = Reads v ∷ Follows v ∷ Guards v ∷ []
 
 -- a value that is read and converted
-abbrev pub argument_uses : Sight → Argument → List Use
-argument_uses s a = Reads (value s a.operand) ∷ convert (value s a.operand) a.conversion
+abbrev pub argument_uses : Sight → Argument → List StatementUse
+argument_uses s a = Reads (value_of_operand s a.operand) ∷ convert (value_of_operand s a.operand) a.conversion
 
 -- places
 
 -- a path from a part that the pointer names, to its last name, which is found in the subobject `last`
-abbrev pub passes : ObjectPart → List PassedMember → Subobject → List Use
-passes p [] last = views (is_shared last) (Pointer p)
-passes p (x ∷ rest) last = views (is_shared x.base) (Pointer p) ++ (Passes (passed_part p x) ∷ passes (passed_part p x) rest last)
+abbrev pub path_uses : ObjectPart → List PassedMember → Subobject → List StatementUse
+path_uses p [] last = uses_of_view (is_shared last) (Pointer p)
+path_uses p (x ∷ rest) last = uses_of_view (is_shared x.base) (Pointer p) ++ (Passes (passed_part p x) ∷ path_uses (passed_part p x) rest last)
 
 -- the uses of a part, where the value names one
-abbrev pub of_part : (ObjectPart → List Use) → Value → List Use
+abbrev pub of_part : (ObjectPart → List StatementUse) → Value → List StatementUse
 of_part f Unset = []
 of_part f (Number z) = []
 of_part f Null = []
 of_part f (Pointer p) = f p
 
 -- the uses of a place: its pointer and its path, not its leaf
-abbrev pub place_uses : Sight → TypedPlace → List Use
-place_uses s place = arrow (value s place.pointer) ++ of_part (λ p. passes p place.passed place.base) (value s place.pointer)
+abbrev pub place_uses : Sight → TypedPlace → List StatementUse
+place_uses s place = arrow (value_of_operand s place.pointer) ++ of_part (λ p. path_uses p place.passed place.base) (value_of_operand s place.pointer)
 
 -- casts
 
@@ -162,36 +162,36 @@ cast_value h s (Down target i) v = down_value h s target i v
 cast_value h s (Dynamic target) v = dynamic_value h s target v
 
 -- every cast is a guarded use, also one to the same class
-abbrev pub cast_uses : TypedCast → Value → List Use
+abbrev pub cast_uses : TypedCast → Value → List StatementUse
 cast_uses SameClass v = Reads v ∷ Guards v ∷ []
-cast_uses (Up i) v = Reads v ∷ Guards v ∷ views (is_shared i) v
+cast_uses (Up i) v = Reads v ∷ Guards v ∷ uses_of_view (is_shared i) v
 cast_uses (Down target i) v = Reads v ∷ Guards v ∷ Downs v target i ∷ []
 cast_uses (Dynamic target) v = Reads v ∷ Guards v ∷ Views v ∷ []
 
 -- the class members that a copy covers: those of each subobject, and those inside them
 
 -- each element of a member that is an object, and the class members inside it
-abbrev pub element_uses : (ClassId → ObjectPart → List Use) → ObjectPart → ℕ → List ℕ → FieldType ClassId → List Use
+abbrev pub element_uses : (ClassId → ObjectPart → List StatementUse) → ObjectPart → ℕ → List ℕ → FieldType ClassId → List StatementUse
 element_uses inside p m indices (ValueField type) = []
 element_uses inside p m indices (Object d) = flat_map (λ i. Passes (element p m i d) ∷ inside d (element p m i d)) indices
 
 -- the same, of a member that is there
-abbrev pub member_uses : (ClassId → ObjectPart → List Use) → ObjectPart → ℕ → Option (Member ClassId) → List Use
+abbrev pub member_uses : (ClassId → ObjectPart → List StatementUse) → ObjectPart → ℕ → Option (Member ClassId) → List StatementUse
 member_uses inside p m None = []
 member_uses inside p m (Some member) = element_uses inside p m (upto (elements_of member.count)) member.ty
 
 -- the class members that a part's class declares
-abbrev pub own_members : Classes → (ClassId → ObjectPart → List Use) → Option ClassId → ObjectPart → List Use
+abbrev pub own_members : Classes → (ClassId → ObjectPart → List StatementUse) → Option ClassId → ObjectPart → List StatementUse
 own_members h inside None p = []
 own_members h inside (Some b) p = flat_map (λ m. member_uses inside p m (slice_get (members_of h b) m)) (upto (length (members_of h b)))
 
 -- the class members in a part, for classes of numbers below n
-abbrev pub covers : Classes → ℕ → ClassId → ObjectPart → List Use
+abbrev pub covers : Classes → ℕ → ClassId → ObjectPart → List StatementUse
 covers h zero c p = []
 covers h (suc n) c p = flat_map (λ i. own_members h (covers h n) (class_of i) (inner_part p i)) (preorder h c)
 
 -- a member object is of a class before
-abbrev pub covered : Classes → ClassId → Value → List Use
+abbrev pub covered : Classes → ClassId → Value → List StatementUse
 covered h c v = of_part (covers h (c.0 + 1) c) v
 
 -- calls
@@ -207,43 +207,43 @@ is_shared_way None = false
 is_shared_way (Some i) = is_shared i
 
 -- the subobject of the class in which the function was found
-abbrev pub receiver : Sight → TypedCall → Value
-receiver s call = to_base call.base (goes_to call.qualifier (value s call.pointer))
+abbrev pub receiver_value : Sight → TypedCall → Value
+receiver_value s call = to_base call.base (goes_to call.qualifier (value_of_operand s call.pointer))
 
 -- the function is found by the view if the call is dispatched
-abbrev pub takes : Bool → Value → FunctionId → List Use
+abbrev pub takes : Bool → Value → FunctionId → List StatementUse
 takes true v f = Takes v f ∷ []
 takes false v f = []
 
 -- the view is needed for dispatch, for the way to the class before `::`, and for the way from there to the function
-abbrev pub call_uses : Sight → TypedCall → List Use
+abbrev pub call_uses : Sight → TypedCall → List StatementUse
 call_uses s call =
-    arrow (value s call.pointer) ++ (views (call.is_dispatched || is_shared_way call.qualifier) (value s call.pointer) ++ (views (is_shared call.base) (goes_to call.qualifier (value s call.pointer))
-    ++ (flat_map (argument_uses s) call.arguments ++ takes call.is_dispatched (receiver s call) call.function)))
+    arrow (value_of_operand s call.pointer) ++ (uses_of_view (call.is_dispatched || is_shared_way call.qualifier) (value_of_operand s call.pointer) ++ (uses_of_view (is_shared call.base) (goes_to call.qualifier (value_of_operand s call.pointer))
+    ++ (flat_map (argument_uses s) call.arguments ++ takes call.is_dispatched (receiver_value s call) call.function)))
 
 -- right sides and statements. `clear` tells whether no rule is broken by uses: what rests on the value of a leaf is asked only
 -- where its pointer and its path are clear
 
 -- the value of a leaf, and its conversion
-abbrev pub leaf_uses : Bool → Value → Conversion → List Use
+abbrev pub leaf_uses : Bool → Value → Conversion → List StatementUse
 leaf_uses false v c = []
 leaf_uses true v c = Reads v ∷ convert v c
 
 -- the uses of a right side; a result of a call is converted in the step of its `return`, that of a `new` in its last event
-abbrev pub right_uses : Classes → (List Use → Bool) → Sight → TypedRight → Conversion → List Use
-right_uses h clear s (Operand x) c = Reads (value s x) ∷ convert (value s x) c
-right_uses h clear s (Arithmetic op t x y) c = Reads (value s x) ∷ Reads (value s y) ∷ Overflows op t (value s x) (value s y) ∷ []
+abbrev pub right_uses : Classes → (List StatementUse → Bool) → Sight → TypedRight → Conversion → List StatementUse
+right_uses h clear s (Operand x) c = Reads (value_of_operand s x) ∷ convert (value_of_operand s x) c
+right_uses h clear s (Arithmetic op t x y) c = Reads (value_of_operand s x) ∷ Reads (value_of_operand s y) ∷ Overflows op t (value_of_operand s x) (value_of_operand s y) ∷ []
 right_uses h clear s (SamePointer differ a b) c = argument_uses s a ++ argument_uses s b
-right_uses h clear s (Not x) c = Reads (value s x) ∷ []
-right_uses h clear s (Read place) c = place_uses s place ++ leaf_uses (clear (place_uses s place)) (leaf_value s place (value s place.pointer)) c
-right_uses h clear s (Address place d) c = place_uses s place ++ convert (address_value place d (value s place.pointer)) c
+right_uses h clear s (Not x) c = Reads (value_of_operand s x) ∷ []
+right_uses h clear s (Read place) c = place_uses s place ++ leaf_uses (clear (place_uses s place)) (leaf_value s place (value_of_operand s place.pointer)) c
+right_uses h clear s (Address place d) c = place_uses s place ++ convert (address_value place d (value_of_operand s place.pointer)) c
 right_uses h clear s (CallRight call) c = call_uses s call
 right_uses h clear s (New d) c = []
-right_uses h clear s (Cast cast x) c = cast_uses cast (value s x) ++ convert (cast_value h s.objects cast (value s x)) c
-right_uses h clear s (TypeEqual x d) c = arrow (value s x) ++ Views (value s x) ∷ []
+right_uses h clear s (Cast cast x) c = cast_uses cast (value_of_operand s x) ++ convert (cast_value h s.objects cast (value_of_operand s x)) c
+right_uses h clear s (TypeEqual x d) c = arrow (value_of_operand s x) ++ Views (value_of_operand s x) ∷ []
 
 -- the uses of a declaration
-abbrev pub declared_uses : Classes → (List Use → Bool) → Sight → Option Converted → List Use
+abbrev pub declared_uses : Classes → (List StatementUse → Bool) → Sight → Option Converted → List StatementUse
 declared_uses h clear s None = []
 declared_uses h clear s (Some x) = right_uses h clear s x.right x.conversion
 
@@ -254,24 +254,24 @@ pub record Wanted : Type 0 where
   pub target : Conversion
 
 -- the uses of a `return`
-abbrev pub return_uses : Sight → Wanted → Option Argument → List Use
+abbrev pub return_uses : Sight → Wanted → Option Argument → List StatementUse
 return_uses s w None = []
 return_uses s w (Some a) =
-    argument_uses s a ++ (convert (converted (value s a.operand) a.conversion) w.found ++ convert (converted (converted (value s a.operand) a.conversion) w.found) w.target)
+    argument_uses s a ++ (convert (converted_to (value_of_operand s a.operand) a.conversion) w.found ++ convert (converted_to (converted_to (value_of_operand s a.operand) a.conversion) w.found) w.target)
 
 -- the uses of a statement
-abbrev pub kind_uses : Classes → (List Use → Bool) → Sight → Wanted → TypedKind → List Use
+abbrev pub kind_uses : Classes → (List StatementUse → Bool) → Sight → Wanted → TypedKind → List StatementUse
 kind_uses h clear s w (Declare n x) = declared_uses h clear s x
 kind_uses h clear s w (Assign variable x) = right_uses h clear s x.right x.conversion
 kind_uses h clear s w (Write place x) = place_uses s place ++ argument_uses s x
 kind_uses h clear s w (Copy to from c) =
-    arrow (value s to) ++ (arrow (value s from) ++ (views (has_virtual_base h c) (value s to) ++ (views (has_virtual_base h c) (value s from) ++ (covered h c (value s to) ++ covered h c (value s from)))))
+    arrow (value_of_operand s to) ++ (arrow (value_of_operand s from) ++ (uses_of_view (has_virtual_base h c) (value_of_operand s to) ++ (uses_of_view (has_virtual_base h c) (value_of_operand s from) ++ (covered h c (value_of_operand s to) ++ covered h c (value_of_operand s from)))))
 kind_uses h clear s w (Call call) = call_uses s call
-kind_uses h clear s w (Delete x c) = Reads (value s x) ∷ Guards (value s x) ∷ (views (is_virtual h (destructor_of h c)) (value s x) ++ Deletes (value s x) (is_virtual h (destructor_of h c)) ∷ [])
-kind_uses h clear s w (If x other behind) = Reads (value s x) ∷ []
-kind_uses h clear s w (While x behind) = Reads (value s x) ∷ []
+kind_uses h clear s w (Delete x c) = Reads (value_of_operand s x) ∷ Guards (value_of_operand s x) ∷ (uses_of_view (is_virtual h (destructor_of h c)) (value_of_operand s x) ++ Deletes (value_of_operand s x) (is_virtual h (destructor_of h c)) ∷ [])
+kind_uses h clear s w (If x other behind) = Reads (value_of_operand s x) ∷ []
+kind_uses h clear s w (While x behind) = Reads (value_of_operand s x) ∷ []
 kind_uses h clear s w (Return x) = return_uses s w x
-kind_uses h clear s w (Print x) = Reads (value s x) ∷ []
-kind_uses h clear s w (PrintType x c) = arrow (value s x) ++ Views (value s x) ∷ []
-kind_uses h clear s w (PrintView x c) = Reads (value s x) ∷ Guards (value s x) ∷ Views (value s x) ∷ []
-kind_uses h clear s w (Dump x c) = Reads (value s x) ∷ Follows (value s x) ∷ Dumps (value s x) ∷ []
+kind_uses h clear s w (Print x) = Reads (value_of_operand s x) ∷ []
+kind_uses h clear s w (PrintType x c) = arrow (value_of_operand s x) ++ Views (value_of_operand s x) ∷ []
+kind_uses h clear s w (PrintView x c) = Reads (value_of_operand s x) ∷ Guards (value_of_operand s x) ∷ Views (value_of_operand s x) ∷ []
+kind_uses h clear s w (Dump x c) = Reads (value_of_operand s x) ∷ Follows (value_of_operand s x) ∷ Dumps (value_of_operand s x) ∷ []

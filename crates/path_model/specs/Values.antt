@@ -53,10 +53,10 @@ variable_value s (Global n) = or_unset (slice_get s.globals n)
 variable_value s (Local n) = or_unset (slice_get s.locals n)
 
 -- the value of an operand
-abbrev pub value : Sight → TypedOperand → Value
-value s (VariableOperand x) = variable_value s x
-value s This = s.this
-value s (NumberOperand z) = Number z
+abbrev pub value_of_operand : Sight → TypedOperand → Value
+value_of_operand s (VariableOperand x) = variable_value s x
+value_of_operand s This = s.this
+value_of_operand s (NumberOperand z) = Number z
 
 -- a subobject of the part's class, as a part
 abbrev pub inner_part : ObjectPart → Subobject → ObjectPart
@@ -77,13 +77,13 @@ to_number f Null = Null
 to_number f (Pointer p) = Pointer p
 
 -- a value, converted
-abbrev pub converted : Value → Conversion → Value
-converted v (ToNumber t) = to_number (stored_as t) v
-converted v (ToBits t n) = to_number (kept_in t n) v
-converted v ToNull = Null
-converted v ToSame = v
-converted v (ToBase i) = to_base i v
+abbrev pub converted_to : Value → Conversion → Value
+converted_to v (ToNumber t) = to_number (stored_as t) v
+converted_to v (ToBits t n) = to_number (kept_in t n) v
+converted_to v ToNull = Null
+converted_to v ToSame = v
+converted_to v (ToBase i) = to_base i v
 
 -- the value of an operand, converted
 abbrev pub argument_value : Sight → Argument → Value
-argument_value s a = converted (value s a.operand) a.conversion
+argument_value s a = converted_to (value_of_operand s a.operand) a.conversion

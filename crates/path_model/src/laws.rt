@@ -18,27 +18,27 @@ ghost use Rattle.path_plan.specs.Phases.{is_complete};
 ghost use Rattle.path_plan.specs.Views.{Settled};
 ghost use Rattle.path_model.specs.Values.{Objects, Sight, inner_part};
 ghost use Rattle.path_model.specs.Places.{passed_part};
-ghost use Rattle.path_model.specs.Uses.{Use, Wanted};
-ghost use Rattle.path_model.specs.Rules.{breaks, refusal, uses_of, is_broken, is_unready, is_outside, IsLeast, closing_refusal, returns_value};
-ghost use Rattle.path_model.specs.Typed.{AllSettled, IsPassed, IsTyped};
+ghost use Rattle.path_model.specs.Uses.{StatementUse, Wanted};
+ghost use Rattle.path_model.specs.Rules.{breaks, statement_refusal, uses_of, is_broken, is_unready, is_outside, IsLeast, closing_refusal, returns_value};
+ghost use Rattle.path_model.specs.Typed.{AllSettled, IsPassed, IsStatementAt};
 ghost use Rattle.path_model.specs.Order.{Asked, asks, first_broken, staged};
 
 /// The tests of a statement, in the order in which a machine can ask them, answer its refusal.
 pub fn tests_refuse()
-    ensures { (h : Classes) (s : Sight) (w : Wanted) (kind : TypedKind) → IsHierarchy h → AllSettled h s.objects → IsTyped h s w kind → refusal h s w kind ≡ staged h s w kind }
+    ensures { (h : Classes) (s : Sight) (w : Wanted) (kind : TypedKind) → IsHierarchy h → AllSettled h s.objects → IsStatementAt h s w kind → statement_refusal h s w kind ≡ staged h s w kind }
 {}
 
 /// Tests in two stages answer what the first stage answers, and else what the second does; and every rule that a use breaks is
 /// one that is asked of it.
 pub fn stages_follow()
     ensures stages { (h : Classes) (s : Objects) (first second : List Asked) → first_broken h s (first ++ second) ≡ option_or (first_broken h s first) (first_broken h s second) }
-    ensures asked { (h : Classes) (s : Objects) (rule : Undefined) (u : Use) → breaks h s rule u ≡ true → asks rule u ≡ true }
+    ensures asked { (h : Classes) (s : Objects) (rule : Undefined) (u : StatementUse) → breaks h s rule u ≡ true → asks rule u ≡ true }
 {}
 
 /// A refusal is the rule of the smallest number that some use of the statement breaks; without one no use breaks a rule.
 /// The closing step of a function's body is refused exactly where the function has a result.
 pub fn refusal_is_least()
-    ensures statement { (h : Classes) (s : Sight) (w : Wanted) (kind : TypedKind) → IsLeast (is_broken h s.objects (uses_of h s w kind)) (refusal h s w kind) }
+    ensures statement { (h : Classes) (s : Sight) (w : Wanted) (kind : TypedKind) → IsLeast (is_broken h s.objects (uses_of h s w kind)) (statement_refusal h s w kind) }
     ensures closing { (h : Classes) (s : Objects) (g : FunctionId) → closing_refusal h s g ≡ (if returns_value (return_of h g) then Some MissingReturn else None) }
 {}
 

@@ -3,7 +3,7 @@
 //! A state holds the heap objects made so far, the phase of each of their class subobjects, the value of each leaf, the
 //! globals, and a frame for each body and each plan of an object that has begun. A pointer names a subobject of an object by
 //! its path. No address, offset, table or thunk occurs here. This crate owns the definitions of a value and of a state, of the
-//! uses that a statement makes, of the rules that refuse it (`refusal`), of one step (`step`), which is a function, of the
+//! uses that a statement makes, of the rules that refuse it (`statement_refusal`), of one step (`step`), which is a function, of the
 //! limits outside the step, and of a whole run with what it tells (`run_of`).
 //!
 //! The layers above may rely on the laws: a refusal is the least rule that a use of the statement breaks, and the tests in the

@@ -18,7 +18,7 @@ use Rattle.foundation.proofs.Members.{contains_from_has, has_from_contains, once
 use Rattle.path_plan.specs.Plans.{Form, InFull, AsBase, virtual_order}
 use Rattle.path_plan.proofs.Order.{order_has, order_virtual}
 use Rattle.path_numbers.specs.Sizes.{total, base_size, unit_size, member_size, sizes_of}
-use Rattle.path_numbers.specs.invariants.Lines.{AreSmall}
+use Rattle.path_numbers.specs.invariants.Lines.{HaveFewParts}
 use Rattle.path_numbers.proofs.Sized.{total_same, sizes_are}
 use Rattle.path_numbers.proofs.Ways.{orders_once}
 
@@ -80,5 +80,5 @@ weighed h keeps (suc n) f c lt = form (λ g d less. weighed h keeps n g d (omega
 pub numbers_are_parts : (h : Classes) → IsHierarchy h → (c : ClassId) → sizes_of h InFull c ≡ parts_of h c
 numbers_are_parts h keeps c = weighed h keeps (c.0 + 1) InFull c (omega arith)
 
-pub are_small : (h : Classes) → IsHierarchy h → ((c : ClassId) → c.0 < length h → IsWithinLimits h c) → AreSmall h
+pub are_small : (h : Classes) → IsHierarchy h → ((c : ClassId) → c.0 < length h → IsWithinLimits h c) → HaveFewParts h
 are_small h keeps limits = record { each = λ c lt. let a = numbers_are_parts h keeps c in let b = (limits c lt).parts in omega arith }

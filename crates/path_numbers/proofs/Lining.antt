@@ -5,7 +5,7 @@ use Rattle.std.proofs.lemmas.Bool.{cases_lt}
 use Rattle.std.proofs.lemmas.List.{get_or_append_left, get_or_push, length_push}
 use Rattle.path_numbers.specs.declared.numbers.Line.{Line}
 use Rattle.path_numbers.specs.Sizes.{before, total}
-use Rattle.path_numbers.specs.invariants.Lines.{IsLineTo, IsLine}
+use Rattle.path_numbers.specs.invariants.Lines.{IsLineTo, IsLinedUp}
 use Rattle.path_numbers.proofs.Intervals.{before_within}
 
 before_next : {X : Type 0} (f : X → ℕ) (i : ℕ) (xs : List X) (x : X) → slice_get xs i ≡ Some x → before f (suc i) xs ≡ before f i xs + f x
@@ -33,7 +33,7 @@ line_more f start xs n line new x width is at w items end = record {
   end = let b = before_next f n xs x at in let k = is.end in let s : before f (n + 1) xs ≡ before f (suc n) xs = ap (λ j. before f j xs) (let q : n + 1 ≡ suc n = omega arith in q) in omega arith;
 }
 
-pub line_all : {X : Type 0} (f : X → ℕ) (start : ℕ) (xs : List X) (n : ℕ) (line : Line) → IsLineTo f start xs n line → length xs ≤ n → IsLine f start xs line
+pub line_all : {X : Type 0} (f : X → ℕ) (start : ℕ) (xs : List X) (n : ℕ) (line : Line) → IsLineTo f start xs n line → length xs ≤ n → IsLinedUp f start xs line
 line_all f start xs n line is le = record { each = λ i lt. is.each i (omega arith); end = is.end ∙ ap (λ k. start + k) (before_all f n xs le) }
 
 -- the next thing has room

@@ -18,7 +18,7 @@ use Rattle.path_plan.specs.Plans.{InFull, AsBase, is_among, virtual_order}
 use Rattle.path_plan.proofs.Order.{order_has, order_virtual, among_has}
 use Rattle.path_numbers.specs.declared.numbers.ClassNumbers.{ClassNumbers}
 use Rattle.path_numbers.specs.Sizes.{before, base_size, sizes_of, base_offset, shared_offset}
-use Rattle.path_numbers.specs.Numbers.{before_first, base_number, shared_number, path_number, IsSharedAt, IsRow}
+use Rattle.path_numbers.specs.Numbers.{before_first, base_number, shared_number, path_number, IsSharedAt, HasClassNumbers}
 use Rattle.path_numbers.proofs.Intervals.{before_within, base_size_is, size_some}
 use Rattle.path_numbers.proofs.Sized.{sizes_are}
 use Rattle.path_numbers.proofs.Ways.{orders_once}
@@ -55,7 +55,7 @@ unfolding shared_number
 shared_some h keeps c v = let a = size_some h (sizes_of h) (sizes_are h keeps) AsBase c in omega arith
 
 -- what the table of a row tells of a class
-pub shared_told : (h : Classes) → IsHierarchy h → (c v : ClassId) (row : ClassNumbers) → IsRow h c row → (offset : ℕ) (result : Option ℕ) → offset ≡ get_or row.shared v.0 0 → result ≡ (if nat_eq offset 0 then None else Some offset) → IsSharedAt h c v result
+pub shared_told : (h : Classes) → IsHierarchy h → (c v : ClassId) (row : ClassNumbers) → HasClassNumbers h c row → (offset : ℕ) (result : Option ℕ) → offset ≡ get_or row.shared v.0 0 → result ≡ (if nat_eq offset 0 then None else Some offset) → IsSharedAt h c v result
 shared_told h keeps c v row is offset result e r = ⊎_elim
     (λ a. split (is_among (virtual_order h c) v) (λ b. is_among (virtual_order h c) v ≡ b → offset ≡ (if b then shared_number h c v else 0) → IsSharedAt h c v result)
     (λ _ t k.

@@ -19,8 +19,8 @@ use Rattle.path_numbers.specs.declared.numbers.ClassNumbers.{ClassNumbers}
 use Rattle.path_numbers.specs.declared.numbers.Line.{Line}
 use Rattle.path_numbers.specs.declared.sharing.Sharing.{Sharing}
 use Rattle.path_numbers.specs.Sizes.{before, total, base_size, member_size, sizes_of, member_offset}
-use Rattle.path_numbers.specs.Numbers.{place_among, shared_number, IsRow, AreRows}
-use Rattle.path_numbers.specs.invariants.Lines.{IsLine, AreSmall}
+use Rattle.path_numbers.specs.Numbers.{place_among, shared_number, HasClassNumbers, AreNumberRows}
+use Rattle.path_numbers.specs.invariants.Lines.{IsLinedUp, HaveFewParts}
 use Rattle.path_numbers.specs.invariants.Sharing.{meet_all, brings, IsSharing, HasRoom}
 use Rattle.path_numbers.proofs.Sized.{sizes_are}
 use Rattle.path_numbers.proofs.Meeting.{order_met}
@@ -49,13 +49,13 @@ pub record HasSums (h : Classes) (c : ClassId) : Type 0 where
   pub full : sizes_of h InFull c ≡ sizes_of h AsBase c + total (sizes_of h AsBase) (virtual_order h c)
   pub small : sizes_of h InFull c ≤ 65536
 
-pub has_sums : (h : Classes) → IsHierarchy h → AreSmall h → (c : ClassId) → c.0 < length h → HasSums h c
+pub has_sums : (h : Classes) → IsHierarchy h → HaveFewParts h → (c : ClassId) → c.0 < length h → HasSums h c
 has_sums h keeps small c lt = record { own = (sizes_are h keeps).own c; full = (sizes_are h keeps).full c; small = small.each c lt }
 
-pub bases_room : (h : Classes) → IsHierarchy h → AreSmall h → (c : ClassId) → c.0 < length h → (list : List (Base ClassId)) → list ≡ bases_of h c → 1 + total (base_size (sizes_of h)) list ≤ 65536
+pub bases_room : (h : Classes) → IsHierarchy h → HaveFewParts h → (c : ClassId) → c.0 < length h → (list : List (Base ClassId)) → list ≡ bases_of h c → 1 + total (base_size (sizes_of h)) list ≤ 65536
 bases_room h keeps small c lt list e = let s = has_sums h keeps small c lt in let a = s.own in let b = s.full in let k = s.small in let t = ap (total (base_size (sizes_of h))) e in omega arith
 
-pub members_room : (h : Classes) → IsHierarchy h → AreSmall h → (c : ClassId) → c.0 < length h → (bases : List (Base ClassId)) (list : List (Member ClassId)) (start : ℕ) → bases ≡ bases_of h c → list ≡ members_of h c → start ≡ 1 + total (base_size (sizes_of h)) bases
+pub members_room : (h : Classes) → IsHierarchy h → HaveFewParts h → (c : ClassId) → c.0 < length h → (bases : List (Base ClassId)) (list : List (Member ClassId)) (start : ℕ) → bases ≡ bases_of h c → list ≡ members_of h c → start ≡ 1 + total (base_size (sizes_of h)) bases
     → start + total (member_size (sizes_of h)) list ≤ 65536
 members_room h keeps small c lt bases list start eb em es = let s = has_sums h keeps small c lt in let a = s.own in let b = s.full in let k = s.small in let t = ap (total (base_size (sizes_of h))) eb in let u = ap (total (member_size (sizes_of h))) em in omega arith
 
@@ -66,7 +66,7 @@ own_is h keeps c bases list start end eb em es ee = let a = (sizes_are h keeps).
 pub all_met : (h : Classes) → IsHierarchy h → (c : ClassId) (bases : List (Base ClassId)) → bases ≡ bases_of h c → meet_all [] (flat_map (brings h) bases) ≡ virtual_order h c
 all_met h keeps c bases e = ap (λ (bs : List (Base ClassId)). meet_all [] (flat_map (brings h) bs)) e ∙ order_met h keeps c
 
-pub shared_room : (h : Classes) → IsHierarchy h → AreSmall h → (c : ClassId) → c.0 < length h → (bases : List (Base ClassId)) (start : ℕ) → bases ≡ bases_of h c → start ≡ sizes_of h AsBase c → HasRoom (sizes_of h) start (meet_all [] (flat_map (brings h) bases))
+pub shared_room : (h : Classes) → IsHierarchy h → HaveFewParts h → (c : ClassId) → c.0 < length h → (bases : List (Base ClassId)) (start : ℕ) → bases ≡ bases_of h c → start ≡ sizes_of h AsBase c → HasRoom (sizes_of h) start (meet_all [] (flat_map (brings h) bases))
 shared_room h keeps small c lt bases start eb es = record {
   room = let s = has_sums h keeps small c lt in let a = s.full in let k = s.small in let t = ap (total (sizes_of h AsBase)) (all_met h keeps c bases eb) in omega arith;
 }
@@ -80,10 +80,10 @@ unfolding shared_number
 shared_opened h c v = refl
 
 pub row_made : (h : Classes) → IsHierarchy h → (c : ClassId) (bases : List (Base ClassId)) (members : List (Member ClassId)) (first second : Line) (s : Sharing) (row : ClassNumbers) → bases ≡ bases_of h c → members ≡ members_of h c
-    → IsLine (base_size (sizes_of h)) 1 bases first → IsLine (member_size (sizes_of h)) first.end members second → IsSharing (sizes_of h) s
+    → IsLinedUp (base_size (sizes_of h)) 1 bases first → IsLinedUp (member_size (sizes_of h)) first.end members second → IsSharing (sizes_of h) s
     → s.order.items ≡ meet_all [] (flat_map (brings h) bases) → s.start ≡ second.end → length s.offsets.items ≡ c.0
     → row.as_base ≡ second.end → row.in_full ≡ s.end → row.bases ≡ first.offsets.items → row.members ≡ second.offsets.items → row.order ≡ s.order.items → row.shared ≡ s.offsets.items
-    → IsRow h c row
+    → HasClassNumbers h c row
 row_made h keeps c bases members first second s row eb em a b sharing met start count own full rb rm ro rs =
     let order : s.order.items ≡ virtual_order h c = met ∙ all_met h keeps c bases eb in
     let size : second.end ≡ sizes_of h AsBase c = own_is h keeps c bases members first.end second.end eb em a.end b.end in
@@ -101,18 +101,18 @@ row_made h keeps c bases members first second s row eb em a b sharing met start 
           ∙ ap (λ n. if is_among (virtual_order h c) v then n else 0) (sym (shared_opened h c v));
     }
 
-pub rows_none : (h : Classes) (rows : List ClassNumbers) → rows ≡ [] → AreRows h rows
+pub rows_none : (h : Classes) (rows : List ClassNumbers) → rows ≡ [] → AreNumberRows h rows
 rows_none h rows e = record { row = λ c row at. let k = ap (λ (l : List ClassNumbers). slice_get l c.0) e in absurd (cc) }
 
-pub rows_more : (h : Classes) (rows new : List ClassNumbers) (c : ClassId) (row : ClassNumbers) → AreRows h rows → length rows ≡ c.0 → IsRow h c row → new ≡ rows ++ row ∷ [] → AreRows h new
+pub rows_more : (h : Classes) (rows new : List ClassNumbers) (c : ClassId) (row : ClassNumbers) → AreNumberRows h rows → length rows ≡ c.0 → HasClassNumbers h c row → new ≡ rows ++ row ∷ [] → AreNumberRows h new
 rows_more h rows new c row are size is e = record {
   row = λ d x at. ⊎_elim (λ a. are.row d x a)
-      (λ a. subst (λ (y : ClassNumbers). IsRow h d y) (sym a.1) (subst (λ (k : ClassId). IsRow h k row) (numbered c d (let k = a.0 in omega arith)) is))
+      (λ a. subst (λ (y : ClassNumbers). HasClassNumbers h d y) (sym a.1) (subst (λ (k : ClassId). HasClassNumbers h k row) (numbered c d (let k = a.0 in omega arith)) is))
       (get_pushed rows row d.0 x (ap (λ (l : List ClassNumbers). slice_get l d.0) (sym e) ∙ at));
 }
   where
     numbered : (x y : ClassId) → x.0 ≡ y.0 → x ≡ y
     numbered x y e = same_id x y e
 
-pub row_found : (h : Classes) (rows : List ClassNumbers) (c : ClassId) (row : ClassNumbers) → c.0 < length rows → row ≡ get_or rows c.0 row → AreRows h rows → IsRow h c row
+pub row_found : (h : Classes) (rows : List ClassNumbers) (c : ClassId) (row : ClassNumbers) → c.0 < length rows → row ≡ get_or rows c.0 row → AreNumberRows h rows → HasClassNumbers h c row
 row_found h rows c row lt e are = are.row c row (slice_get-get_or rows c.0 row lt ∙ ap Some (sym e))

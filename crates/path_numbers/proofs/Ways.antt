@@ -12,7 +12,7 @@ use Rattle.cxx_subobject.proofs.ListLemmas.{EachOnce, split}
 use Rattle.path_plan.proofs.Order.{has_unmet}
 use Rattle.path_numbers.specs.Sizes.{Sizes, base_offset, member_offset, shared_offset}
 use Rattle.path_numbers.specs.Nodes.{Node, node, Kid, base_kid, element_kid, shared_kid, Under, here, deeper}
-use Rattle.path_numbers.specs.Hops.{Hop, arrive, IsPath, IsWay, stop, inherit, share, enter}
+use Rattle.path_numbers.specs.Hops.{Hop, arrive, IsNumberedPath, IsConstantWay, stop, inherit, share, enter}
 use Rattle.path_numbers.proofs.Naming.{OrdersOnce}
 
 unmet_once : (met list : List ClassId) → EachOnce (unmet met list)
@@ -38,11 +38,11 @@ pub record Arrives (h : Classes) (size : Sizes) (x : Node) (q : ObjectPart) (n :
   pub is_number : end.number ≡ x.number + n
   pub is_class : end.class ≡ e
 
-pub path_arrives : (h : Classes) (size : Sizes) (x : Node) (path : List ClassId) (n : ℕ) (e : ClassId) → IsPath h size x.class path n e → Arrives h size x (part x.part.object x.part.owner (subobject x.part.at.root (x.part.at.path ++ path))) n e
+pub path_arrives : (h : Classes) (size : Sizes) (x : Node) (path : List ClassId) (n : ℕ) (e : ClassId) → IsNumberedPath h size x.class path n e → Arrives h size x (part x.part.object x.part.owner (subobject x.part.at.root (x.part.at.path ++ path))) n e
 path_arrives h size x [] n e (z, c) = record { end = x; under = here x refl; is_part = ap (λ p. part x.part.object x.part.owner (subobject x.part.at.root p)) (sym (append-nil x.part.at.path)); is_number = omega arith; is_class = c }
 path_arrives h size x (b ∷ path) n e (i, base, r, at, way, class, is, more) =
     let y = node AsBase base.class (base_part x.part base) (x.number + base_offset h size x.class i) in
-    let a = path_arrives h size y path r e (subst (λ (t : ClassId). IsPath h size t path r e) (sym class) more) in
+    let a = path_arrives h size y path r e (subst (λ (t : ClassId). IsNumberedPath h size t path r e) (sym class) more) in
     let f : base_subobject x.part.at base ≡ subobject x.part.at.root (x.part.at.path ++ b ∷ []) = base_down x.part.at base way ∙ ap (λ (t : ClassId). subobject x.part.at.root (x.part.at.path ++ t ∷ [])) class in
     record {
       end = a.end;
@@ -53,10 +53,10 @@ path_arrives h size x (b ∷ path) n e (i, base, r, at, way, class, is, more) =
     }
 
 -- a way leads on from where it began
-pub way_arrives : (h : Classes) (size : Sizes) (f : Form) (c : ClassId) (hops : List Hop) (n : ℕ) (g : ClassId) → IsWay h size f c hops n g → (x : Node) → x.class ≡ c → (f ≡ InFull → x.form ≡ InFull) → Arrives h size x (arrive x.part hops) n g
+pub way_arrives : (h : Classes) (size : Sizes) (f : Form) (c : ClassId) (hops : List Hop) (n : ℕ) (g : ClassId) → IsConstantWay h size f c hops n g → (x : Node) → x.class ≡ c → (f ≡ InFull → x.form ≡ InFull) → Arrives h size x (arrive x.part hops) n g
 way_arrives h size _ _ _ _ _ (stop f c) x class full = record { end = x; under = here x refl; is_part = refl; is_number = omega arith; is_class = class }
 way_arrives h size _ _ _ _ _ (inherit f c e g path hops n r is more) x class full =
-    let a = path_arrives h size x path n e (subst (λ (t : ClassId). IsPath h size t path n e) (sym class) is) in
+    let a = path_arrives h size x path n e (subst (λ (t : ClassId). IsNumberedPath h size t path n e) (sym class) is) in
     let b = way_arrives h size AsBase e hops r g more a.end a.is_class (λ (u : AsBase ≡ InFull). absurd (cc)) in
     record {
       end = b.end;

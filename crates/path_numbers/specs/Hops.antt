@@ -27,17 +27,17 @@ arrive p [] = p
 arrive p (x ∷ hops) = arrive (hop p x) hops
 
 -- the path goes from class c to class e through direct non-virtual bases, n numbers on
-abbrev pub IsPath : Classes → Sizes → ClassId → List ClassId → ℕ → ClassId → Type 0
-IsPath h size c [] n e = (n ≡ 0) × (c ≡ e)
-IsPath h size c (b ∷ path) n e =
-    (i : ℕ) × (base : Base ClassId) × (r : ℕ) × (slice_get (bases_of h c) i ≡ Some base) × (base.is_virtual ≡ false) × (base.class ≡ b) × (n ≡ base_offset h size c i + r) × IsPath h size b path r e
+abbrev pub IsNumberedPath : Classes → Sizes → ClassId → List ClassId → ℕ → ClassId → Type 0
+IsNumberedPath h size c [] n e = (n ≡ 0) × (c ≡ e)
+IsNumberedPath h size c (b ∷ path) n e =
+    (i : ℕ) × (base : Base ClassId) × (r : ℕ) × (slice_get (bases_of h c) i ≡ Some base) × (base.is_virtual ≡ false) × (base.class ≡ b) × (n ≡ base_offset h size c i + r) × IsNumberedPath h size b path r e
 
 -- the way stays at constant distances: a shared base is entered only from a complete object
-pub data IsWay (h : Classes) (size : Sizes) : Form → ClassId → List Hop → ℕ → ClassId → Type 0 where
-  stop : (f : Form) (c : ClassId) → IsWay h size f c [] 0 c
-  inherit : (f : Form) (c e g : ClassId) (path : List ClassId) (hops : List Hop) (n r : ℕ) → IsPath h size c path n e → IsWay h size AsBase e hops r g
-      → IsWay h size f c (ToBase (subobject Whole (c ∷ path)) ∷ hops) (n + r) g
-  share : (c v e g : ClassId) (path : List ClassId) (hops : List Hop) (j n r : ℕ) → slice_get (virtual_order h c) j ≡ Some v → IsPath h size v path n e → IsWay h size AsBase e hops r g
-      → IsWay h size InFull c (ToBase (subobject (Shared v) (v ∷ path)) ∷ hops) (shared_offset h size c j + (n + r)) g
-  enter : (f : Form) (c d g : ClassId) (m i : ℕ) (member : Member ClassId) (hops : List Hop) (r : ℕ) → slice_get (members_of h c) m ≡ Some member → member.ty ≡ Object d → i < elements_of member.count → IsWay h size InFull d hops r g
-      → IsWay h size f c (ToElement m i d ∷ hops) ((member_offset h size c m + i * size InFull d) + r) g
+pub data IsConstantWay (h : Classes) (size : Sizes) : Form → ClassId → List Hop → ℕ → ClassId → Type 0 where
+  stop : (f : Form) (c : ClassId) → IsConstantWay h size f c [] 0 c
+  inherit : (f : Form) (c e g : ClassId) (path : List ClassId) (hops : List Hop) (n r : ℕ) → IsNumberedPath h size c path n e → IsConstantWay h size AsBase e hops r g
+      → IsConstantWay h size f c (ToBase (subobject Whole (c ∷ path)) ∷ hops) (n + r) g
+  share : (c v e g : ClassId) (path : List ClassId) (hops : List Hop) (j n r : ℕ) → slice_get (virtual_order h c) j ≡ Some v → IsNumberedPath h size v path n e → IsConstantWay h size AsBase e hops r g
+      → IsConstantWay h size InFull c (ToBase (subobject (Shared v) (v ∷ path)) ∷ hops) (shared_offset h size c j + (n + r)) g
+  enter : (f : Form) (c d g : ClassId) (m i : ℕ) (member : Member ClassId) (hops : List Hop) (r : ℕ) → slice_get (members_of h c) m ≡ Some member → member.ty ≡ Object d → i < elements_of member.count → IsConstantWay h size InFull d hops r g
+      → IsConstantWay h size f c (ToElement m i d ∷ hops) ((member_offset h size c m + i * size InFull d) + r) g

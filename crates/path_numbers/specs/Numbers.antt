@@ -39,8 +39,8 @@ rooted_number h c Whole path = path_number h c path
 rooted_number h c (Shared v) path = shared_number h c v + path_number h v path
 
 -- from a complete object of class c to its subobject s
-abbrev pub number_in : Classes → ClassId → Subobject → ℕ
-number_in h c s = rooted_number h c s.root (tail_of s.path)
+abbrev pub subobject_number : Classes → ClassId → Subobject → ℕ
+subobject_number h c s = rooted_number h c s.root (tail_of s.path)
 
 -- how far v stands in a complete object of class c, where it is a virtual base of it
 abbrev pub IsSharedAt : Classes → ClassId → ClassId → Option ℕ → Type 0
@@ -48,7 +48,7 @@ IsSharedAt h c v None = HasVirtualBase h c v → ⊥
 IsSharedAt h c v (Some n) = HasVirtualBase h c v × (n ≡ shared_number h c v)
 
 -- a row has the sizes of class c, and the offsets of its bases, members and virtual bases; 0 tells that a class is none of these
-pub record IsRow (h : Classes) (c : ClassId) (row : ClassNumbers) : Type 0 where
+pub record HasClassNumbers (h : Classes) (c : ClassId) (row : ClassNumbers) : Type 0 where
   pub as_base : row.as_base ≡ sizes_of h AsBase c
   pub in_full : row.in_full ≡ sizes_of h InFull c
   pub bases : (i : ℕ) → i < length (bases_of h c) → get_or row.bases i 0 ≡ base_offset h (sizes_of h) c i
@@ -58,10 +58,10 @@ pub record IsRow (h : Classes) (c : ClassId) (row : ClassNumbers) : Type 0 where
   pub shared : (v : ClassId) → v.0 < c.0 → get_or row.shared v.0 0 ≡ (if is_among (virtual_order h c) v then shared_number h c v else 0)
 
 -- each row is that of the class of its number
-pub record AreRows (h : Classes) (rows : List ClassNumbers) : Type 0 where
-  pub row : (c : ClassId) (row : ClassNumbers) → slice_get rows c.0 ≡ Some row → IsRow h c row
+pub record AreNumberRows (h : Classes) (rows : List ClassNumbers) : Type 0 where
+  pub row : (c : ClassId) (row : ClassNumbers) → slice_get rows c.0 ≡ Some row → HasClassNumbers h c row
 
 -- the table of all classes of the hierarchy
-pub record AreNumbers (h : Classes) (list : List ClassNumbers) : Type 0 where
+pub record AreClassNumbers (h : Classes) (list : List ClassNumbers) : Type 0 where
   pub size : length list ≡ length h
-  pub rows : AreRows h list
+  pub rows : AreNumberRows h list

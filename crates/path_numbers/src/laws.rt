@@ -13,9 +13,9 @@ ghost use Rattle.path_plan.specs.Places.{part};
 ghost use Rattle.path_plan.specs.Plans.{Form, InFull, virtual_order};
 ghost use Rattle.path_numbers.specs.Sizes.{IsSizes, sizes_of, base_offset, shared_offset};
 ghost use Rattle.path_numbers.specs.Nodes.{Node, Under, IsGood, LeafAt};
-ghost use Rattle.path_numbers.specs.Hops.{Hop, IsWay, arrive};
+ghost use Rattle.path_numbers.specs.Hops.{Hop, IsConstantWay, arrive};
 ghost use Rattle.path_numbers.specs.Heap.{IsAt};
-ghost use Rattle.path_numbers.specs.Numbers.{base_number, shared_number, number_in};
+ghost use Rattle.path_numbers.specs.Numbers.{base_number, shared_number, subobject_number};
 ghost use Rattle.path_numbers.specs.Laws.{IsLeafOf, IsOwnedBy, Arrives};
 
 /// The sizes meet one equation a class, and a complete object takes as many numbers as it has parts and leaves.
@@ -35,7 +35,7 @@ pub fn numbers_name_parts()
 
 /// A way from a part into its bases and members arrives at a part under it, as many numbers on as the way says.
 pub fn ways_arrive()
-    ensures { (h : Classes) (f : Form) (c g : ClassId) (hops : List Hop) (n : ℕ) (x : Node) → IsWay h (sizes_of h) f c hops n g → x.class ≡ c → (f ≡ InFull → x.form ≡ InFull) → Arrives h x (arrive x.part hops) n g }
+    ensures { (h : Classes) (f : Form) (c g : ClassId) (hops : List Hop) (n : ℕ) (x : Node) → IsConstantWay h (sizes_of h) f c hops n g → x.class ≡ c → (f ≡ InFull → x.form ≡ InFull) → Arrives h x (arrive x.part hops) n g }
 {}
 
 /// Each part of an object belongs to a complete object, of which it is a subobject; and of a complete object each subobject
@@ -43,7 +43,7 @@ pub fn ways_arrive()
 pub fn parts_are_subobjects()
     ensures owner { (h : Classes) (x y : Node) → IsHierarchy h → IsGood x → x.form ≡ InFull → Under h (sizes_of h) y x → IsOwnedBy h x y }
     ensures some { (h : Classes) (x : Node) (s : Subobject) → IsHierarchy h → IsGood x → x.form ≡ InFull → IsSubobject h x.class s → (y : Node) × Under h (sizes_of h) y x × (y.part ≡ part x.part.object x.part.owner s) }
-    ensures number { (h : Classes) (x y : Node) (s : Subobject) → IsHierarchy h → IsGood x → x.form ≡ InFull → IsSubobject h x.class s → Under h (sizes_of h) y x → y.part ≡ part x.part.object x.part.owner s → y.number ≡ x.number + number_in h x.class s }
+    ensures number { (h : Classes) (x y : Node) (s : Subobject) → IsHierarchy h → IsGood x → x.form ≡ InFull → IsSubobject h x.class s → Under h (sizes_of h) y x → y.part ≡ part x.part.object x.part.owner s → y.number ≡ x.number + subobject_number h x.class s }
 {}
 
 /// The offset of a base or virtual base by its class is that by its place.

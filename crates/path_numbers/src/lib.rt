@@ -5,7 +5,7 @@
 //! the order in which they are built (ISO C++03 12.6.2 p5). Each object of a run stands behind those before it. So every
 //! distance but that to a virtual base depends on the class alone.
 //! This crate owns the sizes (`sizes_of`), the offsets, the nodes of this tree (`Node`, `Under`, `IsAt`), the ways through it
-//! (`IsWay`), the number of a subobject within its complete object (`number_in`), and the table of them all (`Numbers`).
+//! (`IsConstantWay`), the number of a subobject within its complete object (`subobject_number`), and the table of them all (`Numbers`).
 //!
 //! The layers above may rely on the laws: a number names one part and one leaf, a part has one number, ways arrive, each
 //! part is a subobject of its complete object, and a complete object has as many numbers as parts. `Numbers` is made once,

@@ -12,8 +12,8 @@ ghost use Rattle.cxx_subobject.specs.Subobjects.{IsSubobject, Leads, tail_of};
 ghost use Rattle.cxx_subobject.specs.Parts.{IsWithinLimits};
 ghost use Rattle.path_plan.specs.Plans.{AsBase, InFull, virtual_order};
 ghost use Rattle.path_numbers.specs.Sizes.{sizes_of, base_size, unit_size, member_size, total, base_offset, member_offset};
-ghost use Rattle.path_numbers.specs.Numbers.{base_number, path_number, number_in, IsSharedAt, IsRow, AreRows, AreNumbers};
-ghost use Rattle.path_numbers.specs.invariants.Lines.{IsLine, AreSmall};
+ghost use Rattle.path_numbers.specs.Numbers.{base_number, path_number, subobject_number, IsSharedAt, HasClassNumbers, AreNumberRows, AreClassNumbers};
+ghost use Rattle.path_numbers.specs.invariants.Lines.{IsLinedUp, HaveFewParts};
 
 use crate::sharing::shared_of;
 use cxx_hierarchy::{Base, ClassId, FieldType, Hierarchy, Member};
@@ -62,7 +62,7 @@ impl Line {
 /// The row of a class.
 pub(crate) fn row_at(rows: &[ClassNumbers], c: ClassId) -> &ClassNumbers
     requires { c.0 < length rows.now }
-    ensures { (h : Classes) → AreRows h rows.now → IsRow h c result.now }
+    ensures { (h : Classes) → AreNumberRows h rows.now → HasClassNumbers h c result.now }
 {
     &rows[c.0 as usize]
 }
@@ -70,7 +70,7 @@ pub(crate) fn row_at(rows: &[ClassNumbers], c: ClassId) -> &ClassNumbers
 /// How many numbers a base takes: none where it is virtual.
 fn base_width(h: &Hierarchy, rows: &[ClassNumbers], base: &Base<ClassId>) -> u32
     requires known { base.now.class.0 < length rows.now }
-    requires rows { AreRows h.now rows.now }
+    requires rows { AreNumberRows h.now rows.now }
     ensures { result ≡ base_size (sizes_of h.now) base.now }
 {
     if base.is_virtual {
@@ -88,9 +88,9 @@ fn base_line(
     bases: &[Base<ClassId>],
 ) -> Result<Line, NoMemory>
     requires known { All (λ (base : Base ClassId). base.class.0 < length rows.now) bases.now }
-    requires rows { AreRows h.now rows.now }
+    requires rows { AreNumberRows h.now rows.now }
     requires room { 1 + total (base_size (sizes_of h.now)) bases.now ≤ 65536 }
-    ensures { IfOk result (IsLine (base_size (sizes_of h.now)) 1 bases.now) }
+    ensures { IfOk result (IsLinedUp (base_size (sizes_of h.now)) 1 bases.now) }
 {
     let mut line = Line {
         offsets: Vec::new(alloc),
@@ -105,7 +105,7 @@ fn base_line(
 /// How many numbers an element of a member takes.
 fn unit_width(h: &Hierarchy, rows: &[ClassNumbers], ty: &FieldType<ClassId>) -> u32
     requires known { (d : ClassId) → ty.now ≡ Object d → d.0 < length rows.now }
-    requires rows { AreRows h.now rows.now }
+    requires rows { AreNumberRows h.now rows.now }
     ensures { result ≡ unit_size (sizes_of h.now) ty.now }
 {
     match ty {
@@ -117,7 +117,7 @@ fn unit_width(h: &Hierarchy, rows: &[ClassNumbers], ty: &FieldType<ClassId>) -> 
 /// How many numbers all elements of a member take.
 fn member_width(h: &Hierarchy, rows: &[ClassNumbers], member: &Member<ClassId>) -> u32
     requires known { (d : ClassId) → member.now.ty ≡ Object d → d.0 < length rows.now }
-    requires rows { AreRows h.now rows.now }
+    requires rows { AreNumberRows h.now rows.now }
     requires room { member_size (sizes_of h.now) member.now ≤ 65536 }
     ensures { result ≡ member_size (sizes_of h.now) member.now }
 {
@@ -133,9 +133,9 @@ fn member_line(
     start: u32,
 ) -> Result<Line, NoMemory>
     requires known { (m : Member ClassId) → (d : ClassId) → Contains members.now m → m.ty ≡ Object d → d.0 < length rows.now }
-    requires rows { AreRows h.now rows.now }
+    requires rows { AreNumberRows h.now rows.now }
     requires room { start + total (member_size (sizes_of h.now)) members.now ≤ 65536 }
-    ensures { IfOk result (IsLine (member_size (sizes_of h.now)) start members.now) }
+    ensures { IfOk result (IsLinedUp (member_size (sizes_of h.now)) start members.now) }
 {
     let mut line = Line {
         offsets: Vec::new(alloc),
@@ -156,9 +156,9 @@ fn row_of(
 ) -> Result<ClassNumbers, NoMemory>
     requires next { length rows.now ≡ c.0 }
     requires known { c.0 < length h.now }
-    requires rows { AreRows h.now rows.now }
-    requires small { AreSmall h.now }
-    ensures { IfOk result (IsRow h.now c) }
+    requires rows { AreNumberRows h.now rows.now }
+    requires small { HaveFewParts h.now }
+    ensures { IfOk result (HasClassNumbers h.now c) }
 {
     h.keeps();
     let class = h.class(c);
@@ -197,7 +197,7 @@ impl Numbers {
     /// Errors: want of memory.
     pub fn new(alloc: Global, h: &Hierarchy) -> Result<Numbers, NoMemory>
         requires limits { (c : ClassId) → c.0 < length h.now → IsWithinLimits h.now c }
-        ensures { IfOk result (AreNumbers h.now) }
+        ensures { IfOk result (AreClassNumbers h.now) }
     {
         h.keeps();
         let mut rows = Vec::new(alloc);
@@ -211,7 +211,7 @@ impl Numbers {
     /// How many numbers a part of a class takes without virtual bases.
     pub fn as_base(&self, c: ClassId) -> u32
         requires { c.0 < length self.now }
-        ensures { (h : Classes) → AreNumbers h self.now → result ≡ sizes_of h AsBase c }
+        ensures { (h : Classes) → AreClassNumbers h self.now → result ≡ sizes_of h AsBase c }
     {
         row_at(&self.rows, c).as_base
     }
@@ -219,7 +219,7 @@ impl Numbers {
     /// How many numbers a complete object of a class takes.
     pub fn in_full(&self, c: ClassId) -> u32
         requires { c.0 < length self.now }
-        ensures { (h : Classes) → AreNumbers h self.now → result ≡ sizes_of h InFull c }
+        ensures { (h : Classes) → AreClassNumbers h self.now → result ≡ sizes_of h InFull c }
     {
         row_at(&self.rows, c).in_full
     }
@@ -227,7 +227,7 @@ impl Numbers {
     /// How far a direct base stands behind a part, by its place in the class head; of a virtual one this says nothing.
     pub fn base_offset(&self, c: ClassId, i: usize) -> u32
         requires { c.0 < length self.now }
-        ensures { (h : Classes) → AreNumbers h self.now → i < length (bases_of h c) → result ≡ base_offset h (sizes_of h) c i }
+        ensures { (h : Classes) → AreClassNumbers h self.now → i < length (bases_of h c) → result ≡ base_offset h (sizes_of h) c i }
     {
         offset_at(row_at(&self.rows, c).bases.as_slice(), i)
     }
@@ -235,7 +235,7 @@ impl Numbers {
     /// How far element 0 of a member stands behind a part.
     pub fn member_offset(&self, c: ClassId, m: usize) -> u32
         requires { c.0 < length self.now }
-        ensures { (h : Classes) → AreNumbers h self.now → m < length (members_of h c) → result ≡ member_offset h (sizes_of h) c m }
+        ensures { (h : Classes) → AreClassNumbers h self.now → m < length (members_of h c) → result ≡ member_offset h (sizes_of h) c m }
     {
         offset_at(row_at(&self.rows, c).members.as_slice(), m)
     }
@@ -243,7 +243,7 @@ impl Numbers {
     /// How far a virtual base stands behind a complete object; None where the class is no virtual base of it.
     pub fn shared_offset(&self, c: ClassId, v: ClassId) -> Option<u32>
         requires { c.0 < length self.now }
-        ensures { (h : Classes) → IsHierarchy h → AreNumbers h self.now → IsSharedAt h c v result }
+        ensures { (h : Classes) → IsHierarchy h → AreClassNumbers h self.now → IsSharedAt h c v result }
     {
         some_offset(offset_at(row_at(&self.rows, c).shared.as_slice(), v.0 as usize))
     }
@@ -251,14 +251,14 @@ impl Numbers {
     /// The virtual bases of a class, in the order in which they are built.
     pub fn virtual_bases(&self, c: ClassId) -> &[ClassId]
         requires { c.0 < length self.now }
-        ensures { (h : Classes) → AreNumbers h self.now → result.now ≡ virtual_order h c }
+        ensures { (h : Classes) → AreClassNumbers h self.now → result.now ≡ virtual_order h c }
     {
         row_at(&self.rows, c).order.as_slice()
     }
 
     /// How far a direct base that is not virtual stands behind a part of class c, by the base's class; 0 where b is none.
     pub fn base_number(&self, h: &Hierarchy, c: ClassId, b: ClassId) -> u32
-        requires { AreNumbers h.now self.now }
+        requires { AreClassNumbers h.now self.now }
         ensures { IsDirectBase h.now c false b → result ≡ base_number h.now c b }
     {
         h.keeps();
@@ -278,7 +278,7 @@ impl Numbers {
     pub fn path_offset(&self, h: &Hierarchy, c: ClassId, path: &[ClassId]) -> u32
         requires known { c.0 < length h.now }
         requires limits { (d : ClassId) → d.0 < length h.now → IsWithinLimits h.now d }
-        requires numbers { AreNumbers h.now self.now }
+        requires numbers { AreClassNumbers h.now self.now }
         requires path { Leads h.now c path.now }
         ensures { result ≡ path_number h.now c path.now }
     {
@@ -293,9 +293,9 @@ impl Numbers {
     pub fn number_in(&self, h: &Hierarchy, c: ClassId, s: &Subobject) -> u32
         requires known { c.0 < length h.now }
         requires limits { (d : ClassId) → d.0 < length h.now → IsWithinLimits h.now d }
-        requires numbers { AreNumbers h.now self.now }
+        requires numbers { AreClassNumbers h.now self.now }
         requires subobject { IsSubobject h.now c s.now }
-        ensures { result ≡ number_in h.now c s.now }
+        ensures { result ≡ subobject_number h.now c s.now }
     {
         h.keeps();
         let path = below_first(s.path.as_slice());

@@ -6,7 +6,7 @@ ghost use Rattle.cxx_hierarchy.specs.declared.records.ClassId.{ClassId};
 ghost use Rattle.cxx_hierarchy.specs.declared.records.Base.{Base};
 ghost use Rattle.path_plan.specs.Plans.{AsBase};
 ghost use Rattle.path_numbers.specs.Sizes.{sizes_of};
-ghost use Rattle.path_numbers.specs.Numbers.{AreRows};
+ghost use Rattle.path_numbers.specs.Numbers.{AreNumberRows};
 ghost use Rattle.path_numbers.specs.invariants.Sharing.{met, meet_all, brings, IsSharing, HasRoom};
 
 use crate::numbers::{ClassNumbers, row_at};
@@ -32,7 +32,7 @@ impl Sharing {
     fn meet(&mut self, h: &Hierarchy, rows: &[ClassNumbers], v: ClassId) -> Result<(), NoMemory>
         requires known { v.0 < length rows.now }
         requires places { v.0 < length self.old.offsets.items }
-        requires rows { AreRows h.now rows.now }
+        requires rows { AreNumberRows h.now rows.now }
         requires sharing { IsSharing (sizes_of h.now) self.old }
         requires room { HasRoom (sizes_of h.now) self.old.start (met self.old.order.items v) }
         ensures sharing { OnOk result (IsSharing (sizes_of h.now) self.new) }
@@ -60,7 +60,7 @@ impl Sharing {
     ) -> Result<(), NoMemory>
         requires known { All (λ (v : ClassId). v.0 < length rows.now) list.now }
         requires places { length self.old.offsets.items ≡ length rows.now }
-        requires rows { AreRows h.now rows.now }
+        requires rows { AreNumberRows h.now rows.now }
         requires sharing { IsSharing (sizes_of h.now) self.old }
         requires room { HasRoom (sizes_of h.now) self.old.start (meet_all self.old.order.items list.now) }
         ensures sharing { OnOk result (IsSharing (sizes_of h.now) self.new) }
@@ -83,7 +83,7 @@ impl Sharing {
     ) -> Result<(), NoMemory>
         requires known { base.now.class.0 < length rows.now }
         requires places { length self.old.offsets.items ≡ length rows.now }
-        requires rows { AreRows h.now rows.now }
+        requires rows { AreNumberRows h.now rows.now }
         requires sharing { IsSharing (sizes_of h.now) self.old }
         requires room { HasRoom (sizes_of h.now) self.old.start (meet_all self.old.order.items (brings h.now base.now)) }
         ensures sharing { OnOk result (IsSharing (sizes_of h.now) self.new) }
@@ -110,7 +110,7 @@ pub(crate) fn shared_of(
     start: u32,
 ) -> Result<Sharing, NoMemory>
     requires known { All (λ (base : Base ClassId). base.class.0 < length rows.now) bases.now }
-    requires rows { AreRows h.now rows.now }
+    requires rows { AreNumberRows h.now rows.now }
     requires start { 1 ≤ start }
     requires room { HasRoom (sizes_of h.now) start (meet_all [] (flat_map (brings h.now) bases.now)) }
     ensures sharing { IfOk result (IsSharing (sizes_of h.now)) }

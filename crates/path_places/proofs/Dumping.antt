@@ -24,7 +24,7 @@ use Rattle.path_plan.specs.Plans.{InFull, upto}
 use Rattle.path_plan.specs.Whole.{whole_part}
 use Rattle.path_numbers.specs.Sizes.{sizes_of, member_offset}
 use Rattle.path_numbers.specs.Nodes.{Node}
-use Rattle.path_numbers.specs.Numbers.{number_in}
+use Rattle.path_numbers.specs.Numbers.{subobject_number}
 use Rattle.path_numbers.specs.Heap.{root_at}
 use Rattle.path_numbers.proofs.Heap.{heap_number}
 use Rattle.path_model.specs.declared.outs.Value.{Value as Shown}
@@ -40,8 +40,8 @@ use Rattle.path_heap.specs.declared.state.Value.{Value as ValueCode}
 use Rattle.path_heap.specs.Points.{Points, PointsLeaf}
 use Rattle.path_heap.specs.Stands.{HeapStands, Means}
 use Rattle.path_heap.proofs.Asking.{root_is_at}
-use Rattle.path_places.specs.invariants.Leaves.{Grows, base_leaves, element_leaves, leaves_in, IsNumbered, IsMemberAt}
-use Rattle.path_places.specs.invariants.Dumps.{Seen, seen, IsSite, IsPlace, IsDumped, DumpsLeaf, DumpsValues, DumpsElements, DumpsMember, DumpsMembers, DumpsOwn, DumpsBases, DumpsWhole}
+use Rattle.path_places.specs.invariants.Leaves.{Grows, base_leaves, element_leaves, leaves_in, IsNumberedPart, IsMemberAt}
+use Rattle.path_places.specs.invariants.Dumps.{DumpedObject, dumped_object, IsDumpSite, LeadsToPart, IsDumped, DumpsLeaf, DumpsValues, DumpsElements, DumpsMember, DumpsMembers, DumpsOwn, DumpsBases, DumpsWhole}
 use Rattle.path_places.proofs.Growing.{grows_none, grows_more, grows_pushed, grows_next, grows_counted, upto_more}
 use Rattle.path_places.proofs.Opening.{leaves_open, leaves_past}
 use Rattle.path_places.proofs.Listing.{leaf_points, element_there, base_there}
@@ -51,7 +51,7 @@ use Rattle.path_places.proofs.Listing.{leaf_points, element_there, base_there}
 abbrev pub told_at : ℕ → ClassId → List Hop → Shown → DumpLeaf
 told_at object class hops value = record { at = record { object = object; class = class; hops = hops }; value = value }
 
-pub leaf_told : (g : Seen) (hops more : List Hop) (base : Subobject) (m i k : ℕ) (code : ValueCode) (value : Shown) → more ≡ hops ++ Inherit base ∷ MemberHop m i ∷ []
+pub leaf_told : (g : DumpedObject) (hops more : List Hop) (base : Subobject) (m i k : ℕ) (code : ValueCode) (value : Shown) → more ≡ hops ++ Inherit base ∷ MemberHop m i ∷ []
     → ((h : Classes) (s : Objects) (l : Leaf) → HeapStands h g.heap s → PointsLeaf h s.classes k l → Means h s.classes code (s.leaf l))
     → ((s : Objects) (v : Value) → HeapStands g.classes g.heap s → Means g.classes s.classes code v → value ≡ shown s v)
     → (list : List Hop) → list ≡ more → DumpsLeaf g hops base m i k (told_at g.object g.class list value)
@@ -69,10 +69,10 @@ leaf_told g hops more base m i k code value more_is means shows list list_is = r
 
 -- a member that is a number or a pointer
 
-pub values_none : (g : Seen) (hops : List Hop) (base : Subobject) (m k count : ℕ) (old : List DumpLeaf) → DumpsValues g hops base m k count 0 old old
+pub values_none : (g : DumpedObject) (hops : List Hop) (base : Subobject) (m k count : ℕ) (old : List DumpLeaf) → DumpsValues g hops base m k count 0 old old
 values_none g hops base m k count old = record { tells = λ s y c member t site place a type count_is. grows_none (IsDumped s) old }
 
-pub values_next : (g : Seen) (hops : List Hop) (base : Subobject) (m k count i : ℕ) → i < count → (old mid new : List DumpLeaf) (told : DumpLeaf) → DumpsValues g hops base m k count i old mid → DumpsLeaf g hops base m i ((k + i) % 2 ^ 32) told → new ≡ mid ++ told ∷ []
+pub values_next : (g : DumpedObject) (hops : List Hop) (base : Subobject) (m k count i : ℕ) → i < count → (old mid new : List DumpLeaf) (told : DumpLeaf) → DumpsValues g hops base m k count i old mid → DumpsLeaf g hops base m i ((k + i) % 2 ^ 32) told → new ≡ mid ++ told ∷ []
     → DumpsValues g hops base m k count (i + 1) old new
 values_next g hops base m k count i lt old mid new told before one new_is = record {
   tells = λ s y c member t site place a type count_is.
@@ -83,7 +83,7 @@ values_next g hops base m k count i lt old mid new told before one new_is = reco
       (grows_more (IsDumped s) old mid new (map (leaf y.part m) (upto i)) (leaf y.part m i ∷ []) (before.tells s y c member t site place a type count_is) (grows_pushed (IsDumped s) mid new (told ∷ []) (leaf y.part m i ∷ []) new_is (is, tt)));
 }
 
-pub values_dumped : (g : Seen) (hops : List Hop) (base : Subobject) (c : ClassId) (m : ℕ) (member : Member ClassId) (t : ValueType ClassId) → member.ty ≡ ValueField t → (k count : ℕ) → count ≡ elements_of member.count → (old new : List DumpLeaf) → DumpsValues g hops base m k count count old new → DumpsMember g hops base c m member k old new
+pub values_dumped : (g : DumpedObject) (hops : List Hop) (base : Subobject) (c : ClassId) (m : ℕ) (member : Member ClassId) (t : ValueType ClassId) → member.ty ≡ ValueField t → (k count : ℕ) → count ≡ elements_of member.count → (old new : List DumpLeaf) → DumpsValues g hops base m k count count old new → DumpsMember g hops base c m member k old new
 values_dumped g hops base c m member t type k count count_is old new told = record {
   tells = λ s y site place a.
       subst (λ (ty : FieldType ClassId). Grows (IsDumped s) old new (typed_leaves (leaves_of g.classes) y.part m (upto (elements_of member.count)) ty)) (sym type)
@@ -92,14 +92,14 @@ values_dumped g hops base c m member t type k count count_is old new told = reco
 
 -- a member that is an object
 
-pub elements_none : (g : Seen) (hops : List Hop) (base : Subobject) (m : ℕ) (d : ClassId) (k count : ℕ) (old : List DumpLeaf) → DumpsElements g hops base m d k count 0 old old
+pub elements_none : (g : DumpedObject) (hops : List Hop) (base : Subobject) (m : ℕ) (d : ClassId) (k count : ℕ) (old : List DumpLeaf) → DumpsElements g hops base m d k count 0 old old
 elements_none g hops base m d k count old = record { tells = λ s y c member site place a type count_is. grows_none (IsDumped s) old }
 
 -- a part of the same heap object
-site_of : (g : Seen) (s : Objects) (p q : ObjectPart) → p.object ≡ q.object → IsSite g s p → IsSite g s q
+site_of : (g : DumpedObject) (s : Objects) (p q : ObjectPart) → p.object ≡ q.object → IsDumpSite g s p → IsDumpSite g s q
 site_of g s p q e site = record { stands = site.stands; object = site.object ∙ ap (λ k. k + 1) e; class = site.class ∙ ap (object_class s) e }
 
-pub elements_next : (g : Seen) (hops : List Hop) (base : Subobject) (m : ℕ) (d : ClassId) (k count i size : ℕ) → i < count → size ≡ sizes_of g.classes InFull d → (more : List Hop) → more ≡ hops ++ Inherit base ∷ MemberHop m i ∷ []
+pub elements_next : (g : DumpedObject) (hops : List Hop) (base : Subobject) (m : ℕ) (d : ClassId) (k count i size : ℕ) → i < count → size ≡ sizes_of g.classes InFull d → (more : List Hop) → more ≡ hops ++ Inherit base ∷ MemberHop m i ∷ []
     → (old mid new : List DumpLeaf) → DumpsElements g hops base m d k count i old mid → (list : List Hop) → list ≡ more → DumpsWhole g list d ((k + (i * size) % 2 ^ 32) % 2 ^ 32) mid new → DumpsElements g hops base m d k count (i + 1) old new
 elements_next g hops base m d k count i size lt size_is more more_is old mid new before list list_is one = record {
   tells = λ s y c member site place a type count_is.
@@ -114,7 +114,7 @@ elements_next g hops base m d k count i size lt size_is more more_is old mid new
       grows_counted (IsDumped s) (element_leaves h y.part m d) i old mid new (before.tells s y c member site place a type count_is) (subst (λ (t : List Leaf). Grows (IsDumped s) mid new t) same grown);
 }
 
-pub objects_dumped : (g : Seen) (hops : List Hop) (base : Subobject) (c : ClassId) (m : ℕ) (d : ClassId) (member : Member ClassId) → member.ty ≡ Object d → (k count : ℕ) → count ≡ elements_of member.count → (old new : List DumpLeaf) → DumpsElements g hops base m d k count count old new → DumpsMember g hops base c m member k old new
+pub objects_dumped : (g : DumpedObject) (hops : List Hop) (base : Subobject) (c : ClassId) (m : ℕ) (d : ClassId) (member : Member ClassId) → member.ty ≡ Object d → (k count : ℕ) → count ≡ elements_of member.count → (old new : List DumpLeaf) → DumpsElements g hops base m d k count count old new → DumpsMember g hops base c m member k old new
 objects_dumped g hops base c m d member type k count count_is old new told = record {
   tells = λ s y site place a.
       subst (λ (ty : FieldType ClassId). Grows (IsDumped s) old new (typed_leaves (leaves_of g.classes) y.part m (upto (elements_of member.count)) ty)) (sym type)
@@ -123,10 +123,10 @@ objects_dumped g hops base c m d member type k count count_is old new told = rec
 
 -- the members of a class
 
-pub members_none : (g : Seen) (hops : List Hop) (base : Subobject) (c : ClassId) (k : ℕ) (old : List DumpLeaf) → DumpsMembers g hops base c k 0 old old
+pub members_none : (g : DumpedObject) (hops : List Hop) (base : Subobject) (c : ClassId) (k : ℕ) (old : List DumpLeaf) → DumpsMembers g hops base c k 0 old old
 members_none g hops base c k old = record { tells = λ s y site place a. grows_none (IsDumped s) old }
 
-pub members_next : (g : Seen) (hops : List Hop) (base : Subobject) (c : ClassId) (k m : ℕ) (member : Member ClassId) (offset : ℕ) → slice_get (members_of g.classes c) m ≡ Some member → offset ≡ member_offset g.classes (sizes_of g.classes) c m
+pub members_next : (g : DumpedObject) (hops : List Hop) (base : Subobject) (c : ClassId) (k m : ℕ) (member : Member ClassId) (offset : ℕ) → slice_get (members_of g.classes c) m ≡ Some member → offset ≡ member_offset g.classes (sizes_of g.classes) c m
     → (old mid new : List DumpLeaf) → DumpsMembers g hops base c k m old mid → DumpsMember g hops base c m member ((k + offset) % 2 ^ 32) mid new → DumpsMembers g hops base c k (m + 1) old new
 members_next g hops base c k m member offset listed offset_is old mid new before one = record {
   tells = λ s y site place a.
@@ -143,17 +143,17 @@ members_next g hops base c k m member offset listed offset_is old mid new before
 
 -- the subobjects of a complete object
 
-pub bases_none : (g : Seen) (hops : List Hop) (c : ClassId) (k : ℕ) (old : List DumpLeaf) → DumpsBases g hops c k [] old old
+pub bases_none : (g : DumpedObject) (hops : List Hop) (c : ClassId) (k : ℕ) (old : List DumpLeaf) → DumpsBases g hops c k [] old old
 bases_none g hops c k old = record { tells = λ s y site hops_are a full. grows_none (IsDumped s) old }
 
-bases_next : (g : Seen) → IsHierarchy g.classes → (hops : List Hop) (c : ClassId) (k : ℕ) (list : List Subobject) (j : ℕ) (i : Subobject) → j < length list → IsSubobject g.classes c (get_or list j i) → (d : ClassId) → class_of (get_or list j i) ≡ Some d → (number : ℕ) → number ≡ number_in g.classes c (get_or list j i)
+bases_next : (g : DumpedObject) → IsHierarchy g.classes → (hops : List Hop) (c : ClassId) (k : ℕ) (list : List Subobject) (j : ℕ) (i : Subobject) → j < length list → IsSubobject g.classes c (get_or list j i) → (d : ClassId) → class_of (get_or list j i) ≡ Some d → (number : ℕ) → number ≡ subobject_number g.classes c (get_or list j i)
     → (old mid new : List DumpLeaf) → DumpsBases g hops c k (take j list) old mid → DumpsOwn g hops (get_or list j i) d ((k + number) % 2 ^ 32) mid new → DumpsBases g hops c k (take (j + 1) list) old new
 bases_next g keeps hops c k list j i lt valid d class number number_told old mid new before one = record {
   tells = λ s y site hops_are a full.
       let h = g.classes in
       let b = get_or list j i in
       let z = base_there h keeps s.classes c d k y a full b valid class number number_told in
-      let place : IsPlace hops b z.node.part = record { hops_are = hops_are ∙ ap (λ (t : ObjectPart). hops_of_steps t.owner) (sym z.own); base_is = ap (λ (t : ObjectPart). t.at) (sym z.own) } in
+      let place : LeadsToPart hops b z.node.part = record { hops_are = hops_are ∙ ap (λ (t : ObjectPart). hops_of_steps t.owner) (sym z.own); base_is = ap (λ (t : ObjectPart). t.at) (sym z.own) } in
       let grown = one.tells s z.node (site_of g s y.part z.node.part (ap (λ (t : ObjectPart). t.object) (sym z.own)) site) place z.numbered in
       let told : Grows (IsDumped s) mid new (base_leaves h y.part b) =
       subst (λ (o : Option ClassId). Grows (IsDumped s) mid new (own_leaves h (leaves_of h) o (inner_part y.part b))) (sym class)
@@ -161,13 +161,13 @@ bases_next g keeps hops c k list j i lt valid d class number number_told old mid
       grows_next (IsDumped s) (base_leaves h y.part) list j i old mid new lt (before.tells s y site hops_are a full) told;
 }
 
-pub bases_step : (g : Seen) → IsHierarchy g.classes → (hops : List Hop) (c : ClassId) (k : ℕ) (list : List Subobject) (j : ℕ) (x : Subobject) → list ≡ preorder g.classes c → j < length list → x ≡ get_or list j x → (d : ClassId) → ((e : ClassId) → class_of x ≡ Some e → d ≡ e) → (number : ℕ) → number ≡ number_in g.classes c x
+pub bases_step : (g : DumpedObject) → IsHierarchy g.classes → (hops : List Hop) (c : ClassId) (k : ℕ) (list : List Subobject) (j : ℕ) (x : Subobject) → list ≡ preorder g.classes c → j < length list → x ≡ get_or list j x → (d : ClassId) → ((e : ClassId) → class_of x ≡ Some e → d ≡ e) → (number : ℕ) → number ≡ subobject_number g.classes c x
     → (old mid new : List DumpLeaf) → DumpsBases g hops c k (take j list) old mid → DumpsOwn g hops x d ((k + number) % 2 ^ 32) mid new → DumpsBases g hops c k (take (j + 1) list) old new
 bases_step g keeps hops c k list j x is lt at d told number number_told old mid new before one =
     let h = g.classes in
     let valid = valid_at h c list j x is lt at in
     let class = class_found h c d x valid told in
-    bases_next g keeps hops c k list j x lt (subst (λ (t : Subobject). IsSubobject h c t) at valid) d (ap class_of (sym at) ∙ class) number (number_told ∙ ap (number_in h c) at) old mid new before
+    bases_next g keeps hops c k list j x lt (subst (λ (t : Subobject). IsSubobject h c t) at valid) d (ap class_of (sym at) ∙ class) number (number_told ∙ ap (subobject_number h c) at) old mid new before
     (subst (λ (t : Subobject). DumpsOwn g hops t d ((k + number) % 2 ^ 32) mid new) at one)
 
 -- the whole heap object
@@ -185,14 +185,14 @@ told_out : (h : Classes) (s : Objects) (k object : ℕ) (c : ClassId) (told : Li
 told_out h s k object c told same listed is =
     ap (λ n. Some (dump_of (n + 1) c told)) (sym same) ∙ (ap (λ (t : List DumpLeaf). Some (dump_of (k + 1) c t)) is ∙ ap (object_out h s k) (sym listed))
 
-pub dump_told : (h : Classes) (heap : Heap) (s : Objects) → HeapStands h heap s → (k object start : ℕ) (c : ClassId) → k ≡ object → slice_get s.classes k ≡ Some c → Points h s.classes start (whole_part k c) → (none new : List DumpLeaf) → none ≡ [] → (hops : List Hop) → hops ≡ [] → DumpsWhole (seen h heap (object + 1) c) hops c start none new
+pub dump_told : (h : Classes) (heap : Heap) (s : Objects) → HeapStands h heap s → (k object start : ℕ) (c : ClassId) → k ≡ object → slice_get s.classes k ≡ Some c → Points h s.classes start (whole_part k c) → (none new : List DumpLeaf) → none ≡ [] → (hops : List Hop) → hops ≡ [] → DumpsWhole (dumped_object h heap (object + 1) c) hops c start none new
     → (told : List DumpLeaf) → told ≡ new → Some (dump_of (object + 1) c told) ≡ object_out h s k (slice_get s.classes k)
 dump_told h heap s stands k object start c same listed q none new none_is hops hops_is one told told_is =
     let x = root_at (sizes_of h) s.classes k c in
     let x_at = root_is_at h s.classes k c listed in
     let e = heap_number h (sizes_of h) stands.hierarchy s.classes q.node x q.at x_at q.is_part in
-    let site : IsSite (seen h heap (object + 1) c) s x.part = record { stands = stands; object = ap (λ n. n + 1) (sym same); class = ap class_or_first (sym listed) } in
-    let numbered : IsNumbered h s.classes c start x = record { few = stands.counts.few; at = x_at; class = refl; number = ap (λ (t : Node). t.number) (sym e) ∙ q.is_number } in
+    let site : IsDumpSite (dumped_object h heap (object + 1) c) s x.part = record { stands = stands; object = ap (λ n. n + 1) (sym same); class = ap class_or_first (sym listed) } in
+    let numbered : IsNumberedPart h s.classes c start x = record { few = stands.counts.few; at = x_at; class = refl; number = ap (λ (t : Node). t.number) (sym e) ∙ q.is_number } in
     let grown = one.tells s x site hops_is numbered refl in
     let along : AllZip (IsDumped s) new (flat_map (base_leaves h x.part) (preorder h c)) = grown [] (subst (λ (l : List DumpLeaf). AllZip (IsDumped s) l []) (sym none_is) tt) in
     let all = all_told s new (leaves_of h c (whole_part k c)) (subst (λ (ls : List Leaf). AllZip (IsDumped s) new ls) (sym (leaves_open h stands.hierarchy c (whole_part k c))) along) in

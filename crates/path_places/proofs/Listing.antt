@@ -23,7 +23,7 @@ use Rattle.path_plan.specs.Plans.{InFull, upto}
 use Rattle.path_plan.proofs.Members.{has_count}
 use Rattle.path_numbers.specs.Sizes.{sizes_of, member_offset}
 use Rattle.path_numbers.specs.Nodes.{Node, node, element_kid, here, deeper, LeafAt}
-use Rattle.path_numbers.specs.Numbers.{number_in}
+use Rattle.path_numbers.specs.Numbers.{subobject_number}
 use Rattle.path_numbers.proofs.Sized.{sizes_are}
 use Rattle.path_numbers.proofs.Leaves.{leaf_own}
 use Rattle.path_numbers.proofs.Heap.{at_good, at_within}
@@ -35,7 +35,7 @@ use Rattle.path_heap.specs.Points.{Points, PointsLeaf}
 use Rattle.path_heap.specs.Stands.{HeapStands, HasBegun}
 use Rattle.path_heap.proofs.Viewing.{at_less}
 use Rattle.path_heap.proofs.Reaching.{at_below}
-use Rattle.path_places.specs.invariants.Leaves.{Grows, base_leaves, element_leaves, leaves_in, IsNumbered, ListsBases, ListsMembers, IsMemberAt, ListsMember, ListsElements, ListsWhole, ListsOwn, ListsPart}
+use Rattle.path_places.specs.invariants.Leaves.{Grows, base_leaves, element_leaves, leaves_in, IsNumberedPart, ListsBases, ListsMembers, IsMemberAt, ListsMember, ListsElements, ListsWhole, ListsOwn, ListsPart}
 use Rattle.path_places.proofs.Growing.{zip_map, grows_none, grows_pushed, grows_next, grows_counted, flat_more}
 use Rattle.path_places.proofs.Opening.{leaves_open, leaves_past}
 
@@ -80,7 +80,7 @@ values_listed h keeps c member t type k count count_is old new is = record {
 
 pub record ElementThere (h : Classes) (classes : List ClassId) (d : ClassId) (k i size : ℕ) (p : ObjectPart) : Type 0 where
   pub node : Node
-  pub numbered : IsNumbered h classes d ((k + (i * size) % 2 ^ 32) % 2 ^ 32) node
+  pub numbered : IsNumberedPart h classes d ((k + (i * size) % 2 ^ 32) % 2 ^ 32) node
   pub full : node.form ≡ InFull
   pub is_part : node.part ≡ p
 
@@ -163,11 +163,11 @@ own_is h classes d p i z class is mid new grown =
 -- a subobject of a complete object, as a part with its number
 pub record BaseThere (h : Classes) (classes : List ClassId) (d : ClassId) (k : ℕ) (p : ObjectPart) (i : Subobject) : Type 0 where
   pub node : Node
-  pub numbered : IsNumbered h classes d k node
+  pub numbered : IsNumberedPart h classes d k node
   pub own : node.part ≡ part p.object p.owner i
   pub is_part : node.part ≡ inner_part p i
 
-pub base_there : (h : Classes) → IsHierarchy h → (classes : List ClassId) (c d : ClassId) (k : ℕ) (y : Node) → IsNumbered h classes c k y → y.form ≡ InFull → (s : Subobject) → IsSubobject h c s → class_of s ≡ Some d → (number : ℕ) → number ≡ number_in h c s
+pub base_there : (h : Classes) → IsHierarchy h → (classes : List ClassId) (c d : ClassId) (k : ℕ) (y : Node) → IsNumberedPart h classes c k y → y.form ≡ InFull → (s : Subobject) → IsSubobject h c s → class_of s ≡ Some d → (number : ℕ) → number ≡ subobject_number h c s
     → BaseThere h classes d ((k + number) % 2 ^ 32) y.part s
 base_there h keeps classes c d k y a full s valid class number number_told =
     let good = at_good h (sizes_of h) classes y a.at in
@@ -178,7 +178,7 @@ base_there h keeps classes c d k y a full s valid class number number_told =
     let few = a.few in
     let z_number = number_is h keeps y z.0 s good full z.1.under valid_y z.1.is_part in
     let y_number = a.number in
-    let num : number ≡ number_in h y.class s = number_told ∙ ap (λ (t : ClassId). number_in h t s) (sym a.class) in
+    let num : number ≡ subobject_number h y.class s = number_told ∙ ap (λ (t : ClassId). subobject_number h t s) (sym a.class) in
     let z_class : Some z.0.class ≡ Some d = sym (at_good h (sizes_of h) classes z.0 z_at).class ∙ (ap (λ (t : ObjectPart). class_of t.at) z.1.is_part ∙ class) in
     record {
       node = z.0;
@@ -192,7 +192,7 @@ base_there h keeps classes c d k y a full s valid class number number_told =
       is_part = z.1.is_part ∙ ap (λ (t : Subobject). part y.part.object y.part.owner t) (sym (ap (λ (t : Subobject). join t s) (good.whole full) ∙ whole_joined h y.class s valid_y));
     }
 
-bases_next : (h : Classes) → IsHierarchy h → (c : ClassId) (k : ℕ) (list : List Subobject) (j : ℕ) (i : Subobject) → j < length list → IsSubobject h c (get_or list j i) → (d : ClassId) → class_of (get_or list j i) ≡ Some d → (number : ℕ) → number ≡ number_in h c (get_or list j i)
+bases_next : (h : Classes) → IsHierarchy h → (c : ClassId) (k : ℕ) (list : List Subobject) (j : ℕ) (i : Subobject) → j < length list → IsSubobject h c (get_or list j i) → (d : ClassId) → class_of (get_or list j i) ≡ Some d → (number : ℕ) → number ≡ subobject_number h c (get_or list j i)
     → (old mid new : List ℕ) → ListsBases h c k (take j list) old mid → ListsOwn h d ((k + number) % 2 ^ 32) mid new → ListsBases h c k (take (j + 1) list) old new
 bases_next h keeps c k list j i lt valid d class number number_told old mid new before one = record {
   lists = λ classes y a full.
@@ -201,12 +201,12 @@ bases_next h keeps c k list j i lt valid d class number number_told old mid new 
       grows_next (PointsLeaf h classes) (base_leaves h y.part) list j i old mid new lt (before.lists classes y a full) (own_is h classes d y.part s z.node class z.is_part mid new (one.lists classes z.node z.numbered));
 }
 
-pub bases_step : (h : Classes) → IsHierarchy h → (c : ClassId) (k : ℕ) (list : List Subobject) (j : ℕ) (x : Subobject) → list ≡ preorder h c → j < length list → x ≡ get_or list j x → (d : ClassId) → ((e : ClassId) → class_of x ≡ Some e → d ≡ e) → (number : ℕ) → number ≡ number_in h c x
+pub bases_step : (h : Classes) → IsHierarchy h → (c : ClassId) (k : ℕ) (list : List Subobject) (j : ℕ) (x : Subobject) → list ≡ preorder h c → j < length list → x ≡ get_or list j x → (d : ClassId) → ((e : ClassId) → class_of x ≡ Some e → d ≡ e) → (number : ℕ) → number ≡ subobject_number h c x
     → (old mid new : List ℕ) → ListsBases h c k (take j list) old mid → ListsOwn h d ((k + number) % 2 ^ 32) mid new → ListsBases h c k (take (j + 1) list) old new
 bases_step h keeps c k list j x is lt at d told number number_told old mid new before one =
     let valid = valid_at h c list j x is lt at in
     let class = class_found h c d x valid told in
-    bases_next h keeps c k list j x lt (subst (λ (t : Subobject). IsSubobject h c t) at valid) d (ap class_of (sym at) ∙ class) number (number_told ∙ ap (number_in h c) at) old mid new before one
+    bases_next h keeps c k list j x lt (subst (λ (t : Subobject). IsSubobject h c t) at valid) d (ap class_of (sym at) ∙ class) number (number_told ∙ ap (subobject_number h c) at) old mid new before one
 
 -- the subobjects of a part
 
@@ -223,7 +223,7 @@ part_next h heap n c list j x is lt at d told start reached mid new before one =
       let z = reached s p c stands q begun p_class valid in
       let z_class : Some z.node.class ≡ Some d =
       sym (at_good h (sizes_of h) s.classes z.node z.at).class ∙ (ap (λ (t : ObjectPart). class_of t.at) z.is_part ∙ (join_class h c p.at x p_class valid ∙ class)) in
-      let there : IsNumbered h s.classes d start z.node = record { few = stands.counts.few; at = z.at; class = cc; number = z.is_number } in
+      let there : IsNumberedPart h s.classes d start z.node = record { few = stands.counts.few; at = z.at; class = cc; number = z.is_number } in
       let grown = own_is h s.classes d p x z.node class z.is_part mid new (one.lists s.classes z.node there) in
       let more = grown (flat_map (base_leaves h p) (take j list)) (before.lists s p stands q begun p_class) in
       let e = ap (flat_map (base_leaves h p)) (take_more list j x lt) ∙ flat_more (base_leaves h p) (take j list) (get_or list j x) in

@@ -12,7 +12,7 @@ use Rattle.path_heap.specs.declared.heap.Heap.{Heap}
 use Rattle.path_heap.specs.declared.state.Value.{Value as ValueCode}
 use Rattle.path_heap.specs.Points.{PointsLeaf}
 use Rattle.path_heap.specs.Stands.{HeapStands, Means}
-use Rattle.path_places.specs.invariants.Stores.{moved, MeansLeaf, ReadsAll, StoresFrom}
+use Rattle.path_places.specs.invariants.Stores.{with_moved_leaves, MeansLeaf, ReadsAll, StoresFrom}
 
 -- what goes along with an item
 pub record IsAlong {A B : Type 0} (R : A → B → Type 0) (x : A) (ys : List B) (i : ℕ) : Type 0 where
@@ -83,7 +83,7 @@ drop_none (x ∷ xs) (y ∷ ys) zero past = absurd (⊎_elim (λ e. omega arith)
 drop_none (x ∷ xs) (y ∷ ys) (suc i) past = drop_none xs ys i (⊎_elim (λ (e : length (x ∷ xs) ≤ suc i). inl (omega arith)) (λ (e : length (y ∷ ys) ≤ suc i). inr (omega arith)) past)
 
 -- one leaf more
-one_more : (s : Objects) (t f : Leaf) (rest : List (Leaf × Leaf)) → leaf_set (moved s rest) t (s.leaf f) ≡ moved s ((t, f) ∷ rest)
+one_more : (s : Objects) (t f : Leaf) (rest : List (Leaf × Leaf)) → leaf_set (with_moved_leaves s rest) t (s.leaf f) ≡ with_moved_leaves s ((t, f) ∷ rest)
 one_more s t f rest = ap (λ (leaf : Leaf → Value). record { classes = s.classes; is_closed = s.is_closed; phases = s.phases; leaf = leaf }) (fun_ext (λ l. by_test (same_leaf t l) l))
   where
     by_test : (b : Bool) (l : Leaf) → (if b then s.leaf f else value_behind s.leaf l (find (λ pair. same_leaf pair.0 l) rest)) ≡ value_behind s.leaf l (if b then Some (t, f) else find (λ pair. same_leaf pair.0 l) rest)
@@ -95,7 +95,7 @@ stores_none heap numbers values i is = record {
   stores = λ h s leaves sources stands along means.
       let a = along_length (PointsLeaf h s.classes) numbers leaves along in
       let b = along_length (MeansLeaf h s) values sources means in
-      subst (λ (pairs : List (Leaf × Leaf)). HeapStands h heap (moved s pairs)) (sym (drop_none leaves sources i (one_past (length numbers) (length values) (length leaves) (length sources) i is a b))) stands;
+      subst (λ (pairs : List (Leaf × Leaf)). HeapStands h heap (with_moved_leaves s pairs)) (sym (drop_none leaves sources i (one_past (length numbers) (length values) (length leaves) (length sources) i is a b))) stands;
 }
   where
     one_past : (a b c d i : ℕ) → i ≡ min a b → a ≡ c → b ≡ d → (c ≤ i) ⊎ (d ≤ i)
@@ -109,7 +109,7 @@ stores_next old mid new numbers values i d e ln lv before told = record {
       let f = along_at (MeansLeaf h s) values sources i e means lv in
       let k : i + 1 ≡ suc i = omega arith in
       let rest = drop (suc i) (zip leaves sources) in
-      let stood : HeapStands h mid (moved s rest) = subst (λ n. HeapStands h mid (moved s (drop n (zip leaves sources)))) k (before.stores h s leaves sources stands along means) in
-      let set = told h (moved s rest) t.other (s.leaf f.other) stood t.along f.along in
-      subst (λ (o : Objects). HeapStands h new o) (one_more s t.other f.other rest ∙ ap (moved s) (sym (drop_pair leaves sources i t.other f.other t.there f.there))) set;
+      let stood : HeapStands h mid (with_moved_leaves s rest) = subst (λ n. HeapStands h mid (with_moved_leaves s (drop n (zip leaves sources)))) k (before.stores h s leaves sources stands along means) in
+      let set = told h (with_moved_leaves s rest) t.other (s.leaf f.other) stood t.along f.along in
+      subst (λ (o : Objects). HeapStands h new o) (one_more s t.other f.other rest ∙ ap (with_moved_leaves s) (sym (drop_pair leaves sources i t.other f.other t.there f.there))) set;
 }

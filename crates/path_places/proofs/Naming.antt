@@ -28,7 +28,7 @@ use Rattle.path_heap.specs.Stands.{HeapStands, Means}
 use Rattle.path_heap.proofs.Asking.{root_is_at}
 use Rattle.path_heap.proofs.Reaching.{at_small}
 use Rattle.path_places.specs.declared.locations.Spot.{Spot}
-use Rattle.path_places.specs.invariants.Walks.{form_of, IsSpot, Walks}
+use Rattle.path_places.specs.invariants.Walks.{full_or_base, IsSpot, Walks}
 
 -- a part lies in the root of its heap object, whose number is that of the whole
 pub record InRoot (h : Classes) (s : Objects) (n start : ℕ) (p : ObjectPart) (c : ClassId) : Type 0 where
@@ -70,7 +70,7 @@ located h heap s stands n start p c q listed w object rest object_is rest_is who
     let x = root_at (sizes_of h) s.classes p.object c in
     let spot : IsSpot whole x = record {
       class = sym class;
-      form = ap form_of (sym full);
+      form = ap full_or_base (sym full);
       is_at = ap (λ (t : List ClassId). subobject Whole t) (sym path) ∙ ap (λ k. subobject k whole.path.items) (sym root);
     } in
     let n_is = rest_is r.above r.small in

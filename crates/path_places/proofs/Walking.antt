@@ -24,8 +24,8 @@ use Rattle.path_numbers.proofs.Intervals.{size_of, size_some, under_lies, kid_li
 use Rattle.path_places.specs.declared.kids.Kid.{Kid as KidCode}
 use Rattle.path_places.specs.declared.kids.Way.TheVariants.{Base as BaseWay, Shared as SharedWay, Element as ElementWay}
 use Rattle.path_places.specs.declared.locations.Spot.{Spot}
-use Rattle.path_places.specs.invariants.Kids.{IsBaseKid, IsMemberKid, IsSharedKid, IsKidFound}
-use Rattle.path_places.specs.invariants.Walks.{form_of, hop_of, IsSpot, Walks}
+use Rattle.path_places.specs.invariants.Kids.{IsDirectBaseKid, IsMemberKid, IsSharedKid, IsKidFound}
+use Rattle.path_places.specs.invariants.Walks.{full_or_base, hop_of, IsSpot, Walks}
 
 -- a part lies in the direct part whose numbers hold its own
 pub under_kid : (h : Classes) (size : Sizes) → IsSizes h size → (x y z : Node) → Kid h size x z → Under h size y x → z.number ≤ y.number → y.number < z.number + size_of size z → Under h size y z
@@ -76,7 +76,7 @@ kid_none : (h : Classes) → IsHierarchy h → (x y : Node) (full : Bool) (n : �
 kid_none h keeps x y full n form none (here _ e) number = e
 kid_none h keeps x y full n form none (deeper _ r kid more) number = absurd (none_below h keeps x y r full n form none more number kid)
 
-is_complete : (full : Bool) → InFull ≡ form_of full → full ≡ true
+is_complete : (full : Bool) → InFull ≡ full_or_base full → full ≡ true
 is_complete true e = refl
 is_complete false e = absurd (cc)
 
@@ -91,7 +91,7 @@ walk_ends h keeps spot n told is found old new hop hop_is new_is = record {
 
 -- which kind of direct part was found
 
-pub way_base : (h : Classes) (c : ClassId) (full : Bool) (n : ℕ) (told : Option KidCode) (kid : KidCode) → told ≡ Some kid → IsKidFound h c full n told → kid.way ≡ BaseWay → IsBaseKid h c n kid
+pub way_base : (h : Classes) (c : ClassId) (full : Bool) (n : ℕ) (told : Option KidCode) (kid : KidCode) → told ≡ Some kid → IsKidFound h c full n told → kid.way ≡ BaseWay → IsDirectBaseKid h c n kid
 way_base h c full n told kid is found way = ⊎_elim (λ b. b)
     (λ r. ⊎_elim (λ m. absurd (let e : BaseWay ≡ ElementWay m.number m.element.index = sym way ∙ m.element.way in cc)) (λ s. absurd (let e : BaseWay ≡ SharedWay = sym way ∙ s.1.way in cc)) r)
     (subst (λ (t : Option KidCode). IsKidFound h c full n t) is found)
@@ -118,7 +118,7 @@ kid_below h keeps c full n told kid is found = ⊎_elim
 -- the walk goes on
 
 -- from a direct base
-pub walk_base : (h : Classes) → IsHierarchy h → (spot : Spot) (n : ℕ) (kid : KidCode) → IsBaseKid h spot.class n kid → (below : Spot) → below.class ≡ kid.class → below.is_full ≡ false → below.root ≡ spot.root → below.path.items ≡ spot.path.items ++ kid.class ∷ []
+pub walk_base : (h : Classes) → IsHierarchy h → (spot : Spot) (n : ℕ) (kid : KidCode) → IsDirectBaseKid h spot.class n kid → (below : Spot) → below.class ≡ kid.class → below.is_full ≡ false → below.root ≡ spot.root → below.path.items ≡ spot.path.items ++ kid.class ∷ []
     → (old new : List Hop) → Walks h below kid.rest old new → Walks h spot n old new
 walk_base h keeps spot n kid found below class full root path old new walks = record {
   leads = λ x y s under number e.
@@ -133,7 +133,7 @@ walk_base h keeps spot n kid found below class full root path old new walks = re
       let inner = under_kid h size (sizes_are h keeps) x y z kid_is under (omega arith) (omega arith) in
       let z_spot : IsSpot below z = record {
         class = sym found.class ∙ sym class;
-        form = ap form_of (sym full);
+        form = ap full_or_base (sym full);
         is_at = ap (λ (f : Bool). if f then subobject (Shared b.class) (b.class ∷ []) else subobject x.part.at.root (x.part.at.path ++ b.class ∷ [])) found.holds.0
             ∙ (ap (λ (t : Subobject). subobject t.root (t.path ++ b.class ∷ [])) s.is_at
             ∙ (ap (λ (t : ClassId). subobject spot.root (spot.path.items ++ t ∷ [])) (sym found.class)
@@ -152,14 +152,14 @@ walk_shared h keeps spot n kid (complete, found) below class full root path old 
       let v = kid.class in
       let at : slice_get (virtual_order h x.class) j ≡ Some v = subst (λ (c : ClassId). slice_get (virtual_order h c) j ≡ Some v) (sym s.class) found.holds.1 in
       let z = node AsBase v (shared_part x.part v) (x.number + shared_offset h size x.class j) in
-      let kid_is = shared_kid j v (s.form ∙ ap form_of complete) at refl in
+      let kid_is = shared_kid j v (s.form ∙ ap full_or_base complete) at refl in
       let o : shared_offset h size spot.class j ≡ shared_offset h size x.class j = ap (λ (c : ClassId). shared_offset h size c j) (sym s.class) in
       let n_is = found.holds.2.0 in
       let rest = found.holds.2.1 in
       let inner = under_kid h size (sizes_are h keeps) x y z kid_is under (omega arith) (omega arith) in
       let z_spot : IsSpot below z = record {
         class = sym class;
-        form = ap form_of (sym full);
+        form = ap full_or_base (sym full);
         is_at = ap (λ (t : List ClassId). subobject (Shared v) t) (sym path) ∙ ap (λ r. subobject r below.path.items) (sym root);
       } in
       walks.leads z y z_spot inner (omega arith) e;
@@ -183,7 +183,7 @@ walk_element h keeps spot n kid m i way found below class full root path old mid
       let inner = under_kid h size (sizes_are h keeps) x y z kid_is under (omega arith) (omega arith) in
       let z_spot : IsSpot below z = record {
         class = sym class;
-        form = ap form_of (sym full);
+        form = ap full_or_base (sym full);
         is_at = ap (λ (t : List ClassId). subobject Whole t) (sym path) ∙ ap (λ r. subobject r below.path.items) (sym root);
       } in
       let same : ElementWay m i ≡ ElementWay a el.index = sym way ∙ el.way in

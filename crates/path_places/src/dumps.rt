@@ -9,13 +9,13 @@ ghost use Rattle.cxx_subobject.specs.Subobjects.{IsSubobject};
 ghost use Rattle.path_plan.specs.Places.{ObjectPart};
 ghost use Rattle.path_plan.specs.Plans.{InFull};
 ghost use Rattle.path_numbers.specs.Sizes.{sizes_of, member_offset};
-ghost use Rattle.path_numbers.specs.Numbers.{number_in};
+ghost use Rattle.path_numbers.specs.Numbers.{subobject_number};
 ghost use Rattle.path_model.specs.Values.{Objects};
 ghost use Rattle.path_model.specs.Effects.{object_out};
 ghost use Rattle.path_heap.specs.Points.{Points};
 ghost use Rattle.path_heap.specs.Stands.{HeapStands};
 ghost use Rattle.path_tables.specs.Worlds.{IsWorld};
-ghost use Rattle.path_places.specs.invariants.Dumps.{seen, DumpsWhole, DumpsOwn, DumpsMember, DumpsValues, DumpsElements, DumpsLeaf};
+ghost use Rattle.path_places.specs.invariants.Dumps.{dumped_object, DumpsWhole, DumpsOwn, DumpsMember, DumpsValues, DumpsElements, DumpsLeaf};
 
 use crate::leaves::class_or_first;
 use crate::locations::shown;
@@ -92,7 +92,7 @@ fn dump_leaf(
     k: u32,
 ) -> Result<DumpLeaf, NoMemory>
     requires { IsWorld site.now.world.now }
-    ensures { IfOk result (DumpsLeaf (seen site.now.world.now.h.now site.now.heap.now site.now.object site.now.class) place.now.hops.now.items place.now.base.now member index k) }
+    ensures { IfOk result (DumpsLeaf (dumped_object site.now.world.now.h.now site.now.heap.now site.now.object site.now.class) place.now.hops.now.items place.now.base.now member index k) }
 {
     let value = shown(alloc, site.world, site.heap, site.heap.leaf(k))?;
     let hops = hops_below(alloc, place, member, index)?;
@@ -118,7 +118,7 @@ fn dump_values(
     out: &mut Vec<DumpLeaf>,
 ) -> Result<(), NoMemory>
     requires { IsWorld site.now.world.now }
-    ensures { OnOk result (DumpsValues (seen site.now.world.now.h.now site.now.heap.now site.now.object site.now.class) place.now.hops.now.items place.now.base.now m k count count out.old.items out.new.items) }
+    ensures { OnOk result (DumpsValues (dumped_object site.now.world.now.h.now site.now.heap.now site.now.object site.now.class) place.now.hops.now.items place.now.base.now m k count count out.old.items out.new.items) }
 {
     for i in 0..count {
         out.push(dump_leaf(alloc, site, place, m, i, k.wrapping_add(i))?)?;
@@ -162,7 +162,7 @@ fn number_in(site: &Site, c: ClassId, s: &Subobject) -> u32
     requires world { IsWorld site.now.world.now }
     requires known { c.0 < length site.now.world.now.h.now }
     requires subobject { IsSubobject site.now.world.now.h.now c s.now }
-    ensures { result ≡ number_in site.now.world.now.h.now c s.now }
+    ensures { result ≡ subobject_number site.now.world.now.h.now c s.now }
 {
     site.world.numbers.number_in(site.world.h, c, s)
 }
@@ -181,7 +181,7 @@ fn dump_elements(
 ) -> Result<(), NoMemory>
     requires world { IsWorld site.now.world.now }
     requires known { d.0 < length site.now.world.now.h.now }
-    ensures { OnOk result (DumpsElements (seen site.now.world.now.h.now site.now.heap.now site.now.object site.now.class) place.now.hops.now.items place.now.base.now m d k count count out.old.items out.new.items) }
+    ensures { OnOk result (DumpsElements (dumped_object site.now.world.now.h.now site.now.heap.now site.now.object site.now.class) place.now.hops.now.items place.now.base.now m d k count count out.old.items out.new.items) }
 {
     let size = in_full(site, d);
     let mut hops = Vec::new(alloc);
@@ -208,7 +208,7 @@ fn dump_member(
     requires world { IsWorld site.now.world.now }
     requires known { c.0 < length site.now.world.now.h.now }
     requires below { (d : ClassId) → member.now.ty ≡ Object d → d.0 < c.0 }
-    ensures { OnOk result (DumpsMember (seen site.now.world.now.h.now site.now.heap.now site.now.object site.now.class) place.now.hops.now.items place.now.base.now c m member.now k out.old.items out.new.items) }
+    ensures { OnOk result (DumpsMember (dumped_object site.now.world.now.h.now site.now.heap.now site.now.object site.now.class) place.now.hops.now.items place.now.base.now c m member.now k out.old.items out.new.items) }
 {
     match &member.ty {
         FieldType::Value(_) => dump_values(alloc, site, place, m, k, member.elements(), out),
@@ -230,7 +230,7 @@ fn dump_own(
 ) -> Result<(), NoMemory>
     requires world { IsWorld site.now.world.now }
     requires known { c.0 < length site.now.world.now.h.now }
-    ensures { OnOk result (DumpsOwn (seen site.now.world.now.h.now site.now.heap.now site.now.object site.now.class) place.now.hops.now.items place.now.base.now c k out.old.items out.new.items) }
+    ensures { OnOk result (DumpsOwn (dumped_object site.now.world.now.h.now site.now.heap.now site.now.object site.now.class) place.now.hops.now.items place.now.base.now c k out.old.items out.new.items) }
 {
     site.world.h.keeps();
     let count = site.world.h.class(c).members.len() as u32;
@@ -254,7 +254,7 @@ fn dump_whole(
 ) -> Result<(), NoMemory>
     requires world { IsWorld site.now.world.now }
     requires known { c.0 < length site.now.world.now.h.now }
-    ensures { OnOk result (DumpsWhole (seen site.now.world.now.h.now site.now.heap.now site.now.object site.now.class) hops.now.items c k out.old.items out.new.items) }
+    ensures { OnOk result (DumpsWhole (dumped_object site.now.world.now.h.now site.now.heap.now site.now.object site.now.class) hops.now.items c k out.old.items out.new.items) }
 {
     site.world.h.keeps();
     let mut bases = Sequence::new(alloc);

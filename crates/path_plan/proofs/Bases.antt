@@ -15,8 +15,8 @@ use Rattle.foundation.proofs.Truth.{split}
 use Rattle.cxx_subobject.proofs.TreeLemmas.{edge, base_down, base_across}
 use Rattle.cxx_subobject.proofs.PathLemmas.{class_of_longer, virtual_below}
 use Rattle.foundation.proofs.Members.{index_of}
-use Rattle.path_plan.specs.Places.{ObjectPart, part, base_part, shared_part, base_kid, IsIn, deeper}
-use Rattle.path_plan.specs.Phases.{Phase, Raw, InBases, Complete, Phases, Begin, put, after}
+use Rattle.path_plan.specs.Places.{ObjectPart, part, base_part, shared_part, base_kid, IsPartWithin, deeper}
+use Rattle.path_plan.specs.Phases.{Phase, Raw, InBases, Complete, Phases, Begin, put, phases_after}
 use Rattle.path_plan.specs.Plans.{Form, InFull, AsBase, Inner, shared_events, base_events, virtual_order}
 use Rattle.path_plan.proofs.Names.{Token, At, Next, Member, owner_name, name, region, region_name, Begins, begins_itself, begins_more, begins_through, begins_child, apart, not_child, name_base, IsRaw, raw_below}
 use Rattle.path_plan.proofs.Same.{put_other}
@@ -34,15 +34,15 @@ class_base p c b e = split b.is_virtual (λ t. class_of (base_subobject p.at b) 
     (λ f. ap class_of (base_across p.at b f))
     (λ f. ap class_of (base_down p.at b f) ∙ class_of_longer p.at.path (b.class ∷ []) c e)
 
-pub base_in : (h : Classes) (p : ObjectPart) (c : ClassId) (b : Base ClassId) (q : ObjectPart) → class_of p.at ≡ Some c → Contains (bases_of h c) b → IsIn h q (base_part p b) → IsIn h q p
+pub base_in : (h : Classes) (p : ObjectPart) (c : ClassId) (b : Base ClassId) (q : ObjectPart) → class_of p.at ≡ Some c → Contains (bases_of h c) b → IsPartWithin h q (base_part p b) → IsPartWithin h q p
 base_in h p c b q class listed inside = deeper p (base_part p b) (base_kid c b class listed refl) inside
 
 pub shared_of_base : (p : ObjectPart) (b : Base ClassId) → b.is_virtual ≡ true → shared_part p b.class ≡ base_part p b
 shared_of_base p b e = ap (λ x. part p.object p.owner x) (sym (base_across p.at b e))
 
-pub shared_in : (h : Classes) (c v : ClassId) (q : ObjectPart) → HasVirtualBase h c v → (p : ObjectPart) → class_of p.at ≡ Some c → IsIn h q (shared_part p v) → IsIn h q p
+pub shared_in : (h : Classes) (c v : ClassId) (q : ObjectPart) → HasVirtualBase h c v → (p : ObjectPart) → class_of p.at ≡ Some c → IsPartWithin h q (shared_part p v) → IsPartWithin h q p
 shared_in h _ _ q (direct c v d) p class inside = base_in h p c d.base q class d.listed
-    (subst (λ (x : ObjectPart). IsIn h q x) (shared_of_base p d.base d.way) (subst (λ (x : ClassId). IsIn h q (shared_part p x)) (sym d.class) inside))
+    (subst (λ (x : ObjectPart). IsPartWithin h q x) (shared_of_base p d.base d.way) (subst (λ (x : ClassId). IsPartWithin h q (shared_part p x)) (sym d.class) inside))
 shared_in h _ _ q (further c b v way d rest) p class inside = base_in h p c d.base q class d.listed
     (shared_in h b v q rest (base_part p d.base) (class_base p c d.base class ∙ ap (λ x. Some x) d.class) inside)
 
@@ -110,13 +110,13 @@ shared_loop h keeps inner c good p whole = record {
     t = owner_name p.object p.owner
 
 pub shared_ran : (h : Classes) → IsHierarchy h → (inner : Inner) (form : Form) (c : ClassId) → Good h inner c.0 → (p : ObjectPart) (s : Phases) → Stage h form c p s
-    → Ran h (region form p) p (after s (Begin p)) (shared_events inner form p (virtual_order h c)) (AfterShared h c p)
+    → Ran h (region form p) p (phases_after s (Begin p)) (shared_events inner form p (virtual_order h c)) (AfterShared h c p)
 unfolding shared_loop
 shared_ran h keeps inner AsBase c good p s a = record {
-  end = after s (Begin p);
+  end = phases_after s (Begin p);
   plays = refl;
   inside = tt;
-  went = went_none h (name p) p (after s (Begin p)) (begun h AsBase c p s a).inv;
+  went = went_none h (name p) p (phases_after s (Begin p)) (begun h AsBase c p s a).inv;
   did = record {
     bases = begun h AsBase c p s a;
     raw = λ x. raw_put (name p ++ x ∷ []) s p InBases (not_child (name p) x) (raw_below (name p) (name p ++ x ∷ []) s (begins_more (name p) (x ∷ [])) a.raw);
@@ -130,7 +130,7 @@ shared_ran h keeps inner InFull c good p s a =
     let t = owner_name p.object p.owner in
     let l = shared_loop h keeps inner c good p a.takes in
     let b = begun h InFull c p s a in
-    let run = loop h t p l [] (virtual_order h c) (after s (Begin p))
+    let run = loop h t p l [] (virtual_order h c) (phases_after s (Begin p))
     (record {
       bases = b;
       raw = λ x. raw_put (name p ++ x ∷ []) s p InBases (not_child (name p) x)

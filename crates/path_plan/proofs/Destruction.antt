@@ -7,10 +7,10 @@ use Rattle.cxx_hierarchy.specs.Classes.{Classes}
 use Rattle.cxx_hierarchy.specs.Hierarchies.{IsHierarchy}
 use Rattle.foundation.proofs.Truth.{split}
 use Rattle.foundation.proofs.Deciding.{decide_number}
-use Rattle.path_plan.specs.Places.{ObjectPart, IsIn}
-use Rattle.path_plan.specs.Phases.{Raw, Complete, is_ready, Phases, Event, Begin, Ready, Init, Body, Done, Ending, Bases, End, part_of, after_all}
+use Rattle.path_plan.specs.Places.{ObjectPart, IsPartWithin}
+use Rattle.path_plan.specs.Phases.{Raw, Complete, is_ready, Phases, PartEvent, Begin, Ready, Init, Body, Done, Ending, Bases, End, part_of, phases_after_all}
 use Rattle.path_plan.specs.Plans.{Bodies, InFull}
-use Rattle.path_plan.specs.Whole.{whole_part, construction, destruction, IsNew, IsStanding, IsUnbuilt}
+use Rattle.path_plan.specs.Whole.{whole_part, construction, destruction, IsNew, StandsWhole, IsUnbuilt}
 use Rattle.path_plan.proofs.Growth.{Plays, EventsIn, events_append}
 use Rattle.path_plan.specs.Mirrors.{mirrored_event, mirrored, exchanged}
 use Rattle.path_plan.proofs.Mirror.{mirror_law}
@@ -27,18 +27,18 @@ earlier_raw k s q ob = rw (eq-eqb q.object k ob) refl
 earlier_other : (k : ℕ) (s : Phases) (q : ObjectPart) → (q.object ≡ k → ⊥) → (earlier k s).phase q ≡ mirror (s.phase q)
 earlier_other k s q off = split (nat_eq q.object k) (λ t. (if t then Raw else mirror (s.phase q)) ≡ mirror (s.phase q)) (λ e. absurd (off (eqb-true q.object k e))) (λ e. refl)
 
-earlier_new : (h : Classes) (k : ℕ) (c : ClassId) (s : Phases) → IsStanding h k c s → IsNew k (earlier k s)
+earlier_new : (h : Classes) (k : ℕ) (c : ClassId) (s : Phases) → StandsWhole h k c s → IsNew k (earlier k s)
 earlier_new h k c s a = record { raw = earlier_raw k s; idle = a.idle }
 
 abbrev Counts : Classes → ℕ → ClassId → ObjectPart → Type 0
-Counts h k c q = IsIn h q (whole_part k c) ⊎ (q.object ≡ k → ⊥)
+Counts h k c q = IsPartWithin h q (whole_part k c) ⊎ (q.object ≡ k → ⊥)
 
-mirror_alike : (h : Classes) → IsHierarchy h → (bodies : Bodies) (k : ℕ) (c : ClassId) (s : Phases) → IsStanding h k c s
-    → Alike (Counts h k c) (mirror_all (after_all (earlier k s) (construction h (exchanged bodies) k c))) s
+mirror_alike : (h : Classes) → IsHierarchy h → (bodies : Bodies) (k : ℕ) (c : ClassId) (s : Phases) → StandsWhole h k c s
+    → Alike (Counts h k c) (mirror_all (phases_after_all (earlier k s) (construction h (exchanged bodies) k c))) s
 mirror_alike h keeps bodies k c s a =
     let new = earlier_new h k c s a in
     let built = construction_builds h keeps (exchanged bodies) k c (earlier k s) new in
-    let counts : (q : ObjectPart) → Counts h k c q → mirror ((after_all (earlier k s) (construction h (exchanged bodies) k c)).phase q) ≡ s.phase q =
+    let counts : (q : ObjectPart) → Counts h k c q → mirror ((phases_after_all (earlier k s) (construction h (exchanged bodies) k c)).phase q) ≡ s.phase q =
     λ q v. ⊎_elim
     (λ inside. ap mirror (built.standing.complete q inside) ∙ sym (a.complete q inside))
     (λ off. ap mirror (built.others.phase q off ∙ earlier_other k s q off) ∙ mirror_mirror (s.phase q)) v in
@@ -53,20 +53,20 @@ mirror_alike h keeps bodies k c s a =
           (λ off. inl (counts q (inr off)))
           (decide_number q.object k);
       running = λ j o. ⊎_elim
-          (λ (e : j ≡ k). subst (λ i. (after_all (earlier k s) (construction h (exchanged bodies) k c)).running i o ≡ s.running i o) (sym e) (built.standing.idle o ∙ sym (a.idle o)))
+          (λ (e : j ≡ k). subst (λ i. (phases_after_all (earlier k s) (construction h (exchanged bodies) k c)).running i o ≡ s.running i o) (sym e) (built.standing.idle o ∙ sym (a.idle o)))
           (λ off. built.others.running j o off)
           (decide_number j k);
     }
 
-pub destruction_unbuilds : (h : Classes) → IsHierarchy h → (bodies : Bodies) (k : ℕ) (c : ClassId) (s : Phases) → IsStanding h k c s → IsUnbuilt h bodies k c s
+pub destruction_unbuilds : (h : Classes) → IsHierarchy h → (bodies : Bodies) (k : ℕ) (c : ClassId) (s : Phases) → StandsWhole h k c s → IsUnbuilt h bodies k c s
 destruction_unbuilds h keeps bodies k c s a =
     let new = earlier_new h k c s a in
     let built = construction_builds h keeps (exchanged bodies) k c (earlier k s) new in
     let es = construction h (exchanged bodies) k c in
     let back = all_back h (earlier k s) es built.coherent in
     let law : mirrored es ≡ destruction h bodies k c = mirror_law h bodies (c.0 + 1) InFull c (whole_part k c) in
-    let plays = subst (λ (xs : List Event). Plays h (mirror_all (after_all (earlier k s) es)) xs (mirror_all (earlier k s))) law back in
-    let r = alike_plays h (Counts h k c) (destruction h bodies k c) (mirror_all (after_all (earlier k s) es)) s (mirror_all (earlier k s)) (mirror_alike h keeps bodies k c s a) plays in
+    let plays = subst (λ (xs : List PartEvent). Plays h (mirror_all (phases_after_all (earlier k s) es)) xs (mirror_all (earlier k s))) law back in
+    let r = alike_plays h (Counts h k c) (destruction h bodies k c) (mirror_all (phases_after_all (earlier k s) es)) s (mirror_all (earlier k s)) (mirror_alike h keeps bodies k c s a) plays in
     record {
       coherent = r.coherent;
       gone = record {
@@ -80,7 +80,7 @@ destruction_unbuilds h keeps bodies k c s a =
       };
     }
 
-mirrored_part : (e : Event) → part_of (mirrored_event e) ≡ part_of e
+mirrored_part : (e : PartEvent) → part_of (mirrored_event e) ≡ part_of e
 mirrored_part (Begin p) = refl
 mirrored_part (Ready p) = refl
 mirrored_part (Init p m) = refl
@@ -90,11 +90,11 @@ mirrored_part (Ending p) = refl
 mirrored_part (Bases p) = refl
 mirrored_part (End p) = refl
 
-mirrored_inside : (h : Classes) (p : ObjectPart) (es : List Event) → EventsIn h p es → EventsIn h p (mirrored es)
+mirrored_inside : (h : Classes) (p : ObjectPart) (es : List PartEvent) → EventsIn h p es → EventsIn h p (mirrored es)
 mirrored_inside h p [] a = tt
-mirrored_inside h p (e ∷ es) a = events_append h p (mirrored es) (mirrored_event e ∷ []) (mirrored_inside h p es a.1) (subst (λ (q : ObjectPart). IsIn h q p) (sym (mirrored_part e)) a.0, tt)
+mirrored_inside h p (e ∷ es) a = events_append h p (mirrored es) (mirrored_event e ∷ []) (mirrored_inside h p es a.1) (subst (λ (q : ObjectPart). IsPartWithin h q p) (sym (mirrored_part e)) a.0, tt)
 
-pub destruction_inside : (h : Classes) → IsHierarchy h → (bodies : Bodies) (k : ℕ) (c : ClassId) (s : Phases) → IsStanding h k c s → EventsIn h (whole_part k c) (destruction h bodies k c)
+pub destruction_inside : (h : Classes) → IsHierarchy h → (bodies : Bodies) (k : ℕ) (c : ClassId) (s : Phases) → StandsWhole h k c s → EventsIn h (whole_part k c) (destruction h bodies k c)
 destruction_inside h keeps bodies k c s a =
-    subst (λ (xs : List Event). EventsIn h (whole_part k c) xs) (mirror_law h bodies (c.0 + 1) InFull c (whole_part k c))
+    subst (λ (xs : List PartEvent). EventsIn h (whole_part k c) xs) (mirror_law h bodies (c.0 + 1) InFull c (whole_part k c))
     (mirrored_inside h (whole_part k c) (construction h (exchanged bodies) k c) (construction_inside h keeps (exchanged bodies) k c (earlier k s) (earlier_new h k c s a)))

@@ -4,7 +4,7 @@ use Rattle.std.specs.List.{flat_map}
 use Rattle.cxx_hierarchy.specs.Classes.{Classes}
 use Rattle.foundation.proofs.Members.{Has}
 use Rattle.path_plan.specs.Places.{ObjectPart}
-use Rattle.path_plan.specs.Phases.{Phases, Event}
+use Rattle.path_plan.specs.Phases.{Phases, PartEvent}
 use Rattle.path_plan.proofs.Names.{Token, IsRaw, apart, begins_child}
 use Rattle.path_plan.proofs.Growth.{Inv, Went, went_none, went_then, went_wider, raw_stays, plays_append, events_append, Ran}
 
@@ -16,7 +16,7 @@ Follows {X} token Allowed done (x ∷ xs) = Allowed done x × ((y : X) → Has x
 -- items, each with its events within the name t and its token; what holds around them, and what each gives
 pub record Loop (X : Type 0) (h : Classes) (t : List Token) (p : ObjectPart) : Type 1 where
   pub token : X → Token
-  pub events : X → List Event
+  pub events : X → List PartEvent
   pub Around : Phases → Type 0
   pub Gives : X → Phases → Type 0
   pub Allowed : List X → X → Type 0

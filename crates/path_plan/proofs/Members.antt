@@ -11,7 +11,7 @@ use Rattle.cxx_hierarchy.specs.Hierarchies.{IsHierarchy}
 use Rattle.cxx_subobject.specs.Subobjects.{class_of}
 use Rattle.cxx_hierarchy.specs.Declarations.{elements_of}
 use Rattle.foundation.proofs.Members.{Has, has_at, contains_from_has, has_cases}
-use Rattle.path_plan.specs.Places.{ObjectPart, element, member_kid, IsIn, here, deeper}
+use Rattle.path_plan.specs.Places.{ObjectPart, element, member_kid, IsPartWithin, here, deeper}
 use Rattle.path_plan.specs.Phases.{Complete, is_half, Phases}
 use Rattle.path_plan.specs.Plans.{InFull, Inner, Bodies, init_events, typed_events, member_events, count_from, upto, backwards}
 use Rattle.path_plan.proofs.Names.{Token, Member, Index, owner_name, sub_name, name, Begins, begins_child, not_child, IsRaw}
@@ -51,7 +51,7 @@ count_follows token end one done a (suc n) fits = (
 
 -- the elements of a member that is an object or an array of objects
 element_step : (h : Classes) (inner : Inner) (n : ℕ) → Good h inner n → (p : ObjectPart) (m d_count : ℕ) (d : ClassId) → d.0 < n
-    → ((i : ℕ) (q : ObjectPart) → i < d_count → IsIn h q (element p m i d) → IsIn h q p)
+    → ((i : ℕ) (q : ObjectPart) → i < d_count → IsPartWithin h q (element p m i d) → IsPartWithin h q p)
     → (i : ℕ) (s : Phases) → InItsMembers h p s → i < d_count → IsRaw ((name p ++ Member m ∷ []) ++ Index i ∷ []) s
     → Ran h ((name p ++ Member m ∷ []) ++ Index i ∷ []) p s (inner InFull d (element p m i d)) (λ s'. s'.phase (element p m i d) ≡ Complete)
 element_step h inner n good p m count d below inside i s a lt raw =
@@ -71,7 +71,7 @@ element_step h inner n good p m count d below inside i s a lt raw =
     named : (q : ObjectPart) → q.object ≡ p.object → q.owner ≡ record { base = p.at; member = m; index = i } ∷ p.owner → Begins ((name p ++ Member m ∷ []) ++ Index i ∷ []) (name q)
     named q ob own = record { rest = sub_name q.at; is = ap (λ k. owner_name k q.owner ++ sub_name q.at) ob ∙ ap (λ o. owner_name p.object o ++ sub_name q.at) own }
 
-element_loop : (h : Classes) (inner : Inner) (n : ℕ) → Good h inner n → (p : ObjectPart) (m count : ℕ) (d : ClassId) → d.0 < n → ((i : ℕ) (q : ObjectPart) → i < count → IsIn h q (element p m i d) → IsIn h q p) → Loop ℕ h (name p ++ Member m ∷ []) p
+element_loop : (h : Classes) (inner : Inner) (n : ℕ) → Good h inner n → (p : ObjectPart) (m count : ℕ) (d : ClassId) → d.0 < n → ((i : ℕ) (q : ObjectPart) → i < count → IsPartWithin h q (element p m i d) → IsPartWithin h q p) → Loop ℕ h (name p ++ Member m ∷ []) p
 element_loop h inner n good p m count d below inside = record {
   token = λ i. Index i;
   events = λ i. inner InFull d (element p m i d);
@@ -89,7 +89,7 @@ abbrev pub Gives : ObjectPart → ℕ → ℕ → FieldType ClassId → Phases �
 Gives p m count ty s = (d : ClassId) (i : ℕ) → ty ≡ Object d → i < count → s.phase (element p m i d) ≡ Complete
 
 typed_ran : (h : Classes) (inner : Inner) (bodies : Bodies) (n : ℕ) → Good h inner n → (c : ClassId) (p : ObjectPart) (m count : ℕ) (ty : FieldType ClassId)
-    → ((d : ClassId) → ty ≡ Object d → d.0 < n) → ((d : ClassId) (i : ℕ) (q : ObjectPart) → ty ≡ Object d → i < count → IsIn h q (element p m i d) → IsIn h q p)
+    → ((d : ClassId) → ty ≡ Object d → d.0 < n) → ((d : ClassId) (i : ℕ) (q : ObjectPart) → ty ≡ Object d → i < count → IsPartWithin h q (element p m i d) → IsPartWithin h q p)
     → (s : Phases) → InItsMembers h p s → IsRaw (name p ++ Member m ∷ []) s
     → Ran h (name p ++ Member m ∷ []) p s (typed_events inner bodies c p m (upto count) ty) (Gives p m count ty)
 unfolding element_loop

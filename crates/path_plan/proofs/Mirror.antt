@@ -12,25 +12,25 @@ use Rattle.cxx_hierarchy.specs.Classes.{Classes, bases_of, members_of}
 use Rattle.cxx_hierarchy.specs.Declarations.{elements_of}
 use Rattle.foundation.proofs.Truth.{split}
 use Rattle.path_plan.specs.Places.{ObjectPart, base_part, shared_part, element}
-use Rattle.path_plan.specs.Phases.{Event, Begin, Ready, Done, Ending, Bases, End}
+use Rattle.path_plan.specs.Phases.{PartEvent, Begin, Ready, Done, Ending, Bases, End}
 use Rattle.path_plan.specs.Plans.{Bodies, Form, InFull, AsBase, Inner, backwards, upto, virtual_order, shared_events, base_events, typed_events, member_events, body_events, built_by, build, typed_ending, member_ending, ended_by, unbuild}
 use Rattle.path_plan.specs.Mirrors.{mirrored_event, mirrored, exchanged}
 
 abbrev pub turned : Inner → Inner
 turned inner form c p = mirrored (inner form c p)
 
-mirrored_append : (xs ys : List Event) → mirrored (xs ++ ys) ≡ mirrored ys ++ mirrored xs
+mirrored_append : (xs ys : List PartEvent) → mirrored (xs ++ ys) ≡ mirrored ys ++ mirrored xs
 mirrored_append [] ys = sym (append-nil (mirrored ys))
 mirrored_append (x ∷ xs) ys = ap (λ t. t ++ mirrored_event x ∷ []) (mirrored_append xs ys) ∙ append_assoc (mirrored ys) (mirrored xs) (mirrored_event x ∷ [])
 
-mirrored_map : {X : Type 0} (f : X → List Event) (xs : List X) → mirrored (flat_map f xs) ≡ flat_map (λ x. mirrored (f x)) (backwards xs)
+mirrored_map : {X : Type 0} (f : X → List PartEvent) (xs : List X) → mirrored (flat_map f xs) ≡ flat_map (λ x. mirrored (f x)) (backwards xs)
 mirrored_map f [] = refl
 mirrored_map {X} f (x ∷ xs) =
-    let g : X → List Event = λ y. mirrored (f y) in
+    let g : X → List PartEvent = λ y. mirrored (f y) in
     mirrored_append (f x) (flat_map f xs) ∙ (ap (λ t. t ++ mirrored (f x)) (mirrored_map f xs)
     ∙ sym (flat_map-append g (backwards xs) (x ∷ []) ∙ ap (λ t. flat_map g (backwards xs) ++ t) (append-nil (g x))))
 
-mirrored_each : {X : Type 0} (f g : X → List Event) (xs : List X) → ((x : X) → mirrored (f x) ≡ g x) → mirrored (flat_map f xs) ≡ flat_map g (backwards xs)
+mirrored_each : {X : Type 0} (f g : X → List PartEvent) (xs : List X) → ((x : X) → mirrored (f x) ≡ g x) → mirrored (flat_map f xs) ≡ flat_map g (backwards xs)
 mirrored_each {X} f g xs e = mirrored_map f xs ∙ (λ i. flat_map (λ (x : X). e x i) (backwards xs))
 
 shared_mirrored : (inner : Inner) (form : Form) (p : ObjectPart) (order : List ClassId) → mirrored (shared_events inner form p order) ≡ shared_events (turned inner) form p (backwards order)
@@ -53,7 +53,7 @@ member_mirrored inner bodies c p m None = refl
 member_mirrored inner bodies c p m (Some member) = typed_mirrored inner bodies c p m (upto (elements_of member.count)) member.ty
 
 -- seven points, backwards
-points : (s b m y : List Event) (begin ready done : Event) → mirrored (begin ∷ (s ++ (b ++ (ready ∷ (m ++ (y ++ done ∷ []))))))
+points : (s b m y : List PartEvent) (begin ready done : PartEvent) → mirrored (begin ∷ (s ++ (b ++ (ready ∷ (m ++ (y ++ done ∷ []))))))
     ≡ mirrored_event done ∷ (mirrored y ++ (mirrored m ++ (mirrored_event ready ∷ (mirrored b ++ (mirrored s ++ mirrored_event begin ∷ [])))))
 points s b m y begin ready done =
     rw (mirrored_append s (b ++ (ready ∷ (m ++ (y ++ done ∷ [])))), mirrored_append b (ready ∷ (m ++ (y ++ done ∷ []))), mirrored_append m (y ++ done ∷ []), mirrored_append y (done ∷ []))

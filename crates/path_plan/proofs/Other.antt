@@ -6,10 +6,10 @@ use Rattle.cxx_hierarchy.specs.declared.records.ClassId.{ClassId}
 use Rattle.cxx_hierarchy.specs.Classes.{Classes}
 use Rattle.cxx_subobject.specs.Subobjects.{whole_of}
 use Rattle.foundation.proofs.Truth.{split}
-use Rattle.path_plan.specs.Places.{Step, ObjectPart, part, same_owner}
-use Rattle.path_plan.specs.Phases.{Phase, Raw, InBases, ReadyBuilding, Complete, ReadyEnding, EndingBases, Ended, is_half, is_complete, is_ready, Phases, Event, Begin, Ready, Init, Body, Done, Ending, Bases, End, part_of, put, pushed, popped, rest_of, first_of, after, after_all}
+use Rattle.path_plan.specs.Places.{Step, ObjectPart, part, same_complete_object}
+use Rattle.path_plan.specs.Phases.{Phase, Raw, InBases, ReadyBuilding, Complete, ReadyEnding, EndingBases, Ended, is_half, is_complete, is_ready, Phases, PartEvent, Begin, Ready, Init, Body, Done, Ending, Bases, End, part_of, put, with_pushed_part, popped, rest_of, top_subobject, phases_after, phases_after_all}
 use Rattle.path_plan.specs.Views.{view, IsOnTop, Settled, Fits, Coherent}
-use Rattle.path_plan.specs.Whole.{whole_part, IsNew, IsStanding, IsGone}
+use Rattle.path_plan.specs.Whole.{whole_part, IsNew, StandsWhole, IsGone}
 use Rattle.path_plan.specs.Runs.{renewed}
 use Rattle.path_plan.proofs.Same.{put_same, put_other, part_cases, Owns, pushed_other, popped_other}
 use Rattle.path_plan.proofs.Growth.{EventsIn}
@@ -22,7 +22,7 @@ pub record IsSameAt (k : ℕ) (s s' : Phases) : Type 0 where
   pub running : (o : List Step) → s.running k o ≡ s'.running k o
 
 view_same : (k : ℕ) (s s' : Phases) → IsSameAt k s s' → (o : List Step) (d : ClassId) → view s k o d ≡ view s' k o d
-view_same k s s' a o d = λ i. if is_complete (a.phase (part k o (whole_of d)) refl i) then Some (whole_of d) else first_of (a.running o i)
+view_same k s s' a o d = λ i. if is_complete (a.phase (part k o (whole_of d)) refl i) then Some (whole_of d) else top_subobject (a.running o i)
 
 pub same_settled : (h : Classes) (k : ℕ) (s s' : Phases) → IsSameAt k s s' → Settled h k s → Settled h k s'
 same_settled h k s s' a b = record {
@@ -33,9 +33,9 @@ same_settled h k s s' a b = record {
 }
 
 same_top : (s s' : Phases) (p : ObjectPart) → IsSameAt p.object s s' → IsOnTop s p → IsOnTop s' p
-same_top s s' p a e = ap first_of (sym (a.running p.owner)) ∙ e
+same_top s s' p a e = ap top_subobject (sym (a.running p.owner)) ∙ e
 
-same_fits : (h : Classes) (s s' : Phases) (e : Event) → IsSameAt (part_of e).object s s' → Fits h s e → Fits h s' e
+same_fits : (h : Classes) (s s' : Phases) (e : PartEvent) → IsSameAt (part_of e).object s s' → Fits h s e → Fits h s' e
 same_fits h s s' (Begin p) a f = sym (a.phase p refl) ∙ f
 same_fits h s s' (Ready p) a f = (sym (a.phase p refl) ∙ f.0, same_top s s' p a f.1)
 same_fits h s s' (Init p m) a f = (ap is_half (sym (a.phase p refl)) ∙ f.0, same_top s s' p a f.1)
@@ -51,13 +51,13 @@ same_put k s s' p x q a ob = ⊎_elim
     (λ differ. put_other s.phase p x q differ ∙ (a.phase q ob ∙ sym (put_other s'.phase p x q differ)))
     (part_cases p q)
 
-same_pushed : (k : ℕ) (s s' : Phases) (p : ObjectPart) (o : List Step) → IsSameAt k s s' → pushed s.running p k o ≡ pushed s'.running p k o
-same_pushed k s s' p o a = λ i. if same_owner p.object p.owner k o then p.at ∷ a.running o i else a.running o i
+same_pushed : (k : ℕ) (s s' : Phases) (p : ObjectPart) (o : List Step) → IsSameAt k s s' → with_pushed_part s.running p k o ≡ with_pushed_part s'.running p k o
+same_pushed k s s' p o a = λ i. if same_complete_object p.object p.owner k o then p.at ∷ a.running o i else a.running o i
 
 same_popped : (k : ℕ) (s s' : Phases) (p : ObjectPart) (o : List Step) → IsSameAt k s s' → popped s.running p k o ≡ popped s'.running p k o
-same_popped k s s' p o a = λ i. if same_owner p.object p.owner k o then rest_of (a.running o i) else a.running o i
+same_popped k s s' p o a = λ i. if same_complete_object p.object p.owner k o then rest_of (a.running o i) else a.running o i
 
-pub same_after : (k : ℕ) (s s' : Phases) → IsSameAt k s s' → (e : Event) → IsSameAt k (after s e) (after s' e)
+pub same_after : (k : ℕ) (s s' : Phases) → IsSameAt k s s' → (e : PartEvent) → IsSameAt k (phases_after s e) (phases_after s' e)
 same_after k s s' a (Begin p) = record { phase = λ q ob. same_put k s s' p InBases q a ob; running = λ o. same_pushed k s s' p o a }
 same_after k s s' a (Ready p) = record { phase = λ q ob. same_put k s s' p ReadyBuilding q a ob; running = a.running }
 same_after k s s' a (Init p m) = a
@@ -67,19 +67,19 @@ same_after k s s' a (Ending p) = record { phase = λ q ob. same_put k s s' p Rea
 same_after k s s' a (Bases p) = record { phase = λ q ob. same_put k s s' p EndingBases q a ob; running = a.running }
 same_after k s s' a (End p) = record { phase = λ q ob. same_put k s s' p Ended q a ob; running = λ o. same_popped k s s' p o a }
 
-same_after_all : (k : ℕ) (es : List Event) (s s' : Phases) → IsSameAt k s s' → IsSameAt k (after_all s es) (after_all s' es)
+same_after_all : (k : ℕ) (es : List PartEvent) (s s' : Phases) → IsSameAt k s s' → IsSameAt k (phases_after_all s es) (phases_after_all s' es)
 same_after_all k [] s s' a = a
-same_after_all k (e ∷ es) s s' a = same_after_all k es (after s e) (after s' e) (same_after k s s' a e)
+same_after_all k (e ∷ es) s s' a = same_after_all k es (phases_after s e) (phases_after s' e) (same_after k s s' a e)
 
-same_coherent : (h : Classes) (w : ObjectPart) (es : List Event) (s s' : Phases) → EventsIn h w es → IsSameAt w.object s s' → Coherent h s es → Coherent h s' es
+same_coherent : (h : Classes) (w : ObjectPart) (es : List PartEvent) (s s' : Phases) → EventsIn h w es → IsSameAt w.object s s' → Coherent h s es → Coherent h s' es
 same_coherent h w [] s s' own a c = tt
 same_coherent h w (e ∷ es) s s' own a c = (
   same_fits h s s' e (subst (λ k. IsSameAt k s s') (sym (in_object h (part_of e) w own.0)) a) c.0,
-  same_coherent h w es (after s e) (after s' e) own.1 (same_after w.object s s' a e) c.1,
+  same_coherent h w es (phases_after s e) (phases_after s' e) own.1 (same_after w.object s s' a e) c.1,
 )
 
 -- an event of another object
-pub other_after : (k : ℕ) (s : Phases) (e : Event) → ((part_of e).object ≡ k → ⊥) → IsSameAt k s (after s e)
+pub other_after : (k : ℕ) (s : Phases) (e : PartEvent) → ((part_of e).object ≡ k → ⊥) → IsSameAt k s (phases_after s e)
 other_after k s (Begin p) off = record { phase = λ q ob. sym (put_other s.phase p InBases q (λ e. off (ap (λ (x : ObjectPart). x.object) e ∙ ob))); running = λ o. sym (pushed_other s.running p k o (λ (w : Owns p k o). off w.object)) }
 other_after k s (Ready p) off = record { phase = λ q ob. sym (put_other s.phase p ReadyBuilding q (λ e. off (ap (λ (x : ObjectPart). x.object) e ∙ ob))); running = λ o. refl }
 other_after k s (Init p m) off = record { phase = λ q ob. refl; running = λ o. refl }
@@ -100,7 +100,7 @@ renewed_new k s = record { raw = λ q ob. rw (eq-eqb q.object k ob) refl; idle =
 
 -- an object that no plan is at work on
 pub data IsAtRest (h : Classes) (k : ℕ) (c : ClassId) (s : Phases) : Type 0 where
-  stands : IsStanding h k c s → IsAtRest h k c s
+  stands : StandsWhole h k c s → IsAtRest h k c s
   is_gone : IsGone h k c s → IsAtRest h k c s
 
 pub same_rest : (h : Classes) (k : ℕ) (c : ClassId) (s s' : Phases) → IsSameAt k s s' → IsAtRest h k c s → IsAtRest h k c s'
@@ -116,17 +116,17 @@ same_rest h k c s s' a (is_gone b) = is_gone (record {
 })
 
 -- what a plan of the object k has before it
-pub record Carries (h : Classes) (k : ℕ) (c : ClassId) (s : Phases) (es : List Event) : Type 0 where
+pub record Carries (h : Classes) (k : ℕ) (c : ClassId) (s : Phases) (es : List PartEvent) : Type 0 where
   pub coherent : Coherent h s es
   pub inside : EventsIn h (whole_part k c) es
-  pub rests : IsAtRest h k c (after_all s es)
+  pub rests : IsAtRest h k c (phases_after_all s es)
   pub last : EndsLast (whole_part k c) es
 
-pub same_carries : (h : Classes) (k : ℕ) (c : ClassId) (s s' : Phases) (es : List Event) → IsSameAt k s s' → Carries h k c s es → Carries h k c s' es
+pub same_carries : (h : Classes) (k : ℕ) (c : ClassId) (s s' : Phases) (es : List PartEvent) → IsSameAt k s s' → Carries h k c s es → Carries h k c s' es
 same_carries h k c s s' es a b = record {
   coherent = same_coherent h (whole_part k c) es s s' b.inside a b.coherent;
   inside = b.inside;
-  rests = same_rest h k c (after_all s es) (after_all s' es) (same_after_all k es s s' a) b.rests;
+  rests = same_rest h k c (phases_after_all s es) (phases_after_all s' es) (same_after_all k es s s' a) b.rests;
   last = b.last;
 }
 

@@ -13,16 +13,16 @@ use Rattle.cxx_hierarchy.specs.Hierarchies.{IsHierarchy}
 use Rattle.cxx_hierarchy.specs.Declarations.{elements_of}
 use Rattle.foundation.proofs.Truth.{split}
 use Rattle.path_plan.specs.Places.{ObjectPart, base_part, shared_part, element}
-use Rattle.path_plan.specs.Phases.{Event, Begin, Ready, Done, Ending, Bases, End}
+use Rattle.path_plan.specs.Phases.{PartEvent, Begin, Ready, Done, Ending, Bases, End}
 use Rattle.path_plan.specs.Plans.{Bodies, Form, InFull, AsBase, Inner, upto, backwards, virtual_order, shared_events, base_events, init_events, typed_events, member_events, body_events, built_by, typed_ending, member_ending, ended_by, plan, unplan}
-use Rattle.path_plan.specs.Pieces.{Piece, Own, Sub, expand, shared_pieces, base_pieces, init_pieces, body_pieces, typed_pieces, member_pieces, built_pieces, ended_pieces, Pending, pending, rest_of_plan, opened}
+use Rattle.path_plan.specs.Pieces.{Piece, Own, Sub, expand, shared_pieces, base_pieces, init_pieces, body_pieces, typed_pieces, member_pieces, built_pieces, ended_pieces, Pending, pending, rest_of_plan, opened_pieces}
 use Rattle.path_plan.proofs.Steps.{plan_is, unplan_is}
 
 expand_map : {X : Type 0} (inner : Inner) (f : X → Piece) (xs : List X) → flat_map (expand inner) (map f xs) ≡ flat_map (λ x. expand inner (f x)) xs
 expand_map inner f [] = refl
 expand_map inner f (x ∷ xs) = ap (λ t. expand inner (f x) ++ t) (expand_map inner f xs)
 
-expand_flat : {X : Type 0} (inner : Inner) (f : X → List Piece) (g : X → List Event) (xs : List X) → ((x : X) → flat_map (expand inner) (f x) ≡ g x) → flat_map (expand inner) (flat_map f xs) ≡ flat_map g xs
+expand_flat : {X : Type 0} (inner : Inner) (f : X → List Piece) (g : X → List PartEvent) (xs : List X) → ((x : X) → flat_map (expand inner) (f x) ≡ g x) → flat_map (expand inner) (flat_map f xs) ≡ flat_map g xs
 expand_flat inner f g [] e = refl
 expand_flat inner f g (x ∷ xs) e = flat_map-append (expand inner) (f x) (flat_map f xs) ∙ (ap (λ t. t ++ flat_map (expand inner) (flat_map f xs)) (e x) ∙ ap (λ t. g x ++ t) (expand_flat inner f g xs e))
 
@@ -57,7 +57,7 @@ ending_expand inner p m (Some member) = typed member.ty
     typed (Value type) = refl
     typed (Object d) = expand_map inner (λ i. Sub InFull d (element p m i d)) (backwards (upto (elements_of member.count)))
 
-more : (inner : Inner) (xs ys : List Piece) (us vs : List Event) → flat_map (expand inner) xs ≡ us → flat_map (expand inner) ys ≡ vs → flat_map (expand inner) (xs ++ ys) ≡ us ++ vs
+more : (inner : Inner) (xs ys : List Piece) (us vs : List PartEvent) → flat_map (expand inner) xs ≡ us → flat_map (expand inner) ys ≡ vs → flat_map (expand inner) (xs ++ ys) ≡ us ++ vs
 more inner xs ys us vs a b = flat_map-append (expand inner) xs ys ∙ (ap (λ t. t ++ flat_map (expand inner) ys) a ∙ ap (λ t. us ++ t) b)
 
 built_expand : (h : Classes) (bodies : Bodies) (inner : Inner) (form : Form) (c : ClassId) (p : ObjectPart) → flat_map (expand inner) (built_pieces h bodies form c p) ≡ built_by h bodies inner form c p
@@ -89,16 +89,16 @@ unplan_pieces h keeps bodies form c p = ended_expand h bodies (unplan h bodies) 
 
 -- opening parts leaves the plan as it is
 pub opened_rest : (inner : Inner) (pieces : Form → ClassId → ObjectPart → List Piece) → ((form : Form) (c : ClassId) (p : ObjectPart) → flat_map (expand inner) (pieces form c p) ≡ inner form c p)
-    → (p : ObjectPart) (left : List Piece) (below : List Pending) → rest_of_plan inner (opened pieces p left below) ≡ flat_map (expand inner) left ++ rest_of_plan inner below
+    → (p : ObjectPart) (left : List Piece) (below : List Pending) → rest_of_plan inner (opened_pieces pieces p left below) ≡ flat_map (expand inner) left ++ rest_of_plan inner below
 opened_rest inner pieces law p [] below = refl
 opened_rest inner pieces law p (Own e ∷ left) below = refl
 opened_rest inner pieces law p (Sub form c q ∷ left) below =
-    ap (λ t. t ++ rest_of_plan inner (opened pieces p left below)) (law form c q)
+    ap (λ t. t ++ rest_of_plan inner (opened_pieces pieces p left below)) (law form c q)
     ∙ (ap (λ t. inner form c q ++ t) (opened_rest inner pieces law p left below) ∙ sym (append_assoc (inner form c q) (flat_map (expand inner) left) (rest_of_plan inner below)))
 
 -- an own event of the top frame is the next event of the plan
 pub own_step : (inner : Inner) (pieces : Form → ClassId → ObjectPart → List Piece) → ((form : Form) (c : ClassId) (p : ObjectPart) → flat_map (expand inner) (pieces form c p) ≡ inner form c p)
-    → (p : ObjectPart) (e : Event) (left : List Piece) (below : List Pending) → rest_of_plan inner (pending p (Own e ∷ left) ∷ below) ≡ e ∷ rest_of_plan inner (opened pieces p left below)
+    → (p : ObjectPart) (e : PartEvent) (left : List Piece) (below : List Pending) → rest_of_plan inner (pending p (Own e ∷ left) ∷ below) ≡ e ∷ rest_of_plan inner (opened_pieces pieces p left below)
 own_step inner pieces law p e left below = ap (λ t. e ∷ t) (sym (opened_rest inner pieces law p left below))
 
 -- the first frame of a part gives its plan

@@ -8,7 +8,7 @@ use Rattle.cxx_subobject.specs.Subobjects.{IsSubobject, whole, shared, subobject
 use Rattle.foundation.proofs.Truth.{split}
 use Rattle.cxx_subobject.proofs.TreeLemmas.{base_down}
 use Rattle.cxx_subobject.proofs.PathLemmas.{class_of_longer}
-use Rattle.path_plan.specs.Places.{ObjectPart, part, base_part, shared_part, base_kid, IsBaseKid, IsIn, deeper}
+use Rattle.path_plan.specs.Places.{ObjectPart, part, base_part, shared_part, base_kid, IsBaseKid, IsPartWithin, deeper}
 use Rattle.path_plan.specs.Phases.{is_half, is_complete, is_ready, Phases}
 use Rattle.path_plan.specs.Views.{Settled}
 use Rattle.path_plan.proofs.Bases.{shared_in, class_base, shared_of_base}
@@ -18,13 +18,13 @@ use Rattle.path_plan.proofs.Valid.{path_in}
 pub record IsBelow (h : Classes) (p q : ObjectPart) : Type 0 where
   pub base : ObjectPart
   pub kid : IsBaseKid h p base
-  pub inside : IsIn h q base
+  pub inside : IsPartWithin h q base
 
-shared_below : (h : Classes) (c v : ClassId) (q : ObjectPart) → HasVirtualBase h c v → (p : ObjectPart) → class_of p.at ≡ Some c → IsIn h q (shared_part p v) → IsBelow h p q
+shared_below : (h : Classes) (c v : ClassId) (q : ObjectPart) → HasVirtualBase h c v → (p : ObjectPart) → class_of p.at ≡ Some c → IsPartWithin h q (shared_part p v) → IsBelow h p q
 shared_below h _ _ q (direct c v d) p class inside = record {
   base = base_part p d.base;
   kid = record { class = c; base = d.base; of_class = class; listed = d.listed; is = refl };
-  inside = subst (λ (x : ObjectPart). IsIn h q x) (shared_of_base p d.base d.way) (subst (λ (x : ClassId). IsIn h q (shared_part p x)) (sym d.class) inside);
+  inside = subst (λ (x : ObjectPart). IsPartWithin h q x) (shared_of_base p d.base d.way) (subst (λ (x : ClassId). IsPartWithin h q (shared_part p x)) (sym d.class) inside);
 }
 shared_below h _ _ q (further c b v way d rest) p class inside = record {
   base = base_part p d.base;
@@ -39,11 +39,11 @@ proper_below h c p _ class (whole (b ∷ path) l) proper =
     let next = subobject s.root (s.path ++ b ∷ []) in
     let is : base_subobject s d.base ≡ next = base_down s d.base d.way ∙ ap (λ (x : ClassId). subobject s.root (s.path ++ x ∷ [])) d.class in
     let rest = path_in h k o b next path (class_of_longer s.path (b ∷ []) c class) l.1 in
-    let there : IsIn h (part k o (subobject s.root (s.path ++ b ∷ path))) (part k o next) = subst (λ (x : List ClassId). IsIn h (part k o (subobject s.root x)) (part k o next)) (append_assoc s.path (b ∷ []) path) rest in
+    let there : IsPartWithin h (part k o (subobject s.root (s.path ++ b ∷ path))) (part k o next) = subst (λ (x : List ClassId). IsPartWithin h (part k o (subobject s.root x)) (part k o next)) (append_assoc s.path (b ∷ []) path) rest in
     record {
       base = base_part p d.base;
       kid = record { class = c; base = d.base; of_class = class; listed = d.listed; is = refl };
-      inside = subst (λ (x : Subobject). IsIn h (part k o (subobject s.root (s.path ++ b ∷ path))) (part k o x)) (sym is) there;
+      inside = subst (λ (x : Subobject). IsPartWithin h (part k o (subobject s.root (s.path ++ b ∷ path))) (part k o x)) (sym is) there;
     }
 proper_below h c p _ class (shared v path has l) proper = shared_below h c v _ has p class (path_in h p.object p.owner v (shared_base v) path refl l)
 

@@ -6,8 +6,8 @@ use Rattle.cxx_subobject.specs.declared.Subobject.{Subobject}
 use Rattle.cxx_subobject.specs.Subobjects.{same_subobject}
 use Rattle.foundation.proofs.Truth.{split}
 use Rattle.cxx_subobject.proofs.TreeLemmas.{subobject_same, same_itself}
-use Rattle.path_plan.specs.Places.{Step, ObjectPart, part, same_step, same_steps, same_owner, same_part}
-use Rattle.path_plan.specs.Phases.{Phase, put, pushed, popped, rest_of}
+use Rattle.path_plan.specs.Places.{Step, ObjectPart, part, same_step, same_steps, same_complete_object, same_part}
+use Rattle.path_plan.specs.Phases.{Phase, put, with_pushed_part, popped, rest_of}
 
 step_same : (a b : Step) → same_step a b ≡ true → a ≡ b
 step_same a b e =
@@ -26,15 +26,15 @@ steps_itself : (a : List Step) → same_steps a a ≡ true
 steps_itself [] = refl
 steps_itself (x ∷ a) = rw (same_itself x.base, eq-eqb x.member x.member refl, eq-eqb x.index x.index refl, steps_itself a) refl
 
-pub owner_same : (k : ℕ) (o : List Step) (k' : ℕ) (o' : List Step) → same_owner k o k' o' ≡ true → (k ≡ k') × (o ≡ o')
+pub owner_same : (k : ℕ) (o : List Step) (k' : ℕ) (o' : List Step) → same_complete_object k o k' o' ≡ true → (k ≡ k') × (o ≡ o')
 owner_same k o k' o' e = let r = and_parts (nat_eq k k') (same_steps o o') e in (eqb-true k k' r.0, steps_same o o' r.1)
 
-pub owner_itself : (k : ℕ) (o : List Step) → same_owner k o k o ≡ true
+pub owner_itself : (k : ℕ) (o : List Step) → same_complete_object k o k o ≡ true
 owner_itself k o = rw (eq-eqb k k refl, steps_itself o) refl
 
 pub part_same : (p q : ObjectPart) → same_part p q ≡ true → p ≡ q
 part_same p q e =
-    let r = and_parts (same_owner p.object p.owner q.object q.owner) (same_subobject p.at q.at) e in
+    let r = and_parts (same_complete_object p.object p.owner q.object q.owner) (same_subobject p.at q.at) e in
     let s = owner_same p.object p.owner q.object q.owner r.0 in
     let f : part p.object p.owner p.at ≡ part q.object q.owner q.at = cc (s.0, s.1, subobject_same p.at q.at r.1) in f
 
@@ -58,22 +58,22 @@ pub record Owns (p : ObjectPart) (k : ℕ) (o : List Step) : Type 0 where
   pub owner : p.owner ≡ o
 
 pub owner_cases : (p : ObjectPart) (k : ℕ) (o : List Step) → Owns p k o ⊎ (Owns p k o → ⊥)
-owner_cases p k o = split (same_owner p.object p.owner k o) (λ b. Owns p k o ⊎ (Owns p k o → ⊥))
+owner_cases p k o = split (same_complete_object p.object p.owner k o) (λ b. Owns p k o ⊎ (Owns p k o → ⊥))
     (λ e. inl (record { object = (owner_same p.object p.owner k o e).0; owner = (owner_same p.object p.owner k o e).1 }))
-    (λ e. inr (λ same. let f : same_owner p.object p.owner k o ≡ true = cc (owner_itself p.object p.owner, same.object, same.owner) in absurd (cc)))
+    (λ e. inr (λ same. let f : same_complete_object p.object p.owner k o ≡ true = cc (owner_itself p.object p.owner, same.object, same.owner) in absurd (cc)))
 
-pub pushed_same : (running : ℕ → List Step → List Subobject) (p : ObjectPart) → pushed running p p.object p.owner ≡ p.at ∷ running p.object p.owner
+pub pushed_same : (running : ℕ → List Step → List Subobject) (p : ObjectPart) → with_pushed_part running p p.object p.owner ≡ p.at ∷ running p.object p.owner
 pushed_same running p = rw (owner_itself p.object p.owner) refl
 
 pub popped_same : (running : ℕ → List Step → List Subobject) (p : ObjectPart) → popped running p p.object p.owner ≡ rest_of (running p.object p.owner)
 popped_same running p = rw (owner_itself p.object p.owner) refl
 
-pub pushed_other : (running : ℕ → List Step → List Subobject) (p : ObjectPart) (k : ℕ) (o : List Step) → (Owns p k o → ⊥) → pushed running p k o ≡ running k o
-pushed_other running p k o differ = split (same_owner p.object p.owner k o) (λ b. (if b then p.at ∷ running k o else running k o) ≡ running k o)
+pub pushed_other : (running : ℕ → List Step → List Subobject) (p : ObjectPart) (k : ℕ) (o : List Step) → (Owns p k o → ⊥) → with_pushed_part running p k o ≡ running k o
+pushed_other running p k o differ = split (same_complete_object p.object p.owner k o) (λ b. (if b then p.at ∷ running k o else running k o) ≡ running k o)
     (λ e. absurd (differ (record { object = (owner_same p.object p.owner k o e).0; owner = (owner_same p.object p.owner k o e).1 }))) (λ e. refl)
 
 pub popped_other : (running : ℕ → List Step → List Subobject) (p : ObjectPart) (k : ℕ) (o : List Step) → (Owns p k o → ⊥) → popped running p k o ≡ running k o
-popped_other running p k o differ = split (same_owner p.object p.owner k o) (λ b. (if b then rest_of (running k o) else running k o) ≡ running k o)
+popped_other running p k o differ = split (same_complete_object p.object p.owner k o) (λ b. (if b then rest_of (running k o) else running k o) ≡ running k o)
     (λ e. absurd (differ (record { object = (owner_same p.object p.owner k o e).0; owner = (owner_same p.object p.owner k o e).1 }))) (λ e. refl)
 
 pub part_owns : (p : ObjectPart) (k : ℕ) (o : List Step) (y : Subobject) → p ≡ part k o y → Owns p k o

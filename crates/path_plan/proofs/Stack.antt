@@ -11,29 +11,29 @@ use Rattle.cxx_hierarchy.specs.Classes.{Classes, bases_of, members_of}
 use Rattle.cxx_subobject.specs.declared.Subobject.{Subobject}
 use Rattle.cxx_hierarchy.specs.Declarations.{elements_of}
 use Rattle.foundation.proofs.Truth.{split}
-use Rattle.path_plan.specs.Places.{Step, ObjectPart, base_part, shared_part, element, same_owner}
-use Rattle.path_plan.specs.Phases.{Phases, Event, Begin, Ready, Init, Body, Done, Ending, Bases, End, part_of, popped, rest_of, after}
+use Rattle.path_plan.specs.Places.{Step, ObjectPart, base_part, shared_part, element, same_complete_object}
+use Rattle.path_plan.specs.Phases.{Phases, PartEvent, Begin, Ready, Init, Body, Done, Ending, Bases, End, part_of, popped, rest_of, phases_after}
 use Rattle.path_plan.specs.Plans.{Bodies, Form, InFull, AsBase, upto, backwards, virtual_order}
-use Rattle.path_plan.specs.Pieces.{Piece, Own, Sub, shared_pieces, base_pieces, body_pieces, typed_pieces, member_pieces, built_pieces, ended_pieces, Pending, pending, opened, begins, ends, is_begun, stack_of, Choice, IsTail, IsWaiting, AreWaiting, IsStackOf}
+use Rattle.path_plan.specs.Pieces.{Piece, Own, Sub, shared_pieces, base_pieces, body_pieces, typed_pieces, member_pieces, built_pieces, ended_pieces, Pending, pending, opened_pieces, begins_part, ends, is_begun, stack_of, Choice, IsTail, IsWaiting, AreWaiting, IsStackOf}
 
 -- a part's pieces begin with its first event
 pub record AreGood (pieces : Form → ClassId → ObjectPart → List Piece) : Type 0 where
   pub frame : (form : Form) (c : ClassId) (p : ObjectPart) → IsWaiting p (pieces form c p)
   pub waits : (form : Form) (c : ClassId) (p : ObjectPart) → is_begun (pieces form c p) ≡ false
 
-pub opened_frames : (pieces : Form → ClassId → ObjectPart → List Piece) → AreGood pieces → (p : ObjectPart) (left : List Piece) (below : List Pending) → IsTail p left → AreWaiting below → AreWaiting (opened pieces p left below)
+pub opened_frames : (pieces : Form → ClassId → ObjectPart → List Piece) → AreGood pieces → (p : ObjectPart) (left : List Piece) (below : List Pending) → IsTail p left → AreWaiting below → AreWaiting (opened_pieces pieces p left below)
 opened_frames pieces good p [] below tail frames = absurd tail
 opened_frames pieces good p (Own e ∷ left) below tail frames = ((tail.0, tail.2), frames)
 opened_frames pieces good p (Sub form c q ∷ left) below tail frames = (good.frame form c q, opened_frames pieces good p left below tail frames)
 
 -- what is left behind an own event of the top frame, opened over those below
-after_event : (pieces : Form → ClassId → ObjectPart → List Piece) → AreGood pieces → (p : ObjectPart) (e : Event) (left : List Piece) (below : List Pending) → Choice (ends e) (left ≡ []) (IsTail p left) → AreWaiting below → AreWaiting (opened pieces p left below)
-after_event pieces good p e left below tail frames = split (ends e) (λ b. Choice b (left ≡ []) (IsTail p left) → AreWaiting (opened pieces p left below))
-    (λ _ t. subst (λ (xs : List Piece). AreWaiting (opened pieces p xs below)) (sym t) frames)
+after_event : (pieces : Form → ClassId → ObjectPart → List Piece) → AreGood pieces → (p : ObjectPart) (e : PartEvent) (left : List Piece) (below : List Pending) → Choice (ends e) (left ≡ []) (IsTail p left) → AreWaiting below → AreWaiting (opened_pieces pieces p left below)
+after_event pieces good p e left below tail frames = split (ends e) (λ b. Choice b (left ≡ []) (IsTail p left) → AreWaiting (opened_pieces pieces p left below))
+    (λ _ t. subst (λ (xs : List Piece). AreWaiting (opened_pieces pieces p xs below)) (sym t) frames)
     (λ _ t. opened_frames pieces good p left below t frames) tail
 
 -- frames stay frames when the top one takes its own event
-pub waiting_step : (pieces : Form → ClassId → ObjectPart → List Piece) → AreGood pieces → (p : ObjectPart) (e : Event) (left : List Piece) (below : List Pending) → AreWaiting (pending p (Own e ∷ left) ∷ below) → AreWaiting (opened pieces p left below)
+pub waiting_step : (pieces : Form → ClassId → ObjectPart → List Piece) → AreGood pieces → (p : ObjectPart) (e : PartEvent) (left : List Piece) (below : List Pending) → AreWaiting (pending p (Own e ∷ left) ∷ below) → AreWaiting (opened_pieces pieces p left below)
 waiting_step pieces good p e left below waiting = after_event pieces good p e left below waiting.0.1 waiting.1
 
 -- the pieces of a part are a frame
@@ -44,7 +44,7 @@ first_waits pieces good form c p below waiting = (good.frame form c p, waiting)
 pub first_idle : (pieces : Form → ClassId → ObjectPart → List Piece) → AreGood pieces → (form : Form) (c : ClassId) (p : ObjectPart) (below : List Pending) (s : Phases) → IsStackOf below s → IsStackOf (pending p (pieces form c p) ∷ below) s
 first_idle pieces good form c p below s are = λ k o. rw (good.waits form c p) (are k o)
 
-begun_is : (e : Event) (left : List Piece) → is_begun (Own e ∷ left) ≡ not (begins e)
+begun_is : (e : PartEvent) (left : List Piece) → is_begun (Own e ∷ left) ≡ not (begins_part e)
 begun_is (Begin p) left = refl
 begun_is (Ready p) left = refl
 begun_is (Init p m) left = refl
@@ -56,41 +56,41 @@ begun_is (End p) left = refl
 
 -- the frame of p, begun, over those below
 abbrev over : ObjectPart → List Pending → ℕ → List Step → List Subobject
-over p below k o = if same_owner p.object p.owner k o then p.at ∷ stack_of below k o else stack_of below k o
+over p below k o = if same_complete_object p.object p.owner k o then p.at ∷ stack_of below k o else stack_of below k o
 
-stack_opened : (pieces : Form → ClassId → ObjectPart → List Piece) → AreGood pieces → (p : ObjectPart) (left : List Piece) (below : List Pending) → IsTail p left → (k : ℕ) (o : List Step) → stack_of (opened pieces p left below) k o ≡ over p below k o
+stack_opened : (pieces : Form → ClassId → ObjectPart → List Piece) → AreGood pieces → (p : ObjectPart) (left : List Piece) (below : List Pending) → IsTail p left → (k : ℕ) (o : List Step) → stack_of (opened_pieces pieces p left below) k o ≡ over p below k o
 stack_opened pieces good p [] below tail k o = absurd tail
 stack_opened pieces good p (Own e ∷ left) below tail k o = rw (begun_is e left, tail.1) refl
 stack_opened pieces good p (Sub form c q ∷ left) below tail k o = rw (good.waits form c q) (stack_opened pieces good p left below tail k o)
 
 popped_over : (p : ObjectPart) (below : List Pending) (r : ℕ → List Step → List Subobject) (k : ℕ) (o : List Step) → r k o ≡ over p below k o → popped r p k o ≡ stack_of below k o
-popped_over p below r k o e = split (same_owner p.object p.owner k o)
+popped_over p below r k o e = split (same_complete_object p.object p.owner k o)
     (λ b. r k o ≡ (if b then p.at ∷ stack_of below k o else stack_of below k o) → (if b then rest_of (r k o) else r k o) ≡ stack_of below k o)
     (λ t f. ap rest_of f) (λ t f. f) e
 
-own_stack : (pieces : Form → ClassId → ObjectPart → List Piece) → AreGood pieces → (s : Phases) (e : Event) (left : List Piece) (below : List Pending) → Choice (ends e) (left ≡ []) (IsTail (part_of e) left)
-    → IsStackOf (pending (part_of e) (Own e ∷ left) ∷ below) s → (k : ℕ) (o : List Step) → (after s e).running k o ≡ stack_of (opened pieces (part_of e) left below) k o
-own_stack pieces good s (Begin p) left below tail are k o = (λ i. if same_owner p.object p.owner k o then p.at ∷ are k o i else are k o i) ∙ sym (stack_opened pieces good p left below tail k o)
+own_stack : (pieces : Form → ClassId → ObjectPart → List Piece) → AreGood pieces → (s : Phases) (e : PartEvent) (left : List Piece) (below : List Pending) → Choice (ends e) (left ≡ []) (IsTail (part_of e) left)
+    → IsStackOf (pending (part_of e) (Own e ∷ left) ∷ below) s → (k : ℕ) (o : List Step) → (phases_after s e).running k o ≡ stack_of (opened_pieces pieces (part_of e) left below) k o
+own_stack pieces good s (Begin p) left below tail are k o = (λ i. if same_complete_object p.object p.owner k o then p.at ∷ are k o i else are k o i) ∙ sym (stack_opened pieces good p left below tail k o)
 own_stack pieces good s (Ready p) left below tail are k o = are k o ∙ sym (stack_opened pieces good p left below tail k o)
 own_stack pieces good s (Init p m) left below tail are k o = are k o ∙ sym (stack_opened pieces good p left below tail k o)
 own_stack pieces good s (Body p) left below tail are k o = are k o ∙ sym (stack_opened pieces good p left below tail k o)
-own_stack pieces good s (Done p) left below tail are k o = popped_over p below s.running k o (are k o) ∙ ap (λ (xs : List Piece). stack_of (opened pieces p xs below) k o) (sym tail)
-own_stack pieces good s (Ending p) left below tail are k o = (λ i. if same_owner p.object p.owner k o then p.at ∷ are k o i else are k o i) ∙ sym (stack_opened pieces good p left below tail k o)
+own_stack pieces good s (Done p) left below tail are k o = popped_over p below s.running k o (are k o) ∙ ap (λ (xs : List Piece). stack_of (opened_pieces pieces p xs below) k o) (sym tail)
+own_stack pieces good s (Ending p) left below tail are k o = (λ i. if same_complete_object p.object p.owner k o then p.at ∷ are k o i else are k o i) ∙ sym (stack_opened pieces good p left below tail k o)
 own_stack pieces good s (Bases p) left below tail are k o = are k o ∙ sym (stack_opened pieces good p left below tail k o)
-own_stack pieces good s (End p) left below tail are k o = popped_over p below s.running k o (are k o) ∙ ap (λ (xs : List Piece). stack_of (opened pieces p xs below) k o) (sym tail)
+own_stack pieces good s (End p) left below tail are k o = popped_over p below s.running k o (are k o) ∙ ap (λ (xs : List Piece). stack_of (opened_pieces pieces p xs below) k o) (sym tail)
 
 -- after an own event of the top frame the stacks are those of the frames that are left
-pub stack_step : (pieces : Form → ClassId → ObjectPart → List Piece) → AreGood pieces → (p : ObjectPart) (e : Event) (left : List Piece) (below : List Pending) (s : Phases) → AreWaiting (pending p (Own e ∷ left) ∷ below)
-    → IsStackOf (pending p (Own e ∷ left) ∷ below) s → IsStackOf (opened pieces p left below) (after s e)
+pub stack_step : (pieces : Form → ClassId → ObjectPart → List Piece) → AreGood pieces → (p : ObjectPart) (e : PartEvent) (left : List Piece) (below : List Pending) (s : Phases) → AreWaiting (pending p (Own e ∷ left) ∷ below)
+    → IsStackOf (pending p (Own e ∷ left) ∷ below) s → IsStackOf (opened_pieces pieces p left below) (phases_after s e)
 stack_step pieces good p e left below s waiting are = subst
-    (λ (x : ObjectPart). Choice (ends e) (left ≡ []) (IsTail x left) → IsStackOf (pending x (Own e ∷ left) ∷ below) s → IsStackOf (opened pieces x left below) (after s e))
+    (λ (x : ObjectPart). Choice (ends e) (left ≡ []) (IsTail x left) → IsStackOf (pending x (Own e ∷ left) ∷ below) s → IsStackOf (opened_pieces pieces x left below) (phases_after s e))
     waiting.0.0 (λ tail stack. own_stack pieces good s e left below tail stack) waiting.0.1 are
 
 -- the pieces of construction and destruction are good
 abbrev Quiet : ObjectPart → List Piece → Type 0
 Quiet p [] = Unit {0}
 Quiet p (Sub form c q ∷ left) = Quiet p left
-Quiet p (Own e ∷ left) = (part_of e ≡ p) × (begins e ≡ false) × (ends e ≡ false) × Quiet p left
+Quiet p (Own e ∷ left) = (part_of e ≡ p) × (begins_part e ≡ false) × (ends e ≡ false) × Quiet p left
 
 tail_append : (p : ObjectPart) (xs ys : List Piece) → Quiet p xs → IsTail p ys → IsTail p (xs ++ ys)
 tail_append p [] ys q t = t

@@ -6,7 +6,7 @@ use Rattle.cxx_subobject.specs.declared.Subobject.{Subobject}
 use Rattle.cxx_subobject.specs.Subobjects.{IsSubobject, whole_of}
 use Rattle.foundation.proofs.Truth.{split}
 use Rattle.foundation.proofs.Truth.{or_right}
-use Rattle.path_plan.specs.Places.{Step, ObjectPart, part, IsIn, here}
+use Rattle.path_plan.specs.Places.{Step, ObjectPart, part, IsPartWithin, here}
 use Rattle.path_plan.specs.Phases.{Phase, is_half, is_complete, is_ready, Phases}
 use Rattle.path_plan.specs.Views.{view, Settled}
 use Rattle.path_plan.proofs.Valid.{subobject_in}
@@ -24,7 +24,7 @@ complete_ready x e = or_right (is_half x) (is_complete x) e
 
 -- where a ready pointer is not the view, whatever lies in it is ready
 pub inner_ready : (h : Classes) (k : ℕ) (s : Phases) → Settled h k s → (o : List Step) (d : ClassId) (x : Subobject) → IsSubobject h d x → is_ready (s.phase (part k o x)) ≡ true
-    → (view s k o d ≡ Some x → ⊥) → (q : ObjectPart) → IsIn h q (part k o x) → is_ready (s.phase q) ≡ true
+    → (view s k o d ≡ Some x → ⊥) → (q : ObjectPart) → IsPartWithin h q (part k o x) → is_ready (s.phase q) ≡ true
 inner_ready h k s a o d x valid ready off q inside = ⊎_elim (λ e. absurd (off e))
     (λ e. complete_ready (s.phase q) (a.complete_in (part k o x) q refl inside e))
     (ready_cases h k s a o d x valid ready)

@@ -1,10 +1,10 @@
 -- A plan backwards, each event of a construction for the one of a destruction that undoes it.
 use Rattle.std.specs.Prelude.{false, List, [], ◌∷◌, ◌++◌}
-use Rattle.path_plan.specs.Phases.{Event, Begin, Ready, Init, Body, Done, Ending, Bases, End}
+use Rattle.path_plan.specs.Phases.{PartEvent, Begin, Ready, Init, Body, Done, Ending, Bases, End}
 use Rattle.path_plan.specs.Plans.{Bodies}
 
 -- the event that undoes this one
-abbrev pub mirrored_event : Event → Event
+abbrev pub mirrored_event : PartEvent → PartEvent
 mirrored_event (Begin p) = End p
 mirrored_event (Ready p) = Bases p
 mirrored_event (Init p m) = Init p m
@@ -15,7 +15,7 @@ mirrored_event (Bases p) = Ready p
 mirrored_event (End p) = Begin p
 
 -- a plan backwards (ISO C++03 12.4 p6: bases and members are destroyed in the reverse order of their construction)
-abbrev pub mirrored : List Event → List Event
+abbrev pub mirrored : List PartEvent → List PartEvent
 mirrored [] = []
 mirrored (e ∷ es) = mirrored es ++ mirrored_event e ∷ []
 

@@ -1,7 +1,7 @@
 -- Phases of parts, the stack of running constructors and destructors of each complete object, and the events.
 use Rattle.std.specs.Prelude.{ℕ, Bool, true, false, ◌||◌, if◌then◌else◌, Option, Some, None, List, [], ◌∷◌}
 use Rattle.cxx_subobject.specs.declared.Subobject.{Subobject}
-use Rattle.path_plan.specs.Places.{Step, ObjectPart, same_part, same_owner}
+use Rattle.path_plan.specs.Places.{Step, ObjectPart, same_part, same_complete_object}
 
 -- how far a part is: not begun, its bases are under way, its members and its body, constructed, its destructor's body and
 -- its members, its bases, ended (ISO C++03 3.8 p1, 12.7)
@@ -60,18 +60,18 @@ pub record Phases : Type 0 where
 
 -- what happens to a part: construction begins, its bases are done, a member is set, a body runs, it is done; destruction
 -- begins, its bases are next, it has ended
-pub data Event : Type 0 where
-  Begin : ObjectPart → Event
-  Ready : ObjectPart → Event
-  Init : ObjectPart → (member : ℕ) → Event
-  Body : ObjectPart → Event
-  Done : ObjectPart → Event
-  Ending : ObjectPart → Event
-  Bases : ObjectPart → Event
-  End : ObjectPart → Event
+pub data PartEvent : Type 0 where
+  Begin : ObjectPart → PartEvent
+  Ready : ObjectPart → PartEvent
+  Init : ObjectPart → (member : ℕ) → PartEvent
+  Body : ObjectPart → PartEvent
+  Done : ObjectPart → PartEvent
+  Ending : ObjectPart → PartEvent
+  Bases : ObjectPart → PartEvent
+  End : ObjectPart → PartEvent
 
 -- the part to which an event happens
-abbrev pub part_of : Event → ObjectPart
+abbrev pub part_of : PartEvent → ObjectPart
 part_of (Begin p) = p
 part_of (Ready p) = p
 part_of (Init p m) = p
@@ -91,30 +91,30 @@ rest_of [] = []
 rest_of (x ∷ xs) = xs
 
 -- the top of a stack
-abbrev pub first_of : List Subobject → Option Subobject
-first_of [] = None
-first_of (x ∷ xs) = Some x
+abbrev pub top_subobject : List Subobject → Option Subobject
+top_subobject [] = None
+top_subobject (x ∷ xs) = Some x
 
 -- the part is on top of the stack of its complete object
-abbrev pub pushed : (ℕ → List Step → List Subobject) → ObjectPart → ℕ → List Step → List Subobject
-pushed running p k o = if same_owner p.object p.owner k o then p.at ∷ running k o else running k o
+abbrev pub with_pushed_part : (ℕ → List Step → List Subobject) → ObjectPart → ℕ → List Step → List Subobject
+with_pushed_part running p k o = if same_complete_object p.object p.owner k o then p.at ∷ running k o else running k o
 
 -- the top of that stack is taken away
 abbrev pub popped : (ℕ → List Step → List Subobject) → ObjectPart → ℕ → List Step → List Subobject
-popped running p k o = if same_owner p.object p.owner k o then rest_of (running k o) else running k o
+popped running p k o = if same_complete_object p.object p.owner k o then rest_of (running k o) else running k o
 
 -- the phases after an event
-abbrev pub after : Phases → Event → Phases
-after s (Begin p) = record { phase = put s.phase p InBases; running = pushed s.running p }
-after s (Ready p) = record { phase = put s.phase p ReadyBuilding; running = s.running }
-after s (Init p m) = s
-after s (Body p) = s
-after s (Done p) = record { phase = put s.phase p Complete; running = popped s.running p }
-after s (Ending p) = record { phase = put s.phase p ReadyEnding; running = pushed s.running p }
-after s (Bases p) = record { phase = put s.phase p EndingBases; running = s.running }
-after s (End p) = record { phase = put s.phase p Ended; running = popped s.running p }
+abbrev pub phases_after : Phases → PartEvent → Phases
+phases_after s (Begin p) = record { phase = put s.phase p InBases; running = with_pushed_part s.running p }
+phases_after s (Ready p) = record { phase = put s.phase p ReadyBuilding; running = s.running }
+phases_after s (Init p m) = s
+phases_after s (Body p) = s
+phases_after s (Done p) = record { phase = put s.phase p Complete; running = popped s.running p }
+phases_after s (Ending p) = record { phase = put s.phase p ReadyEnding; running = with_pushed_part s.running p }
+phases_after s (Bases p) = record { phase = put s.phase p EndingBases; running = s.running }
+phases_after s (End p) = record { phase = put s.phase p Ended; running = popped s.running p }
 
 -- the phases after a list of events
-abbrev pub after_all : Phases → List Event → Phases
-after_all s [] = s
-after_all s (e ∷ es) = after_all (after s e) es
+abbrev pub phases_after_all : Phases → List PartEvent → Phases
+phases_after_all s [] = s
+phases_after_all s (e ∷ es) = phases_after_all (phases_after s e) es

@@ -9,17 +9,17 @@ use Rattle.cxx_hierarchy.specs.declared.records.FieldType.TheVariants.{Value, Ob
 use Rattle.cxx_hierarchy.specs.Classes.{Classes, bases_of, members_of}
 use Rattle.cxx_subobject.specs.declared.Subobject.{Subobject}
 use Rattle.cxx_hierarchy.specs.Declarations.{elements_of}
-use Rattle.path_plan.specs.Places.{Step, ObjectPart, base_part, shared_part, element, same_owner}
-use Rattle.path_plan.specs.Phases.{Phases, Event, Begin, Ready, Init, Body, Done, Ending, Bases, End, part_of}
+use Rattle.path_plan.specs.Places.{Step, ObjectPart, base_part, shared_part, element, same_complete_object}
+use Rattle.path_plan.specs.Phases.{Phases, PartEvent, Begin, Ready, Init, Body, Done, Ending, Bases, End, part_of}
 use Rattle.path_plan.specs.Plans.{Bodies, Form, InFull, AsBase, Inner, upto, backwards, virtual_order}
 
 -- an event of the part itself, or the plan of another part
 pub data Piece : Type 0 where
-  Own : Event → Piece
+  Own : PartEvent → Piece
   Sub : Form → ClassId → ObjectPart → Piece
 
 -- the events of a piece, where inner is the plan of each part
-abbrev pub expand : Inner → Piece → List Event
+abbrev pub expand : Inner → Piece → List PartEvent
 expand inner (Own e) = e ∷ []
 expand inner (Sub form c p) = inner form c p
 
@@ -78,32 +78,32 @@ abbrev pub pending : ObjectPart → List Piece → Pending
 pending p left = record { part = p; left = left }
 
 -- the frame of p, whose own event e is next, on the frames below
-abbrev pub own_next : ObjectPart → Event → List Piece → (below : List Pending) → List Pending
+abbrev pub own_next : ObjectPart → PartEvent → List Piece → (below : List Pending) → List Pending
 own_next p e left below = pending p (Own e ∷ left) ∷ below
 
 -- what is left of the plan
-abbrev pub rest_of_plan : Inner → List Pending → List Event
+abbrev pub rest_of_plan : Inner → List Pending → List PartEvent
 rest_of_plan inner frames = flat_map (λ f. flat_map (expand inner) f.left) frames
 
 -- the parts up to the next own event are opened, the first of them on top
-abbrev pub opened : (Form → ClassId → ObjectPart → List Piece) → ObjectPart → List Piece → List Pending → List Pending
-opened pieces p [] below = below
-opened pieces p (Own e ∷ left) below = pending p (Own e ∷ left) ∷ below
-opened pieces p (Sub form c q ∷ left) below = pending q (pieces form c q) ∷ opened pieces p left below
+abbrev pub opened_pieces : (Form → ClassId → ObjectPart → List Piece) → ObjectPart → List Piece → List Pending → List Pending
+opened_pieces pieces p [] below = below
+opened_pieces pieces p (Own e ∷ left) below = pending p (Own e ∷ left) ∷ below
+opened_pieces pieces p (Sub form c q ∷ left) below = pending q (pieces form c q) ∷ opened_pieces pieces p left below
 
 -- the first event of a part
-abbrev pub begins : Event → Bool
-begins (Begin p) = true
-begins (Ready p) = false
-begins (Init p m) = false
-begins (Body p) = false
-begins (Done p) = false
-begins (Ending p) = true
-begins (Bases p) = false
-begins (End p) = false
+abbrev pub begins_part : PartEvent → Bool
+begins_part (Begin p) = true
+begins_part (Ready p) = false
+begins_part (Init p m) = false
+begins_part (Body p) = false
+begins_part (Done p) = false
+begins_part (Ending p) = true
+begins_part (Bases p) = false
+begins_part (End p) = false
 
 -- its last event
-abbrev pub ends : Event → Bool
+abbrev pub ends : PartEvent → Bool
 ends (Begin p) = false
 ends (Ready p) = false
 ends (Init p m) = false
@@ -117,12 +117,12 @@ ends (End p) = true
 abbrev pub is_begun : List Piece → Bool
 is_begun [] = true
 is_begun (Sub form c q ∷ left) = true
-is_begun (Own e ∷ left) = not (begins e)
+is_begun (Own e ∷ left) = not (begins_part e)
 
 -- the stack of a complete object: its frames that run
 abbrev pub stack_of : List Pending → ℕ → List Step → List Subobject
 stack_of [] k o = []
-stack_of (f ∷ frames) k o = if is_begun f.left && same_owner f.part.object f.part.owner k o then f.part.at ∷ stack_of frames k o else stack_of frames k o
+stack_of (f ∷ frames) k o = if is_begun f.left && same_complete_object f.part.object f.part.owner k o then f.part.at ∷ stack_of frames k o else stack_of frames k o
 
 -- A where the flag is set, else B
 abbrev pub Choice : Bool → Type 0 → Type 0 → Type 0
@@ -133,7 +133,7 @@ Choice false A B = B
 abbrev pub IsTail : ObjectPart → List Piece → Type 0
 IsTail p [] = ⊥
 IsTail p (Sub form c q ∷ left) = IsTail p left
-IsTail p (Own e ∷ left) = (part_of e ≡ p) × (begins e ≡ false) × Choice (ends e) (left ≡ []) (IsTail p left)
+IsTail p (Own e ∷ left) = (part_of e ≡ p) × (begins_part e ≡ false) × Choice (ends e) (left ≡ []) (IsTail p left)
 
 -- what is left of p between two steps: an own event is next
 abbrev pub IsWaiting : ObjectPart → List Piece → Type 0

@@ -40,9 +40,9 @@ pub record IsBaseKid (h : Classes) (p q : ObjectPart) : Type 0 where
   pub is : q ≡ base_part p base
 
 -- q is p, or a part of p: IsIn h q p
-pub data IsIn (h : Classes) (q : ObjectPart) : ObjectPart → Type 0 where
-  here : (p : ObjectPart) → p ≡ q → IsIn h q p
-  deeper : (p r : ObjectPart) → IsKid h p r → IsIn h q r → IsIn h q p
+pub data IsPartWithin (h : Classes) (q : ObjectPart) : ObjectPart → Type 0 where
+  here : (p : ObjectPart) → p ≡ q → IsPartWithin h q p
+  deeper : (p r : ObjectPart) → IsKid h p r → IsPartWithin h q r → IsPartWithin h q p
 
 -- the tests
 abbrev pub same_step : Step → Step → Bool
@@ -54,8 +54,8 @@ same_steps [] (b ∷ bs) = false
 same_steps (a ∷ as_) [] = false
 same_steps (a ∷ as_) (b ∷ bs) = same_step a b && same_steps as_ bs
 
-abbrev pub same_owner : ℕ → List Step → ℕ → List Step → Bool
-same_owner k o k' o' = nat_eq k k' && same_steps o o'
+abbrev pub same_complete_object : ℕ → List Step → ℕ → List Step → Bool
+same_complete_object k o k' o' = nat_eq k k' && same_steps o o'
 
 abbrev pub same_part : ObjectPart → ObjectPart → Bool
-same_part p q = same_owner p.object p.owner q.object q.owner && same_subobject p.at q.at
+same_part p q = same_complete_object p.object p.owner q.object q.owner && same_subobject p.at q.at

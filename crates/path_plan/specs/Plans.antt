@@ -9,7 +9,7 @@ use Rattle.cxx_hierarchy.specs.declared.records.FieldType.TheVariants.{Value, Ob
 use Rattle.cxx_hierarchy.specs.Classes.{Classes, bases_of, members_of}
 use Rattle.cxx_hierarchy.specs.Declarations.{elements_of}
 use Rattle.path_plan.specs.Places.{ObjectPart, base_part, shared_part, element}
-use Rattle.path_plan.specs.Phases.{Event, Begin, Ready, Init, Body, Done, Ending, Bases, End}
+use Rattle.path_plan.specs.Phases.{PartEvent, Begin, Ready, Init, Body, Done, Ending, Bases, End}
 
 -- which constructors and destructors are declared, and which members an initializer sets
 pub record Bodies : Type 0 where
@@ -57,34 +57,34 @@ backwards (x ∷ xs) = backwards xs ++ x ∷ []
 
 -- a plan for each form, class and part
 abbrev pub Inner : Type 0
-Inner = Form → ClassId → ObjectPart → List Event
+Inner = Form → ClassId → ObjectPart → List PartEvent
 
 -- the virtual bases, of a complete object alone
-abbrev pub shared_events : Inner → Form → ObjectPart → List ClassId → List Event
+abbrev pub shared_events : Inner → Form → ObjectPart → List ClassId → List PartEvent
 shared_events inner AsBase p order = []
 shared_events inner InFull p order = flat_map (λ v. inner AsBase v (shared_part p v)) order
 
 -- a direct base that is not virtual
-abbrev pub base_events : Inner → ObjectPart → Base ClassId → List Event
+abbrev pub base_events : Inner → ObjectPart → Base ClassId → List PartEvent
 base_events inner p b = if b.is_virtual then [] else inner AsBase b.class (base_part p b)
 
 -- a member of a number or a pointer type is set only by an initializer
-abbrev pub init_events : Bool → ObjectPart → ℕ → List Event
+abbrev pub init_events : Bool → ObjectPart → ℕ → List PartEvent
 init_events true p m = Init p m ∷ []
 init_events false p m = []
 
 -- a member by its type: the elements of an array one after the other (12.6 p3)
-abbrev pub typed_events : Inner → Bodies → ClassId → ObjectPart → ℕ → List ℕ → FieldType ClassId → List Event
+abbrev pub typed_events : Inner → Bodies → ClassId → ObjectPart → ℕ → List ℕ → FieldType ClassId → List PartEvent
 typed_events inner bodies c p m indices (Value type) = init_events (bodies.initializer c m) p m
 typed_events inner bodies c p m indices (Object d) = flat_map (λ i. inner InFull d (element p m i d)) indices
 
 -- the body, where it is declared
-abbrev pub body_events : Bool → ObjectPart → List Event
+abbrev pub body_events : Bool → ObjectPart → List PartEvent
 body_events true p = Body p ∷ []
 body_events false p = []
 
 -- member number m, whose record is given
-abbrev pub member_events : Inner → Bodies → ClassId → ObjectPart → ℕ → Option (Member ClassId) → List Event
+abbrev pub member_events : Inner → Bodies → ClassId → ObjectPart → ℕ → Option (Member ClassId) → List PartEvent
 member_events inner bodies c p m None = []
 member_events inner bodies c p m (Some member) = typed_events inner bodies c p m (upto (elements_of member.count)) member.ty
 
@@ -102,12 +102,12 @@ build h bodies zero form c p = []
 build h bodies (suc n) form c p = built_by h bodies (build h bodies n) form c p
 
 -- a member by its type, in the order of destruction
-abbrev pub typed_ending : Inner → ObjectPart → ℕ → List ℕ → FieldType ClassId → List Event
+abbrev pub typed_ending : Inner → ObjectPart → ℕ → List ℕ → FieldType ClassId → List PartEvent
 typed_ending inner p m indices (Value type) = []
 typed_ending inner p m indices (Object d) = flat_map (λ i. inner InFull d (element p m i d)) indices
 
 -- the elements of a member from the last to the first (12.4 p6)
-abbrev pub member_ending : Inner → ObjectPart → ℕ → Option (Member ClassId) → List Event
+abbrev pub member_ending : Inner → ObjectPart → ℕ → Option (Member ClassId) → List PartEvent
 member_ending inner p m None = []
 member_ending inner p m (Some member) = typed_ending inner p m (backwards (upto (elements_of member.count))) member.ty
 

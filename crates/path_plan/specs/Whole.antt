@@ -3,8 +3,8 @@ use Rattle.std.specs.Prelude.{◌≡◌, ℕ, false, List, []}
 use Rattle.cxx_hierarchy.specs.declared.records.ClassId.{ClassId}
 use Rattle.cxx_hierarchy.specs.Classes.{Classes}
 use Rattle.cxx_subobject.specs.Subobjects.{whole_of}
-use Rattle.path_plan.specs.Places.{Step, ObjectPart, part, IsIn}
-use Rattle.path_plan.specs.Phases.{Raw, Complete, Ended, is_ready, Phases, Event, after_all}
+use Rattle.path_plan.specs.Places.{Step, ObjectPart, part, IsPartWithin}
+use Rattle.path_plan.specs.Phases.{Raw, Complete, Ended, is_ready, Phases, PartEvent, phases_after_all}
 use Rattle.path_plan.specs.Views.{Coherent}
 use Rattle.path_plan.specs.Plans.{Bodies, InFull, plan, unplan}
 
@@ -13,11 +13,11 @@ abbrev pub whole_part : ℕ → ClassId → ObjectPart
 whole_part k c = part k [] (whole_of c)
 
 -- the construction of the heap object k of class c
-abbrev pub construction : Classes → Bodies → ℕ → ClassId → List Event
+abbrev pub construction : Classes → Bodies → ℕ → ClassId → List PartEvent
 construction h bodies k c = plan h bodies InFull c (whole_part k c)
 
 -- its destruction
-abbrev pub destruction : Classes → Bodies → ℕ → ClassId → List Event
+abbrev pub destruction : Classes → Bodies → ℕ → ClassId → List PartEvent
 destruction h bodies k c = unplan h bodies InFull c (whole_part k c)
 
 -- nothing of the object was begun
@@ -26,14 +26,14 @@ pub record IsNew (k : ℕ) (s : Phases) : Type 0 where
   pub idle : (o : List Step) → s.running k o ≡ []
 
 -- all its parts are complete, and nothing else of its number is ready
-pub record IsStanding (h : Classes) (k : ℕ) (c : ClassId) (s : Phases) : Type 0 where
-  pub complete : (q : ObjectPart) → IsIn h q (whole_part k c) → s.phase q ≡ Complete
-  pub none : (q : ObjectPart) → q.object ≡ k → (IsIn h q (whole_part k c) → ⊥) → is_ready (s.phase q) ≡ false
+pub record StandsWhole (h : Classes) (k : ℕ) (c : ClassId) (s : Phases) : Type 0 where
+  pub complete : (q : ObjectPart) → IsPartWithin h q (whole_part k c) → s.phase q ≡ Complete
+  pub none : (q : ObjectPart) → q.object ≡ k → (IsPartWithin h q (whole_part k c) → ⊥) → is_ready (s.phase q) ≡ false
   pub idle : (o : List Step) → s.running k o ≡ []
 
 -- all its parts have ended, and nothing of its number is ready
 pub record IsGone (h : Classes) (k : ℕ) (c : ClassId) (s : Phases) : Type 0 where
-  pub ended : (q : ObjectPart) → IsIn h q (whole_part k c) → s.phase q ≡ Ended
+  pub ended : (q : ObjectPart) → IsPartWithin h q (whole_part k c) → s.phase q ≡ Ended
   pub none : (q : ObjectPart) → q.object ≡ k → is_ready (s.phase q) ≡ false
   pub idle : (o : List Step) → s.running k o ≡ []
 
@@ -45,11 +45,11 @@ pub record IsSameBut (k : ℕ) (s s' : Phases) : Type 0 where
 -- the construction is coherent and settled, completes the object, and changes no other
 pub record IsBuilt (h : Classes) (bodies : Bodies) (k : ℕ) (c : ClassId) (s : Phases) : Type 0 where
   pub coherent : Coherent h s (construction h bodies k c)
-  pub standing : IsStanding h k c (after_all s (construction h bodies k c))
-  pub others : IsSameBut k s (after_all s (construction h bodies k c))
+  pub standing : StandsWhole h k c (phases_after_all s (construction h bodies k c))
+  pub others : IsSameBut k s (phases_after_all s (construction h bodies k c))
 
 -- the destruction is coherent and settled, ends the object, and changes no other
 pub record IsUnbuilt (h : Classes) (bodies : Bodies) (k : ℕ) (c : ClassId) (s : Phases) : Type 0 where
   pub coherent : Coherent h s (destruction h bodies k c)
-  pub gone : IsGone h k c (after_all s (destruction h bodies k c))
-  pub others : IsSameBut k s (after_all s (destruction h bodies k c))
+  pub gone : IsGone h k c (phases_after_all s (destruction h bodies k c))
+  pub others : IsSameBut k s (phases_after_all s (destruction h bodies k c))

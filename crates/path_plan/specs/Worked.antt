@@ -11,7 +11,7 @@ use Rattle.cxx_hierarchy.specs.Classes.{Class, Classes}
 use Rattle.cxx_subobject.specs.declared.Root.TheVariants.{Whole}
 use Rattle.cxx_subobject.specs.Subobjects.{subobject, whole_of, shared_base}
 use Rattle.path_plan.specs.Places.{ObjectPart, part, element}
-use Rattle.path_plan.specs.Phases.{Event, Begin, Ready, Init, Body, Done, Ending, Bases, End}
+use Rattle.path_plan.specs.Phases.{PartEvent, Begin, Ready, Init, Body, Done, Ending, Bases, End}
 use Rattle.path_plan.specs.Plans.{Bodies}
 
 -- the class of this number
@@ -19,8 +19,8 @@ abbrev pub nth_class : ℕ → ClassId
 nth_class n = record { 0 = n }
 
 -- a public direct base
-abbrev pub base_of : (is_virtual : Bool) → ℕ → Base ClassId
-base_of is_virtual n = record { class = nth_class n; is_virtual = is_virtual; is_public = true; at = 0 }
+abbrev pub public_base : (is_virtual : Bool) → ℕ → Base ClassId
+public_base is_virtual n = record { class = nth_class n; is_virtual = is_virtual; is_public = true; at = 0 }
 
 -- a class of bases and members alone
 abbrev pub class_with : List (Base ClassId) → List (Member ClassId) → Class
@@ -49,7 +49,7 @@ whole = part 7 [] (whole_of (nth_class 3))
 
 -- struct V {}; struct A : virtual V {}; struct B : virtual V {}; struct D : A, B { D() {} ~D() {} };
 abbrev pub diamond : Classes
-diamond = class_with [] [] ∷ class_with (base_of true 0 ∷ []) [] ∷ class_with (base_of true 0 ∷ []) [] ∷ class_with (base_of false 1 ∷ base_of false 2 ∷ []) [] ∷ []
+diamond = class_with [] [] ∷ class_with (public_base true 0 ∷ []) [] ∷ class_with (public_base true 0 ∷ []) [] ∷ class_with (public_base false 1 ∷ public_base false 2 ∷ []) [] ∷ []
 
 -- the V of the diamond, which its A and its B share
 abbrev pub diamond_v : ObjectPart
@@ -64,18 +64,18 @@ abbrev pub diamond_b : ObjectPart
 diamond_b = part 7 [] (subobject Whole (nth_class 3 ∷ nth_class 2 ∷ []))
 
 -- V once and first, then A, then B, then the body of D
-abbrev pub diamond_built : List Event
+abbrev pub diamond_built : List PartEvent
 diamond_built = Begin whole ∷ Begin diamond_v ∷ Ready diamond_v ∷ Done diamond_v ∷ Begin diamond_a ∷ Ready diamond_a ∷ Done diamond_a
     ∷ Begin diamond_b ∷ Ready diamond_b ∷ Done diamond_b ∷ Ready whole ∷ Body whole ∷ Done whole ∷ []
 
 -- the body of D, then B, then A, and V last
-abbrev pub diamond_ended : List Event
+abbrev pub diamond_ended : List PartEvent
 diamond_ended = Ending whole ∷ Body whole ∷ Bases whole ∷ Ending diamond_b ∷ Bases diamond_b ∷ End diamond_b
     ∷ Ending diamond_a ∷ Bases diamond_a ∷ End diamond_a ∷ Ending diamond_v ∷ Bases diamond_v ∷ End diamond_v ∷ End whole ∷ []
 
 -- struct V {}; struct A : virtual V {}; struct M : A, virtual V {}; struct E { int n; M m[2]; E() : n(0) {} ~E() {} };
 abbrev pub holder : Classes
-holder = class_with [] [] ∷ class_with (base_of true 0 ∷ []) [] ∷ class_with (base_of false 1 ∷ base_of true 0 ∷ []) [] ∷ class_with [] (number_member ∷ array_member 2 2 ∷ []) ∷ []
+holder = class_with [] [] ∷ class_with (public_base true 0 ∷ []) [] ∷ class_with (public_base false 1 ∷ public_base true 0 ∷ []) [] ∷ class_with [] (number_member ∷ array_member 2 2 ∷ []) ∷ []
 
 -- the element i of m
 abbrev pub holder_m : ℕ → ObjectPart
@@ -90,19 +90,19 @@ abbrev pub holder_a : ℕ → ObjectPart
 holder_a i = part 7 (record { base = whole_of (nth_class 3); member = 1; index = i } ∷ []) (subobject Whole (nth_class 2 ∷ nth_class 1 ∷ []))
 
 -- in an element V comes before A, and what follows comes behind it
-abbrev pub element_built : ℕ → List Event → List Event
+abbrev pub element_built : ℕ → List PartEvent → List PartEvent
 element_built i rest = Begin (holder_m i) ∷ Begin (holder_v i) ∷ Ready (holder_v i) ∷ Done (holder_v i) ∷ Begin (holder_a i) ∷ Ready (holder_a i) ∷ Done (holder_a i)
     ∷ Ready (holder_m i) ∷ Done (holder_m i) ∷ rest
 
 -- and goes after it
-abbrev pub element_ended : ℕ → List Event → List Event
+abbrev pub element_ended : ℕ → List PartEvent → List PartEvent
 element_ended i rest = Ending (holder_m i) ∷ Bases (holder_m i) ∷ Ending (holder_a i) ∷ Bases (holder_a i) ∷ End (holder_a i)
     ∷ Ending (holder_v i) ∷ Bases (holder_v i) ∷ End (holder_v i) ∷ End (holder_m i) ∷ rest
 
 -- n is set, then the elements are built from the first on, then the body of E runs
-abbrev pub holder_built : List Event
+abbrev pub holder_built : List PartEvent
 holder_built = Begin whole ∷ Ready whole ∷ Init whole 0 ∷ element_built 0 (element_built 1 (Body whole ∷ Done whole ∷ []))
 
 -- the body of E runs, then the elements end from the last on
-abbrev pub holder_ended : List Event
+abbrev pub holder_ended : List PartEvent
 holder_ended = Ending whole ∷ Body whole ∷ element_ended 1 (element_ended 0 (Bases whole ∷ End whole ∷ []))

@@ -7,27 +7,27 @@ ghost use Rattle.cxx_hierarchy.specs.Hierarchies.{IsHierarchy};
 ghost use Rattle.cxx_subobject.specs.declared.Subobject.{Subobject};
 ghost use Rattle.cxx_subobject.specs.Subobjects.{IsSubobject, class_of, join, whole_of};
 ghost use Rattle.cxx_subobject.specs.Locations.{IsPartOf};
-ghost use Rattle.path_plan.specs.Places.{Step, ObjectPart, IsIn, part};
-ghost use Rattle.path_plan.specs.Phases.{Phases, Event, after, is_complete, is_ready};
+ghost use Rattle.path_plan.specs.Places.{Step, ObjectPart, IsPartWithin, part};
+ghost use Rattle.path_plan.specs.Phases.{Phases, PartEvent, phases_after, is_complete, is_ready};
 ghost use Rattle.path_plan.specs.Plans.{Bodies, Form, built_by, ended_by, plan, unplan};
 ghost use Rattle.path_plan.specs.Mirrors.{exchanged, mirrored};
 ghost use Rattle.path_plan.specs.Views.{Settled, view};
-ghost use Rattle.path_plan.specs.Whole.{IsNew, IsStanding, IsBuilt, IsUnbuilt, construction, destruction, whole_part};
+ghost use Rattle.path_plan.specs.Whole.{IsNew, StandsWhole, IsBuilt, IsUnbuilt, construction, destruction, whole_part};
 ghost use Rattle.path_plan.specs.Runs.{Run, Reached, SettledAt, FitsAt};
-ghost use Rattle.path_plan.specs.Pieces.{Piece, Pending, pending, own_next, AreWaiting, IsStackOf, built_pieces, ended_pieces, opened, rest_of_plan};
+ghost use Rattle.path_plan.specs.Pieces.{Piece, Pending, pending, own_next, AreWaiting, IsStackOf, built_pieces, ended_pieces, opened_pieces, rest_of_plan};
 ghost use Rattle.path_plan.specs.Worked.{declared_in_three, diamond, diamond_built, diamond_ended, holder, holder_built, holder_ended, nth_class};
 
 /// The plans of a heap object are coherent and settled, and do what they are for: a construction completes all parts of
 /// a new object, a destruction ends all parts of one that stands, and neither changes a part of another object.
 pub fn plans_are_coherent()
     ensures built { (h : Classes) (bodies : Bodies) (k : ℕ) (c : ClassId) (s : Phases) → IsHierarchy h → IsNew k s → IsBuilt h bodies k c s }
-    ensures unbuilt { (h : Classes) (bodies : Bodies) (k : ℕ) (c : ClassId) (s : Phases) → IsHierarchy h → IsStanding h k c s → IsUnbuilt h bodies k c s }
+    ensures unbuilt { (h : Classes) (bodies : Bodies) (k : ℕ) (c : ClassId) (s : Phases) → IsHierarchy h → StandsWhole h k c s → IsUnbuilt h bodies k c s }
 {}
 
 /// What lies in a heap object's whole are its subobjects, and those of its members and elements at every depth.
 pub fn parts_lie_in_the_whole()
-    ensures within { (h : Classes) (k : ℕ) (c : ClassId) (q : ObjectPart) → q.object ≡ k → IsPartOf h c q → IsIn h q (whole_part k c) }
-    ensures parts { (h : Classes) (k : ℕ) (c : ClassId) (q : ObjectPart) → IsIn h q (whole_part k c) → IsPartOf h c q }
+    ensures within { (h : Classes) (k : ℕ) (c : ClassId) (q : ObjectPart) → q.object ≡ k → IsPartOf h c q → IsPartWithin h q (whole_part k c) }
+    ensures parts { (h : Classes) (k : ℕ) (c : ClassId) (q : ObjectPart) → IsPartWithin h q (whole_part k c) → IsPartOf h c q }
 {}
 
 /// In every run each event of a plan fits, and at each statement every object is settled.
@@ -52,7 +52,7 @@ pub fn plans_are_mirrored()
 pub fn complete_or_view()
     ensures subobject { (h : Classes) (k : ℕ) (s : Phases) (o : List Step) (d : ClassId) (x : Subobject) → Settled h k s → IsSubobject h d x → is_ready (s.phase (part k o x)) ≡ true → (view s k o d ≡ Some x) ⊎ (is_complete (s.phase (part k o x)) ≡ true) }
     ensures whole { (h : Classes) (k : ℕ) (s : Phases) (o : List Step) (d : ClassId) → Settled h k s → is_ready (s.phase (part k o (whole_of d))) ≡ true → view s k o d ≡ Some (whole_of d) }
-    ensures inner { (h : Classes) (k : ℕ) (s : Phases) (p q : ObjectPart) → Settled h k s → p.object ≡ k → IsIn h q p → is_complete (s.phase p) ≡ true → is_complete (s.phase q) ≡ true }
+    ensures inner { (h : Classes) (k : ℕ) (s : Phases) (p q : ObjectPart) → Settled h k s → p.object ≡ k → IsPartWithin h q p → is_complete (s.phase p) ≡ true → is_complete (s.phase q) ≡ true }
     ensures bases { (h : Classes) (k : ℕ) (s : Phases) (p : ObjectPart) (c : ClassId) (i : Subobject) → Settled h k s → p.object ≡ k → is_ready (s.phase p) ≡ true → class_of p.at ≡ Some c → IsSubobject h c i → (i ≡ whole_of c → ⊥) → is_complete (s.phase (part p.object p.owner (join p.at i))) ≡ true }
 {}
 
@@ -61,21 +61,21 @@ pub fn complete_or_view()
 /// event are opened; and the frames that run are the parts whose constructors run, the innermost first.
 pub fn constructions_by_frames()
     ensures plan { (h : Classes) (bodies : Bodies) (form : Form) (c : ClassId) (p : ObjectPart) (below : List Pending) → IsHierarchy h → rest_of_plan (plan h bodies) (pending p (built_pieces h bodies form c p) ∷ below) ≡ plan h bodies form c p ++ rest_of_plan (plan h bodies) below }
-    ensures event { (h : Classes) (bodies : Bodies) (p : ObjectPart) (e : Event) (left : List Piece) (below : List Pending) → IsHierarchy h → rest_of_plan (plan h bodies) (own_next p e left below) ≡ e ∷ rest_of_plan (plan h bodies) (opened (built_pieces h bodies) p left below) }
+    ensures event { (h : Classes) (bodies : Bodies) (p : ObjectPart) (e : PartEvent) (left : List Piece) (below : List Pending) → IsHierarchy h → rest_of_plan (plan h bodies) (own_next p e left below) ≡ e ∷ rest_of_plan (plan h bodies) (opened_pieces (built_pieces h bodies) p left below) }
     ensures first { (h : Classes) (bodies : Bodies) (form : Form) (c : ClassId) (p : ObjectPart) (below : List Pending) → AreWaiting below → AreWaiting (pending p (built_pieces h bodies form c p) ∷ below) }
-    ensures waiting { (h : Classes) (bodies : Bodies) (p : ObjectPart) (e : Event) (left : List Piece) (below : List Pending) → AreWaiting (own_next p e left below) → AreWaiting (opened (built_pieces h bodies) p left below) }
+    ensures waiting { (h : Classes) (bodies : Bodies) (p : ObjectPart) (e : PartEvent) (left : List Piece) (below : List Pending) → AreWaiting (own_next p e left below) → AreWaiting (opened_pieces (built_pieces h bodies) p left below) }
     ensures idle { (h : Classes) (bodies : Bodies) (form : Form) (c : ClassId) (p : ObjectPart) (below : List Pending) (s : Phases) → IsStackOf below s → IsStackOf (pending p (built_pieces h bodies form c p) ∷ below) s }
-    ensures stack { (h : Classes) (bodies : Bodies) (p : ObjectPart) (e : Event) (left : List Piece) (below : List Pending) (s : Phases) → AreWaiting (own_next p e left below) → IsStackOf (own_next p e left below) s → IsStackOf (opened (built_pieces h bodies) p left below) (after s e) }
+    ensures stack { (h : Classes) (bodies : Bodies) (p : ObjectPart) (e : PartEvent) (left : List Piece) (below : List Pending) (s : Phases) → AreWaiting (own_next p e left below) → IsStackOf (own_next p e left below) s → IsStackOf (opened_pieces (built_pieces h bodies) p left below) (phases_after s e) }
 {}
 
 /// The same of a destruction.
 pub fn destructions_by_frames()
     ensures plan { (h : Classes) (bodies : Bodies) (form : Form) (c : ClassId) (p : ObjectPart) (below : List Pending) → IsHierarchy h → rest_of_plan (unplan h bodies) (pending p (ended_pieces h bodies form c p) ∷ below) ≡ unplan h bodies form c p ++ rest_of_plan (unplan h bodies) below }
-    ensures event { (h : Classes) (bodies : Bodies) (p : ObjectPart) (e : Event) (left : List Piece) (below : List Pending) → IsHierarchy h → rest_of_plan (unplan h bodies) (own_next p e left below) ≡ e ∷ rest_of_plan (unplan h bodies) (opened (ended_pieces h bodies) p left below) }
+    ensures event { (h : Classes) (bodies : Bodies) (p : ObjectPart) (e : PartEvent) (left : List Piece) (below : List Pending) → IsHierarchy h → rest_of_plan (unplan h bodies) (own_next p e left below) ≡ e ∷ rest_of_plan (unplan h bodies) (opened_pieces (ended_pieces h bodies) p left below) }
     ensures first { (h : Classes) (bodies : Bodies) (form : Form) (c : ClassId) (p : ObjectPart) (below : List Pending) → AreWaiting below → AreWaiting (pending p (ended_pieces h bodies form c p) ∷ below) }
-    ensures waiting { (h : Classes) (bodies : Bodies) (p : ObjectPart) (e : Event) (left : List Piece) (below : List Pending) → AreWaiting (own_next p e left below) → AreWaiting (opened (ended_pieces h bodies) p left below) }
+    ensures waiting { (h : Classes) (bodies : Bodies) (p : ObjectPart) (e : PartEvent) (left : List Piece) (below : List Pending) → AreWaiting (own_next p e left below) → AreWaiting (opened_pieces (ended_pieces h bodies) p left below) }
     ensures idle { (h : Classes) (bodies : Bodies) (form : Form) (c : ClassId) (p : ObjectPart) (below : List Pending) (s : Phases) → IsStackOf below s → IsStackOf (pending p (ended_pieces h bodies form c p) ∷ below) s }
-    ensures stack { (h : Classes) (bodies : Bodies) (p : ObjectPart) (e : Event) (left : List Piece) (below : List Pending) (s : Phases) → AreWaiting (own_next p e left below) → IsStackOf (own_next p e left below) s → IsStackOf (opened (ended_pieces h bodies) p left below) (after s e) }
+    ensures stack { (h : Classes) (bodies : Bodies) (p : ObjectPart) (e : PartEvent) (left : List Piece) (below : List Pending) (s : Phases) → AreWaiting (own_next p e left below) → IsStackOf (own_next p e left below) s → IsStackOf (opened_pieces (ended_pieces h bodies) p left below) (phases_after s e) }
 {}
 
 /// Two worked objects: a diamond, and an array of a class with a virtual base. Virtual bases come first and once in each

@@ -29,7 +29,7 @@ use Rattle.path_numbers.proofs.Intervals.{size_some}
 use Rattle.path_numbers.proofs.Rows.{members_known}
 use Rattle.path_plan.proofs.Order.{order_has, order_virtual}
 use Rattle.path_model.specs.Values.{Value, Pointer, Objects}
-use Rattle.path_model.specs.Uses.{Use, Passes, element_uses, member_uses, views, arrow}
+use Rattle.path_model.specs.Uses.{StatementUse, Passes, element_uses, member_uses, uses_of_view, arrow}
 use Rattle.path_model.specs.Rules.{rules, refused, is_unready}
 use Rattle.path_model.specs.Order.{asked_covers, asked_covered}
 use Rattle.path_model.proofs.Ranks.{rank, rank_append, rank_full, refused_rank}
@@ -38,7 +38,7 @@ use Rattle.path_model.proofs.Conversions.{is_pointer, off_outside}
 use Rattle.path_model.proofs.Covers.{asked_covers_late, complete_covers, cover_rank}
 use Rattle.path_model.proofs.Facts.{ready_of}
 use Rattle.path_heap.specs.declared.heap.Heap.{Heap}
-use Rattle.path_refusals.specs.invariants.Pieces.{Covers, IsReadyPart}
+use Rattle.path_refusals.specs.invariants.Pieces.{TellsReadiness, IsReadyPart}
 use Rattle.path_refusals.specs.invariants.Left.{LeftSame, element_asked, member_asked}
 use Rattle.path_refusals.proofs.Refused.{stops, goes_on}
 use Rattle.path_refusals.proofs.Reading.{nothing, full_none, pass_is, arrow_then}
@@ -62,10 +62,10 @@ has_virtual_is h keeps c = more_in_full h keeps c (virtual_order h c) refl
 
 -- elements
 
-pub element_unready : (h : Classes) (s : Objects) (p : ObjectPart) (k : ℕ) (d : ClassId) → is_unready s p ≡ true → Covers h s false (Passes p ∷ asked_covers h k d p)
+pub element_unready : (h : Classes) (s : Objects) (p : ObjectPart) (k : ℕ) (d : ClassId) → is_unready s p ≡ true → TellsReadiness h s false (Passes p ∷ asked_covers h k d p)
 element_unready h s p k d e = sym (stops h s (Passes p ∷ []) (asked_covers h k d p) NotReady (λ _. let r = pass_rank h s p true e in let l = asked_covers_late h s k d p in omega (arith, r, l)) (sym (pass_is h s p true e)))
 
-pub element_ready : (h : Classes) (s : Objects) (p : ObjectPart) (k : ℕ) (d : ClassId) (b : Bool) → is_unready s p ≡ false → Covers h s b (asked_covers h k d p) → Covers h s b (Passes p ∷ asked_covers h k d p)
+pub element_ready : (h : Classes) (s : Objects) (p : ObjectPart) (k : ℕ) (d : ClassId) (b : Bool) → is_unready s p ≡ false → TellsReadiness h s b (asked_covers h k d p) → TellsReadiness h s b (Passes p ∷ asked_covers h k d p)
 element_ready h s p k d b e told = sym (goes_on h s (Passes p ∷ []) (asked_covers h k d p) (if b then None else Some NotReady) (sym (pass_is h s p false e)) (sym told))
 
 -- one item after another
@@ -91,30 +91,30 @@ at_two (suc zero) e = omega arith
 at_two (suc (suc zero)) e = omega arith
 at_two (suc (suc (suc n))) e = absurd (later n e)
 
-two : (h : Classes) (s : Objects) (us : List Use) → refused h s us ≡ Some NotReady → rank h s us ≤ 2
+two : (h : Classes) (s : Objects) (us : List StatementUse) → refused h s us ≡ Some NotReady → rank h s us ≤ 2
 two h s us e = at_two (rank h s us) (sym (refused_rank h s us) ∙ e)
 
 left_is : (i n : ℕ) → i < n → count_from i (n - i) ≡ i ∷ count_from (i + 1) (n - (i + 1))
 left_is i n l = let e : n - i ≡ suc (n - (i + 1)) = omega arith in let f : suc i ≡ i + 1 = omega arith in ap (λ k. count_from i k) e ∙ ap (λ k. i ∷ count_from k (n - (i + 1))) f
 
-flat_late : (h : Classes) (s : Objects) (f : ℕ → List Use) → ((i : ℕ) → 2 ≤ rank h s (f i)) → (xs : List ℕ) → 2 ≤ rank h s (flat_map f xs)
+flat_late : (h : Classes) (s : Objects) (f : ℕ → List StatementUse) → ((i : ℕ) → 2 ≤ rank h s (f i)) → (xs : List ℕ) → 2 ≤ rank h s (flat_map f xs)
 flat_late h s f late [] = let n = none_rank h s in omega (arith, n)
 flat_late h s f late (x ∷ xs) = let r = rank_append h s (f x) (flat_map f xs) in let l = late x in let m = flat_late h s f late xs in omega (arith, r, l, m)
 
-pub left_start : (h : Classes) (s : Objects) (f : ℕ → List Use) (n : ℕ) → LeftSame h s f n 0
+pub left_start : (h : Classes) (s : Objects) (f : ℕ → List StatementUse) (n : ℕ) → LeftSame h s f n 0
 left_start h s f n = let e : n - 0 ≡ n = omega arith in ap (λ k. refused h s (flat_map f (count_from 0 k))) e
 
-pub left_more : (h : Classes) (s : Objects) (f : ℕ → List Use) (n i : ℕ) → i < n → refused h s (f i) ≡ None → LeftSame h s f n i → LeftSame h s f n (i + 1)
+pub left_more : (h : Classes) (s : Objects) (f : ℕ → List StatementUse) (n i : ℕ) → i < n → refused h s (f i) ≡ None → LeftSame h s f n i → LeftSame h s f n (i + 1)
 left_more h s f n i l clear same =
     goes_on h s (f i) (flat_map f (count_from (i + 1) (n - (i + 1)))) (refused h s (flat_map f (count_from (i + 1) (n - (i + 1))))) (sym clear) refl
     ∙ (ap (λ xs. refused h s (flat_map f xs)) (sym (left_is i n l)) ∙ same)
 
-pub left_stops : (h : Classes) (s : Objects) (f : ℕ → List Use) (n i : ℕ) → i < n → refused h s (f i) ≡ Some NotReady → ((j : ℕ) → 2 ≤ rank h s (f j)) → LeftSame h s f n i → refused h s (flat_map f (upto n)) ≡ Some NotReady
+pub left_stops : (h : Classes) (s : Objects) (f : ℕ → List StatementUse) (n i : ℕ) → i < n → refused h s (f i) ≡ Some NotReady → ((j : ℕ) → 2 ≤ rank h s (f j)) → LeftSame h s f n i → refused h s (flat_map f (upto n)) ≡ Some NotReady
 left_stops h s f n i l e late same =
     sym same ∙ (ap (λ xs. refused h s (flat_map f xs)) (left_is i n l)
     ∙ sym (stops h s (f i) (flat_map f (count_from (i + 1) (n - (i + 1)))) NotReady (λ less. let t = two h s (f i) e in let m = flat_late h s f late (count_from (i + 1) (n - (i + 1))) in omega (arith, t, m)) (sym e)))
 
-pub left_end : (h : Classes) (s : Objects) (f : ℕ → List Use) (n i : ℕ) → n ≤ i → LeftSame h s f n i → refused h s (flat_map f (upto n)) ≡ None
+pub left_end : (h : Classes) (s : Objects) (f : ℕ → List StatementUse) (n i : ℕ) → n ≤ i → LeftSame h s f n i → refused h s (flat_map f (upto n)) ≡ None
 left_end h s f n i l same = sym same ∙ (let e : n - i ≡ 0 = omega arith in ap (λ k. refused h s (flat_map f (count_from i k))) e ∙ sym (nothing h s))
 
 -- members
@@ -136,10 +136,10 @@ elements_late h s k p m d i = element_late h s k d (element p m i d)
 pub members_late : (h : Classes) (s : Objects) (k : ℕ) (p : ObjectPart) (c : ClassId) (m : ℕ) → 2 ≤ rank h s (member_asked h k p c m)
 members_late h s k p c m = member_late h s k p m (slice_get (members_of h c) m)
 
-pub value_member : (h : Classes) (s : Objects) (k : ℕ) (p : ObjectPart) (m : ℕ) (member : Member ClassId) (t : ValueType ClassId) → member.ty ≡ ValueField t → Covers h s true (member_uses (asked_covers h k) p m (Some member))
+pub value_member : (h : Classes) (s : Objects) (k : ℕ) (p : ObjectPart) (m : ℕ) (member : Member ClassId) (t : ValueType ClassId) → member.ty ≡ ValueField t → TellsReadiness h s true (member_uses (asked_covers h k) p m (Some member))
 value_member h s k p m member t e = ap (λ (ty : FieldType ClassId). refused h s (element_uses (asked_covers h k) p m (upto (elements_of member.count)) ty)) e ∙ sym (nothing h s)
 
-pub object_member : (h : Classes) (s : Objects) (k : ℕ) (p : ObjectPart) (m : ℕ) (member : Member ClassId) (d : ClassId) (n : ℕ) (b : Bool) → member.ty ≡ Object d → n ≡ elements_of member.count → Covers h s b (flat_map (element_asked h k p m d) (upto n)) → Covers h s b (member_uses (asked_covers h k) p m (Some member))
+pub object_member : (h : Classes) (s : Objects) (k : ℕ) (p : ObjectPart) (m : ℕ) (member : Member ClassId) (d : ClassId) (n : ℕ) (b : Bool) → member.ty ≡ Object d → n ≡ elements_of member.count → TellsReadiness h s b (flat_map (element_asked h k p m d) (upto n)) → TellsReadiness h s b (member_uses (asked_covers h k) p m (Some member))
 object_member h s k p m member d n b e is told =
     ap (λ (ty : FieldType ClassId). refused h s (element_uses (asked_covers h k) p m (upto (elements_of member.count)) ty)) e
     ∙ (ap (λ j. refused h s (flat_map (element_asked h k p m d) (upto j))) (sym is) ∙ told)
@@ -151,15 +151,15 @@ pub member_below : (h : Classes) → IsHierarchy h → (c : ClassId) (m : ℕ) (
 member_below h keeps c m member d listed e = members_known h keeps c c.0 (members_of h c) refl refl member d (contains_at (members_of h c) m member listed) e
 
 -- the members of a class whose number is past the last have none
-pub past_covers : (h : Classes) (s : Objects) (k : ℕ) (c : ClassId) (p : ObjectPart) → length h ≤ c.0 → Covers h s true (asked_covers h k c p)
+pub past_covers : (h : Classes) (s : Objects) (k : ℕ) (c : ClassId) (p : ObjectPart) → length h ≤ c.0 → TellsReadiness h s true (asked_covers h k c p)
 past_covers h s zero c p l = sym (nothing h s)
 past_covers h s (suc k) c p l = ap (λ o. refused h s (flat_map (λ m. member_uses (asked_covers h k) p m (slice_get (members_in o) m)) (upto (length (members_in o))))) (slice_get_past h c.0 l) ∙ sym (nothing h s)
 
-pub own_covers : (h : Classes) (s : Objects) (k : ℕ) (c : ClassId) (p : ObjectPart) (n : ℕ) (b : Bool) → c.0 < k → n ≡ length (members_of h c) → ((j : ℕ) → c.0 ≤ j → Covers h s b (flat_map (member_asked h j p c) (upto n))) → Covers h s b (asked_covers h k c p)
+pub own_covers : (h : Classes) (s : Objects) (k : ℕ) (c : ClassId) (p : ObjectPart) (n : ℕ) (b : Bool) → c.0 < k → n ≡ length (members_of h c) → ((j : ℕ) → c.0 ≤ j → TellsReadiness h s b (flat_map (member_asked h j p c) (upto n))) → TellsReadiness h s b (asked_covers h k c p)
 own_covers h s zero c p n b l is each = absurd (omega arith)
 own_covers h s (suc k) c p n b l is each = ap (λ j. refused h s (flat_map (member_asked h k p c) (upto j))) (sym is) ∙ each k (omega (arith, l))
 
-pub complete_covered : (h : Classes) → IsHierarchy h → (heap : Heap) (s : Objects) (n : ℕ) (p : ObjectPart) (c : ClassId) (k : ℕ) → IsReadyPart h heap s n p c → is_complete (s.phases.phase p) ≡ true → Covers h s true (asked_covers h k c p)
+pub complete_covered : (h : Classes) → IsHierarchy h → (heap : Heap) (s : Objects) (n : ℕ) (p : ObjectPart) (c : ClassId) (k : ℕ) → IsReadyPart h heap s n p c → is_complete (s.phases.phase p) ≡ true → TellsReadiness h s true (asked_covers h k c p)
 complete_covered h keeps heap s n p c k a full =
     let r = complete_covers h s k c p a.of_class a.settled full in
     let t = cover_rank h keeps s k c p a.of_class a.settled (ready_of s p a.ready) in
@@ -168,21 +168,21 @@ complete_covered h keeps heap s n p c k a full =
 
 -- sides of a copy
 
-covers_two : (h : Classes) (s : Objects) (us vs : List Use) → Covers h s false us → 2 ≤ rank h s vs → Some NotReady ≡ refused h s (us ++ vs)
+covers_two : (h : Classes) (s : Objects) (us vs : List StatementUse) → TellsReadiness h s false us → 2 ≤ rank h s vs → Some NotReady ≡ refused h s (us ++ vs)
 covers_two h s us vs e late = stops h s us vs NotReady (λ _. let t = two h s us e in omega (arith, t, late)) (sym e)
 
-pub covered_stops : (h : Classes) (s : Objects) (b : Bool) (p : ObjectPart) (c : ClassId) → Covers h s false (asked_covers h (c.0 + 1) c p) → Some NotReady ≡ refused h s (views b (Pointer p) ++ asked_covered h c (Pointer p))
-covered_stops h s b p c e = covers_two h s (asked_covers h (c.0 + 1) c p) (views b (Pointer p)) e (let v = view_late h s b (Pointer p) in omega (arith, v)) ∙ swapped h s (asked_covers h (c.0 + 1) c p) (views b (Pointer p))
+pub covered_stops : (h : Classes) (s : Objects) (b : Bool) (p : ObjectPart) (c : ClassId) → TellsReadiness h s false (asked_covers h (c.0 + 1) c p) → Some NotReady ≡ refused h s (uses_of_view b (Pointer p) ++ asked_covered h c (Pointer p))
+covered_stops h s b p c e = covers_two h s (asked_covers h (c.0 + 1) c p) (uses_of_view b (Pointer p)) e (let v = view_late h s b (Pointer p) in omega (arith, v)) ∙ swapped h s (asked_covers h (c.0 + 1) c p) (uses_of_view b (Pointer p))
 
-pub covered_on : (h : Classes) (s : Objects) (b : Bool) (p : ObjectPart) (c : ClassId) (rule : Option Undefined) → Covers h s true (asked_covers h (c.0 + 1) c p) → rule ≡ refused h s (views b (Pointer p)) → rule ≡ refused h s (views b (Pointer p) ++ asked_covered h c (Pointer p))
-covered_on h s b p c rule e f = goes_on h s (asked_covers h (c.0 + 1) c p) (views b (Pointer p)) rule (sym e) f ∙ swapped h s (asked_covers h (c.0 + 1) c p) (views b (Pointer p))
+pub covered_on : (h : Classes) (s : Objects) (b : Bool) (p : ObjectPart) (c : ClassId) (rule : Option Undefined) → TellsReadiness h s true (asked_covers h (c.0 + 1) c p) → rule ≡ refused h s (uses_of_view b (Pointer p)) → rule ≡ refused h s (uses_of_view b (Pointer p) ++ asked_covered h c (Pointer p))
+covered_on h s b p c rule e f = goes_on h s (asked_covers h (c.0 + 1) c p) (uses_of_view b (Pointer p)) rule (sym e) f ∙ swapped h s (asked_covers h (c.0 + 1) c p) (uses_of_view b (Pointer p))
 
-covered_off : (h : Classes) (s : Objects) (b : Bool) (x : Value) (c : ClassId) → is_pointer x ≡ false → rank h s (views b x ++ asked_covered h c x) ≡ 12
-covered_off h s b x c e = let r = rank_append h s (views b x) (asked_covered h c x) in let v = views_none h s b x (off_outside h s x e) in let n = off_part h s (asked_covers h (c.0 + 1) c) x e in omega (arith, r, v, n)
+covered_off : (h : Classes) (s : Objects) (b : Bool) (x : Value) (c : ClassId) → is_pointer x ≡ false → rank h s (uses_of_view b x ++ asked_covered h c x) ≡ 12
+covered_off h s b x c e = let r = rank_append h s (uses_of_view b x) (asked_covered h c x) in let v = views_none h s b x (off_outside h s x e) in let n = off_part h s (asked_covers h (c.0 + 1) c) x e in omega (arith, r, v, n)
 
-pub off_covered : (h : Classes) (s : Objects) (b : Bool) (x : Value) (c : ClassId) → is_pointer x ≡ false → None ≡ refused h s (views b x ++ asked_covered h c x)
-off_covered h s b x c e = full_none h s (views b x ++ asked_covered h c x) (covered_off h s b x c e)
+pub off_covered : (h : Classes) (s : Objects) (b : Bool) (x : Value) (c : ClassId) → is_pointer x ≡ false → None ≡ refused h s (uses_of_view b x ++ asked_covered h c x)
+off_covered h s b x c e = full_none h s (uses_of_view b x ++ asked_covered h c x) (covered_off h s b x c e)
 
-pub arrow_covered : (h : Classes) (s : Objects) (b : Bool) (x : Value) (c : ClassId) → rank h s (arrow x) < 12 → rank h s (arrow x) ≤ rank h s (views b x ++ asked_covered h c x)
-arrow_covered h s b x c less = arrow_then h s x (views b x ++ asked_covered h c x) (covered_off h s b x c)
-    (let r = rank_append h s (views b x) (asked_covered h c x) in let v = view_late h s b x in let n = part_late h s (asked_covers h (c.0 + 1) c) (λ p. asked_covers_late h s (c.0 + 1) c p) x in omega (arith, r, v, n)) less
+pub arrow_covered : (h : Classes) (s : Objects) (b : Bool) (x : Value) (c : ClassId) → rank h s (arrow x) < 12 → rank h s (arrow x) ≤ rank h s (uses_of_view b x ++ asked_covered h c x)
+arrow_covered h s b x c less = arrow_then h s x (uses_of_view b x ++ asked_covered h c x) (covered_off h s b x c)
+    (let r = rank_append h s (uses_of_view b x) (asked_covered h c x) in let v = view_late h s b x in let n = part_late h s (asked_covers h (c.0 + 1) c) (λ p. asked_covers_late h s (c.0 + 1) c p) x in omega (arith, r, v, n)) less

@@ -26,7 +26,7 @@ use Rattle.path_numbers.proofs.Sized.{sizes_are}
 use Rattle.path_numbers.proofs.Heap.{heap_part, heap_number, at_good, at_object}
 use Rattle.path_model.specs.Values.{Value, Unset, Number, Null, Pointer, Objects}
 use Rattle.path_model.specs.Places.{owner_class}
-use Rattle.path_model.specs.Uses.{Use, Reads, Follows, Guards, Deletes, Dumps, views, class_of_owner}
+use Rattle.path_model.specs.Uses.{StatementUse, Reads, Follows, Guards, Deletes, Dumps, uses_of_view, class_of_owner}
 use Rattle.path_model.specs.Rules.{refused, names, is_unready, is_no_whole, is_whole_of, is_incomplete, is_whole_complete, is_in_heap_object, is_outside}
 use Rattle.std.proofs.Common.{ltb}
 use Rattle.std.proofs.lemmas.Bool.{ltb-true, ltb-false}
@@ -138,28 +138,28 @@ delete_late h s (Pointer p) b =
     let r = delete_at h s p b (is_no_whole h s p) (is_in_heap_object p.owner) (is_incomplete s p) refl refl refl in
     let l = late_of b (is_no_whole h s p) (is_in_heap_object p.owner) (is_incomplete s p) in subst (λ n. 7 ≤ n) (sym r) l
 
-view_early : (h : Classes) (s : Objects) (x : Value) (b : Bool) → rank h s (views b x) < 12 → rank h s (views b x) ≤ 4
-view_early h s x true less = split (names (is_outside h s) x) (λ t. rank h s (views true x) ≤ 4) (λ e. let r = view_rank h s x true e in omega (arith, r)) (λ e. let r = view_rank h s x false e in omega (arith, r, less))
+view_early : (h : Classes) (s : Objects) (x : Value) (b : Bool) → rank h s (uses_of_view b x) < 12 → rank h s (uses_of_view b x) ≤ 4
+view_early h s x true less = split (names (is_outside h s) x) (λ t. rank h s (uses_of_view true x) ≤ 4) (λ e. let r = view_rank h s x true e in omega (arith, r)) (λ e. let r = view_rank h s x false e in omega (arith, r, less))
 view_early h s x false less = let n = none_rank h s in omega (arith, n, less)
 
 -- a guarded use that may need the view breaks no rule behind U4
-guard_early : (h : Classes) (s : Objects) (x : Value) (b : Bool) → rank h s (Guards x ∷ views b x) < 12 → rank h s (Guards x ∷ views b x) ≤ 4
+guard_early : (h : Classes) (s : Objects) (x : Value) (b : Bool) → rank h s (Guards x ∷ uses_of_view b x) < 12 → rank h s (Guards x ∷ uses_of_view b x) ≤ 4
 guard_early h s x b less =
-    let r = rank_append h s (Guards x ∷ []) (views b x) in
-    split (names (is_unready s) x) (λ t. rank h s (Guards x ∷ views b x) ≤ 4)
+    let r = rank_append h s (Guards x ∷ []) (uses_of_view b x) in
+    split (names (is_unready s) x) (λ t. rank h s (Guards x ∷ uses_of_view b x) ≤ 4)
     (λ e. let g = guard_rank h s x true e in omega (arith, r, g))
-    (λ e. let g = guard_rank h s x false e in let v : rank h s (views b x) ≤ 4 = view_early h s x b (omega (arith, r, g, less)) in omega (arith, r, v))
+    (λ e. let g = guard_rank h s x false e in let v : rank h s (uses_of_view b x) ≤ 4 = view_early h s x b (omega (arith, r, g, less)) in omega (arith, r, v))
 
-pub delete_then : (h : Classes) (s : Objects) (x : Value) (b : Bool) → rank h s (Reads x ∷ (Guards x ∷ views b x)) < 12 → rank h s (Reads x ∷ (Guards x ∷ views b x)) ≤ rank h s (Deletes x b ∷ [])
+pub delete_then : (h : Classes) (s : Objects) (x : Value) (b : Bool) → rank h s (Reads x ∷ (Guards x ∷ uses_of_view b x)) < 12 → rank h s (Reads x ∷ (Guards x ∷ uses_of_view b x)) ≤ rank h s (Deletes x b ∷ [])
 delete_then h s x b less =
-    let r = rank_append h s (Reads x ∷ []) (Guards x ∷ views b x) in
+    let r = rank_append h s (Reads x ∷ []) (Guards x ∷ uses_of_view b x) in
     let d = delete_late h s x b in
-    split (ltb (rank h s (Reads x ∷ [])) 12) (λ t. ltb (rank h s (Reads x ∷ [])) 12 ≡ t → rank h s (Reads x ∷ (Guards x ∷ views b x)) ≤ rank h s (Deletes x b ∷ []))
+    split (ltb (rank h s (Reads x ∷ [])) 12) (λ t. ltb (rank h s (Reads x ∷ [])) 12 ≡ t → rank h s (Reads x ∷ (Guards x ∷ uses_of_view b x)) ≤ rank h s (Deletes x b ∷ []))
     (λ _ e. let l = read_early h s x (ltb-true (rank h s (Reads x ∷ [])) 12 e) in omega (arith, r, d, l))
-    (λ _ e. let f = ltb-false (rank h s (Reads x ∷ [])) 12 e in let l : rank h s (Guards x ∷ views b x) ≤ 4 = guard_early h s x b (omega (arith, r, f, less)) in omega (arith, r, d, l)) refl
+    (λ _ e. let f = ltb-false (rank h s (Reads x ∷ [])) 12 e in let l : rank h s (Guards x ∷ uses_of_view b x) ≤ 4 = guard_early h s x b (omega (arith, r, f, less)) in omega (arith, r, d, l)) refl
 
 -- behind what is clear a value is no pointer to a part that is not ready
-pub guard_clear : (h : Classes) (s : Objects) (x : Value) (us : List Use) → None ≡ refused h s (Reads x ∷ (Guards x ∷ us)) → names (is_unready s) x ≡ false
+pub guard_clear : (h : Classes) (s : Objects) (x : Value) (us : List StatementUse) → None ≡ refused h s (Reads x ∷ (Guards x ∷ us)) → names (is_unready s) x ≡ false
 guard_clear h s x us e = is_false (names (is_unready s) x) (λ f.
     let c = clear_rank h s (Reads x ∷ (Guards x ∷ us)) e in
     let r = rank_append h s (Reads x ∷ []) (Guards x ∷ us) in

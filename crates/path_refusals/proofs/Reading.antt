@@ -7,7 +7,7 @@ use Rattle.cxx_subobject.specs.Locations.{ObjectPart}
 use Rattle.path_rules.specs.declared.Undefined.{Undefined}
 use Rattle.path_rules.specs.declared.Undefined.TheVariants.{Dangling, NotReady, OutsideView, Overflow}
 use Rattle.path_model.specs.Values.{Value, Unset, Number, Null, Pointer, Objects}
-use Rattle.path_model.specs.Uses.{Use, Reads, Guards, Passes, Views, Overflows, views, arrow}
+use Rattle.path_model.specs.Uses.{StatementUse, Reads, Guards, Passes, Views, Overflows, uses_of_view, arrow}
 use Rattle.path_model.specs.Rules.{refused, names, is_unready, is_outside, overflows}
 use Rattle.std.proofs.Common.{ltb}
 use Rattle.std.proofs.lemmas.Bool.{ltb-true, ltb-false}
@@ -56,12 +56,12 @@ unfolding refused
 view_is h s p true e = rw e refl
 view_is h s p false e = rw e refl
 
-pub unready_first : (h : Classes) (s : Objects) (p : ObjectPart) (b : Bool) → is_unready s p ≡ true → Some NotReady ≡ refused h s (Guards (Pointer p) ∷ views b (Pointer p))
+pub unready_first : (h : Classes) (s : Objects) (p : ObjectPart) (b : Bool) → is_unready s p ≡ true → Some NotReady ≡ refused h s (Guards (Pointer p) ∷ uses_of_view b (Pointer p))
 unfolding refused
 unready_first h s p true e = rw e refl
 unready_first h s p false e = rw e refl
 
-pub ready_then : (h : Classes) (s : Objects) (p : ObjectPart) (us : List Use) (x : Option Undefined) → is_unready s p ≡ false → x ≡ refused h s us → x ≡ refused h s (Guards (Pointer p) ∷ us)
+pub ready_then : (h : Classes) (s : Objects) (p : ObjectPart) (us : List StatementUse) (x : Option Undefined) → is_unready s p ≡ false → x ≡ refused h s us → x ≡ refused h s (Guards (Pointer p) ∷ us)
 ready_then h s p us x e f = goes_on h s (Guards (Pointer p) ∷ []) us x (sym (guard_is h s p false e)) f
 
 pub begun_of : (s : Objects) (p : ObjectPart) → is_unready s p ≡ false → HasBegun s p
@@ -73,18 +73,18 @@ pub nothing : (h : Classes) (s : Objects) → None ≡ refused h s []
 unfolding refused
 nothing h s = refl
 
-pub full_none : (h : Classes) (s : Objects) (us : List Use) → rank h s us ≡ 12 → None ≡ refused h s us
+pub full_none : (h : Classes) (s : Objects) (us : List StatementUse) → rank h s us ≡ 12 → None ≡ refused h s us
 full_none h s us e = sym (refused_alike h s us [] (e ∙ sym (none_rank h s)) ∙ sym (nothing h s))
 
-pub off_guard : (h : Classes) (s : Objects) (x : Value) (b : Bool) → is_pointer x ≡ false → None ≡ refused h s (Guards x ∷ views b x)
-off_guard h s x b e = full_none h s (Guards x ∷ views b x)
-    (let r = rank_append h s (Guards x ∷ []) (views b x) in
+pub off_guard : (h : Classes) (s : Objects) (x : Value) (b : Bool) → is_pointer x ≡ false → None ≡ refused h s (Guards x ∷ uses_of_view b x)
+off_guard h s x b e = full_none h s (Guards x ∷ uses_of_view b x)
+    (let r = rank_append h s (Guards x ∷ []) (uses_of_view b x) in
     let g = guard_rank h s x false (off_unready s x e) in
     let v = views_none h s b x (off_outside h s x e) in
     omega (arith, r, g, v))
 
-pub off_view : (h : Classes) (s : Objects) (x : Value) (b : Bool) → is_pointer x ≡ false → None ≡ refused h s (views b x)
-off_view h s x b e = full_none h s (views b x) (views_none h s b x (off_outside h s x e))
+pub off_view : (h : Classes) (s : Objects) (x : Value) (b : Bool) → is_pointer x ≡ false → None ≡ refused h s (uses_of_view b x)
+off_view h s x b e = full_none h s (uses_of_view b x) (views_none h s b x (off_outside h s x e))
 
 closed_rank : (h : Classes) (s : Objects) (p : ObjectPart) → s.is_closed p.object ≡ true → rank h s (arrow (Pointer p)) ≡ 1
 unfolding rank first_place
@@ -96,7 +96,7 @@ open_rank h s p true e f = rw (e, f) refl
 open_rank h s p false e f = rw (e, f) refl
 
 -- what rests on a pointer comes behind its arrow
-pub arrow_then : (h : Classes) (s : Objects) (x : Value) (us : List Use) → (is_pointer x ≡ false → rank h s us ≡ 12) → 2 ≤ rank h s us → rank h s (arrow x) < 12 → rank h s (arrow x) ≤ rank h s us
+pub arrow_then : (h : Classes) (s : Objects) (x : Value) (us : List StatementUse) → (is_pointer x ≡ false → rank h s us ≡ 12) → 2 ≤ rank h s us → rank h s (arrow x) < 12 → rank h s (arrow x) ≤ rank h s us
 arrow_then h s Unset us off late less = let o = off refl in omega (arith, o, less)
 arrow_then h s (Number z) us off late less = let o = off refl in omega (arith, o, less)
 arrow_then h s Null us off late less = let o = off refl in omega (arith, o, less)
@@ -114,20 +114,20 @@ arrow_clear h s Null e = refl
 arrow_clear h s (Pointer p) e = is_false (is_unready s p) (λ f. let r = clear_rank h s (arrow (Pointer p)) e in let l = arrow_unready h s p f in omega (arith, r, l))
 
 -- what rests on a value that is read comes behind the reading
-pub read_first : (h : Classes) (s : Objects) (x : Value) (us : List Use) → (is_pointer x ≡ false → rank h s us ≡ 12) → 2 ≤ rank h s us → rank h s (Reads x ∷ []) < 12 → rank h s (Reads x ∷ []) ≤ rank h s us
+pub read_first : (h : Classes) (s : Objects) (x : Value) (us : List StatementUse) → (is_pointer x ≡ false → rank h s us ≡ 12) → 2 ≤ rank h s us → rank h s (Reads x ∷ []) < 12 → rank h s (Reads x ∷ []) ≤ rank h s us
 read_first h s x us off late less = read_then h s x [] us off late (λ l. let n = none_rank h s in omega (arith, n, l)) less
 
-pub read_guard : (h : Classes) (s : Objects) (x : Value) (b : Bool) → rank h s (Reads x ∷ []) < 12 → rank h s (Reads x ∷ []) ≤ rank h s (Guards x ∷ views b x)
+pub read_guard : (h : Classes) (s : Objects) (x : Value) (b : Bool) → rank h s (Reads x ∷ []) < 12 → rank h s (Reads x ∷ []) ≤ rank h s (Guards x ∷ uses_of_view b x)
 read_guard h s x b less =
-    let r = rank_append h s (Guards x ∷ []) (views b x) in
+    let r = rank_append h s (Guards x ∷ []) (uses_of_view b x) in
     let g = guard_late h s x in
     let v = view_late h s b x in
-    read_first h s x (Guards x ∷ views b x)
+    read_first h s x (Guards x ∷ uses_of_view b x)
     (λ e. let o = guard_rank h s x false (off_unready s x e) in let t = views_none h s b x (off_outside h s x e) in omega (arith, r, o, t))
     (omega (arith, r, g, v)) less
 
-pub arrow_views : (h : Classes) (s : Objects) (x : Value) (b : Bool) → rank h s (arrow x) < 12 → rank h s (arrow x) ≤ rank h s (views b x)
-arrow_views h s x b less = arrow_then h s x (views b x) (λ e. views_none h s b x (off_outside h s x e)) (let v = view_late h s b x in omega (arith, v)) less
+pub arrow_views : (h : Classes) (s : Objects) (x : Value) (b : Bool) → rank h s (arrow x) < 12 → rank h s (arrow x) ≤ rank h s (uses_of_view b x)
+arrow_views h s x b less = arrow_then h s x (uses_of_view b x) (λ e. views_none h s b x (off_outside h s x e)) (let v = view_late h s b x in omega (arith, v)) less
 
 -- what is so of each value that the code's means
 pub unset_case : (h : Classes) (classes : List ClassId) (P : Value → Type 0) → P Unset → (v : ValueCode) → v ≡ UnsetCode → (x : Value) → Means h classes v x → P x

@@ -23,10 +23,10 @@ use Rattle.cxx_program.specs.declared.statement.TypedRight.{TypedRight}
 use Rattle.cxx_program.specs.declared.statement.TypedRight.TheVariants.{Read, Address, Call as CallRight, Cast}
 use Rattle.cxx_program.specs.declared.statement.TypedKind.TheVariants.{Copy, Return}
 use Rattle.cxx_program.specs.Typed.{Scope, HasType, IsPath, IsPlace, Casts, IsCall, HasRight, an_operand, a_calculation, a_comparison, a_negation, a_read, an_address, a_result, an_object, a_cast, a_type_test}
-use Rattle.path_model.specs.Values.{Value, Objects, Sight, value, converted}
+use Rattle.path_model.specs.Values.{Value, Objects, Sight, value_of_operand, converted_to}
 use Rattle.path_model.specs.Places.{last_passed, address_value}
-use Rattle.path_model.specs.Uses.{Use, Reads, Downs, Views, views, is_shared, arrow, convert, cast_uses, cast_value, return_uses, Wanted}
-use Rattle.path_model.specs.Rules.{refused, names, is_unready, refusal}
+use Rattle.path_model.specs.Uses.{StatementUse, Reads, Downs, Views, uses_of_view, is_shared, arrow, convert, cast_uses, cast_value, return_uses, Wanted}
+use Rattle.path_model.specs.Rules.{refused, names, is_unready, statement_refusal}
 use Rattle.path_model.specs.Typed.{AllSettled, IsOf, IsReturn}
 use Rattle.path_model.specs.Order.{asked_place, asked_covered, sorted, first_broken}
 use Rattle.path_model.proofs.Ranks.{rank, rank_append}
@@ -36,7 +36,7 @@ use Rattle.path_model.proofs.Statements.{statement_answers}
 use Rattle.path_model.proofs.TypedRights.{cast_given}
 use Rattle.path_heap.specs.declared.state.Value.{Value as ValueCode}
 use Rattle.path_heap.specs.declared.heap.Heap.{Heap}
-use Rattle.path_refusals.specs.invariants.Pieces.{IsValueOf, way_uses}
+use Rattle.path_refusals.specs.invariants.Pieces.{MeansValueOf, way_uses}
 use Rattle.path_refusals.proofs.Refused.{refused_alike, staged_two, sorted_refused, rank_behind}
 use Rattle.path_refusals.proofs.Owning.{guard_clear}
 use Rattle.path_refusals.proofs.Paths.{way_is}
@@ -103,7 +103,7 @@ longer : (h : Classes) (c b d : ClassId) (xs : List PassedMember) (x : PassedMem
 longer h c b d [] x path class element = (record { valid = path; class = b; of_class = class; element = element }, whole [] tt)
 longer h c b d (y ∷ ys) x path class element = (path.0, longer h y.class b d ys x path.1 class element)
 
-pub address_staged : (h : Classes) → IsHierarchy h → (heap : Heap) (s : Objects) (v : ValueCode) (x : Value) (e : Scope) (place : TypedPlace) (d : ClassId) (c : Conversion) → IsValueOf h heap s v x place.class → IsPlace h e place (Object d)
+pub address_staged : (h : Classes) → IsHierarchy h → (heap : Heap) (s : Objects) (v : ValueCode) (x : Value) (e : Scope) (place : TypedPlace) (d : ClassId) (c : Conversion) → MeansValueOf h heap s v x place.class → IsPlace h e place (Object d)
     → refused h s (way_uses place x ++ convert (address_value place d x) c) ≡ option_or (refused h s (way_uses place x)) (refused h s (convert (address_value place d x) c))
 address_staged h keeps heap s v x e place d c a of =
     staged_two h s (way_uses place x ++ convert (address_value place d x) c) (asked_place x place) (convert (address_value place d x) c)
@@ -112,26 +112,26 @@ address_staged h keeps heap s v x e place d c a of =
 
 -- casts
 
-pub cast_staged : (h : Classes) (heap : Heap) (s : Objects) (v : ValueCode) (x : Value) (how : TypedCast) (from to : ClassId) (c : Conversion) → IsValueOf h heap s v x from → Casts h from how to
+pub cast_staged : (h : Classes) (heap : Heap) (s : Objects) (v : ValueCode) (x : Value) (how : TypedCast) (from to : ClassId) (c : Conversion) → MeansValueOf h heap s v x from → Casts h from how to
     → refused h s (cast_uses how x ++ convert (cast_value h s how x) c) ≡ option_or (refused h s (cast_uses how x)) (refused h s (convert (cast_value h s how x) c))
 cast_staged h heap s v x how from to c a b =
     staged_two h s (cast_uses how x ++ convert (cast_value h s how x) c) (cast_uses how x) (convert (cast_value h s how x) c) (cast_answers h s a.settled how x from c a.of_class (cast_given h from to how b))
 
 pub cast_steady : (h : Classes) (s : Objects) (how : TypedCast) (x : Value) → None ≡ refused h s (cast_uses how x) → names (is_unready s) x ≡ false
 cast_steady h s SameClass x e = guard_clear h s x [] e
-cast_steady h s (Up i) x e = guard_clear h s x (views (is_shared i) x) e
+cast_steady h s (Up i) x e = guard_clear h s x (uses_of_view (is_shared i) x) e
 cast_steady h s (Down target i) x e = guard_clear h s x (Downs x target i ∷ []) e
 cast_steady h s (Dynamic target) x e = guard_clear h s x (Views x ∷ []) e
 
 -- returns
 
 pub return_staged : (h : Classes) → IsHierarchy h → (s : Sight) (w : Wanted) (a : Argument) → AllSettled h s.objects → IsReturn h s w (Some a)
-    → refused h s.objects (return_uses s w (Some a)) ≡ option_or (refused h s.objects (Reads (value s a.operand) ∷ convert (value s a.operand) a.conversion))
-    (option_or (refused h s.objects (convert (converted (value s a.operand) a.conversion) w.found)) (refused h s.objects (convert (converted (converted (value s a.operand) a.conversion) w.found) w.target)))
+    → refused h s.objects (return_uses s w (Some a)) ≡ option_or (refused h s.objects (Reads (value_of_operand s a.operand) ∷ convert (value_of_operand s a.operand) a.conversion))
+    (option_or (refused h s.objects (convert (converted_to (value_of_operand s a.operand) a.conversion) w.found)) (refused h s.objects (convert (converted_to (converted_to (value_of_operand s a.operand) a.conversion) w.found) w.target)))
 return_staged h keeps s w a all typed =
-    let A = Reads (value s a.operand) ∷ convert (value s a.operand) a.conversion in
-    let B = convert (converted (value s a.operand) a.conversion) w.found in
-    let C = convert (converted (converted (value s a.operand) a.conversion) w.found) w.target in
+    let A = Reads (value_of_operand s a.operand) ∷ convert (value_of_operand s a.operand) a.conversion in
+    let B = convert (converted_to (value_of_operand s a.operand) a.conversion) w.found in
+    let C = convert (converted_to (converted_to (value_of_operand s a.operand) a.conversion) w.found) w.target in
     (statement_answers h keeps s w all (Return (Some a)) typed).same
     ∙ (broken_append h s.objects (sorted A) (sorted B ++ sorted C)
     ∙ (ap (λ o. option_or o (first_broken h s.objects (sorted B ++ sorted C))) (sorted_refused h s.objects A)
@@ -141,23 +141,23 @@ return_staged h keeps s w a all typed =
 -- copies
 
 -- the first two of three lists, the other way round
-turned : (h : Classes) (s : Objects) (a b c : List Use) → rank h s (a ++ (b ++ c)) ≡ rank h s (b ++ (a ++ c))
+turned : (h : Classes) (s : Objects) (a b c : List StatementUse) → rank h s (a ++ (b ++ c)) ≡ rank h s (b ++ (a ++ c))
 turned h s a b c =
     let r = rank_append h s a (b ++ c) in let t = rank_append h s b c in
     let u = rank_append h s b (a ++ c) in let v = rank_append h s a c in omega (arith, r, t, u, v)
 
 -- six lists, three of each side
-sides : (h : Classes) (s : Objects) (a b v w c d : List Use) → rank h s (a ++ (b ++ (v ++ (w ++ (c ++ d))))) ≡ rank h s ((a ++ (v ++ c)) ++ (b ++ (w ++ d)))
+sides : (h : Classes) (s : Objects) (a b v w c d : List StatementUse) → rank h s (a ++ (b ++ (v ++ (w ++ (c ++ d))))) ≡ rank h s ((a ++ (v ++ c)) ++ (b ++ (w ++ d)))
 sides h s a b v w c d =
     rank_behind h s a (b ++ (v ++ (w ++ (c ++ d)))) (v ++ (b ++ (w ++ (c ++ d)))) (turned h s b v (w ++ (c ++ d)))
     ∙ (rank_behind h s a (v ++ (b ++ (w ++ (c ++ d)))) (v ++ (b ++ (c ++ (w ++ d)))) (rank_behind h s v (b ++ (w ++ (c ++ d))) (b ++ (c ++ (w ++ d))) (rank_behind h s b (w ++ (c ++ d)) (c ++ (w ++ d)) (turned h s w c d)))
     ∙ (rank_behind h s a (v ++ (b ++ (c ++ (w ++ d)))) (v ++ (c ++ (b ++ (w ++ d)))) (rank_behind h s v (b ++ (c ++ (w ++ d))) (c ++ (b ++ (w ++ d))) (turned h s b c (w ++ d)))
     ∙ ap (λ us. rank h s us) (ap (λ us. a ++ us) (sym (append_assoc v c (b ++ (w ++ d)))) ∙ sym (append_assoc a (v ++ c) (b ++ (w ++ d))))))
 
-pub copy_is : (h : Classes) → IsHierarchy h → (s : Sight) (w : Wanted) (to from : TypedOperand) (c : ClassId) → AllSettled h s.objects → IsOf s.objects (value s to) c → IsOf s.objects (value s from) c
-    → refused h s.objects ((arrow (value s to) ++ (views (has_virtual_base h c) (value s to) ++ asked_covered h c (value s to))) ++ (arrow (value s from) ++ (views (has_virtual_base h c) (value s from) ++ asked_covered h c (value s from)))) ≡ refusal h s w (Copy to from c)
+pub copy_is : (h : Classes) → IsHierarchy h → (s : Sight) (w : Wanted) (to from : TypedOperand) (c : ClassId) → AllSettled h s.objects → IsOf s.objects (value_of_operand s to) c → IsOf s.objects (value_of_operand s from) c
+    → refused h s.objects ((arrow (value_of_operand s to) ++ (uses_of_view (has_virtual_base h c) (value_of_operand s to) ++ asked_covered h c (value_of_operand s to))) ++ (arrow (value_of_operand s from) ++ (uses_of_view (has_virtual_base h c) (value_of_operand s from) ++ asked_covered h c (value_of_operand s from)))) ≡ statement_refusal h s w (Copy to from c)
 copy_is h keeps s w to from c all a b =
-    let x = value s to in let y = value s from in let n = has_virtual_base h c in
-    let us = arrow x ++ (arrow y ++ (views n x ++ (views n y ++ (asked_covered h c x ++ asked_covered h c y)))) in
-    sym (refused_alike h s.objects us ((arrow x ++ (views n x ++ asked_covered h c x)) ++ (arrow y ++ (views n y ++ asked_covered h c y))) (sides h s.objects (arrow x) (arrow y) (views n x) (views n y) (asked_covered h c x) (asked_covered h c y)))
+    let x = value_of_operand s to in let y = value_of_operand s from in let n = has_virtual_base h c in
+    let us = arrow x ++ (arrow y ++ (uses_of_view n x ++ (uses_of_view n y ++ (asked_covered h c x ++ asked_covered h c y)))) in
+    sym (refused_alike h s.objects us ((arrow x ++ (uses_of_view n x ++ asked_covered h c x)) ++ (arrow y ++ (uses_of_view n y ++ asked_covered h c y))) (sides h s.objects (arrow x) (arrow y) (uses_of_view n x) (uses_of_view n y) (asked_covered h c x) (asked_covered h c y)))
     ∙ sym ((statement_answers h keeps s w all (Copy to from c) (a, b)).same ∙ sorted_refused h s.objects us)

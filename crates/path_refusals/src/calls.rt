@@ -13,7 +13,7 @@ ghost use Rattle.path_heap.specs.Stands.{HeapStands, HasBegun, Means};
 ghost use Rattle.path_tables.specs.Asked.{AreAnswers};
 ghost use Rattle.path_tables.specs.Worlds.{IsWorld};
 ghost use Rattle.path_views.specs.Views.{IsCallable};
-ghost use Rattle.path_refusals.specs.invariants.Pieces.{Stands, CanTake};
+ghost use Rattle.path_refusals.specs.invariants.Pieces.{SightStands, CanTake};
 ghost use Rattle.path_refusals.specs.invariants.SideRules.{FoundRefuses, WayRefuses, CallPointerRefuses};
 
 use crate::moment::{Moment, Refusal};
@@ -155,7 +155,7 @@ pub(crate) fn call(
     requires world { IsWorld moment.now.world }
     requires answers { AreAnswers moment.now.world.h.now answers.old }
     ensures answers { AreAnswers moment.now.world.h.now answers.new }
-    ensures is { IfOk result (λ rule. (e : Scope) (s : Sight) (f : Function ClassId) → Stands moment.now.world.h.now moment.now.heap.now scene.now e s → IsCall moment.now.world.h.now e call.now f → rule ≡ refused moment.now.world.h.now s.objects (call_uses s call.now)) }
+    ensures is { IfOk result (λ rule. (e : Scope) (s : Sight) (f : Function ClassId) → SightStands moment.now.world.h.now moment.now.heap.now scene.now e s → IsCall moment.now.world.h.now e call.now f → rule ≡ refused moment.now.world.h.now s.objects (call_uses s call.now)) }
 {
     let v = value(scene, &call.pointer);
     let to = pointer(moment, answers, v, call)?;

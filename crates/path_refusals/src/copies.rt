@@ -5,11 +5,11 @@ ghost use Rattle.cxx_hierarchy.specs.Classes.{members_of};
 ghost use Rattle.cxx_subobject.specs.Locations.{ObjectPart};
 ghost use Rattle.cxx_search.specs.Searches.{has_virtual_base};
 ghost use Rattle.path_model.specs.Values.{Objects};
-ghost use Rattle.path_model.specs.Uses.{arrow, views, member_uses};
+ghost use Rattle.path_model.specs.Uses.{arrow, uses_of_view, member_uses};
 ghost use Rattle.path_model.specs.Order.{asked_covers, asked_covered};
 ghost use Rattle.path_tables.specs.Asked.{AreAnswers};
 ghost use Rattle.path_tables.specs.Worlds.{IsWorld};
-ghost use Rattle.path_refusals.specs.invariants.Pieces.{TypedRefuses, OpenRefuses, IsReadyPart, Covers};
+ghost use Rattle.path_refusals.specs.invariants.Pieces.{TypedRefuses, OpenRefuses, IsReadyPart, TellsReadiness};
 ghost use Rattle.path_refusals.specs.invariants.SideRules.{IsElementCovered};
 
 use crate::deletes::is_complete;
@@ -58,7 +58,7 @@ fn is_element_covered(moment: &Moment, e: u32, d: ClassId) -> bool
 fn is_member_covered(moment: &Moment, n: u32, c: ClassId, m: u32, member: &Member<ClassId>) -> bool
     requires world { IsWorld moment.now.world }
     requires listed { slice_get (members_of moment.now.world.h.now c) m ≡ Some member.now }
-    ensures { (s : Objects) (p : ObjectPart) (k : ℕ) → IsReadyPart moment.now.world.h.now moment.now.heap.now s n p c → c.0 ≤ k → Covers moment.now.world.h.now s result (member_uses (asked_covers moment.now.world.h.now k) p m (Some member.now)) }
+    ensures { (s : Objects) (p : ObjectPart) (k : ℕ) → IsReadyPart moment.now.world.h.now moment.now.heap.now s n p c → c.0 ≤ k → TellsReadiness moment.now.world.h.now s result (member_uses (asked_covers moment.now.world.h.now k) p m (Some member.now)) }
 {
     match &member.ty {
         FieldType::Value(_) => true,
@@ -81,7 +81,7 @@ fn is_member_covered(moment: &Moment, n: u32, c: ClassId, m: u32, member: &Membe
 #[cycle(covers)]
 fn is_covered(moment: &Moment, n: u32, c: ClassId) -> bool
     requires world { IsWorld moment.now.world }
-    ensures { (s : Objects) (p : ObjectPart) (k : ℕ) → IsReadyPart moment.now.world.h.now moment.now.heap.now s n p c → c.0 < k → Covers moment.now.world.h.now s result (asked_covers moment.now.world.h.now k c p) }
+    ensures { (s : Objects) (p : ObjectPart) (k : ℕ) → IsReadyPart moment.now.world.h.now moment.now.heap.now s n p c → c.0 < k → TellsReadiness moment.now.world.h.now s result (asked_covers moment.now.world.h.now k c p) }
 {
     moment.world.h.keeps();
     if is_complete(moment.heap.phase(n)) {
@@ -106,7 +106,7 @@ fn covered(moment: &Moment, answers: &mut Answers, v: Value, c: ClassId, needed:
     requires world { IsWorld moment.now.world }
     requires answers { AreAnswers moment.now.world.h.now answers.old }
     ensures answers { AreAnswers moment.now.world.h.now answers.new }
-    ensures is { IfOk result (OpenRefuses moment.now.world.h.now moment.now.heap.now v c (λ x. views needed x ++ asked_covered moment.now.world.h.now c x)) }
+    ensures is { IfOk result (OpenRefuses moment.now.world.h.now moment.now.heap.now v c (λ x. uses_of_view needed x ++ asked_covered moment.now.world.h.now c x)) }
 {
     match v {
         Value::Unset => Ok(None),
@@ -134,7 +134,7 @@ pub(crate) fn side(
     requires world { IsWorld moment.now.world }
     requires answers { AreAnswers moment.now.world.h.now answers.old }
     ensures answers { AreAnswers moment.now.world.h.now answers.new }
-    ensures is { IfOk result (TypedRefuses moment.now.world.h.now moment.now.heap.now v c (λ x. arrow x ++ (views needed x ++ asked_covered moment.now.world.h.now c x))) }
+    ensures is { IfOk result (TypedRefuses moment.now.world.h.now moment.now.heap.now v c (λ x. arrow x ++ (uses_of_view needed x ++ asked_covered moment.now.world.h.now c x))) }
 {
     match arrow(moment.heap, v) {
         Some(rule) => Ok(Some(rule)),

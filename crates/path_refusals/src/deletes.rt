@@ -7,7 +7,7 @@ ghost use Rattle.cxx_overrider.specs.Virtuals.{is_virtual};
 ghost use Rattle.cxx_search.specs.Searches.{destructor_of};
 ghost use Rattle.path_plan.specs.Phases.{is_complete};
 ghost use Rattle.path_model.specs.Values.{Objects, Pointer};
-ghost use Rattle.path_model.specs.Uses.{Reads, Follows, Guards, Deletes, Dumps, views};
+ghost use Rattle.path_model.specs.Uses.{Reads, Follows, Guards, Deletes, Dumps, uses_of_view};
 ghost use Rattle.path_model.specs.Rules.{is_no_whole, is_incomplete};
 ghost use Rattle.path_heap.specs.Points.{Points};
 ghost use Rattle.path_heap.specs.Stands.{HeapStands, HasBegun, phase_of};
@@ -114,7 +114,7 @@ pub(crate) fn delete(moment: &Moment, answers: &mut Answers, v: Value, c: ClassI
     requires world { IsWorld moment.now.world }
     requires answers { AreAnswers moment.now.world.h.now answers.old }
     ensures answers { AreAnswers moment.now.world.h.now answers.new }
-    ensures is { IfOk result (Refuses moment.now.world.h.now moment.now.heap.now v (λ x. Reads x ∷ (Guards x ∷ (views (is_virtual moment.now.world.h.now (destructor_of moment.now.world.h.now c)) x ++ Deletes x (is_virtual moment.now.world.h.now (destructor_of moment.now.world.h.now c)) ∷ [])))) }
+    ensures is { IfOk result (Refuses moment.now.world.h.now moment.now.heap.now v (λ x. Reads x ∷ (Guards x ∷ (uses_of_view (is_virtual moment.now.world.h.now (destructor_of moment.now.world.h.now c)) x ++ Deletes x (is_virtual moment.now.world.h.now (destructor_of moment.now.world.h.now c)) ∷ [])))) }
 {
     let is_virtual = has_virtual_destructor(&moment.world, c);
     match read_view(moment, answers, v, is_virtual)? {

@@ -3,7 +3,7 @@
 ghost use Rattle.std.specs.Prelude.{[], ◌∷◌, ◌++◌, IfOk};
 ghost use Rattle.std.specs.List.{flat_map};
 ghost use Rattle.cxx_hierarchy.specs.Classes.{Classes};
-ghost use Rattle.path_model.specs.Values.{value};
+ghost use Rattle.path_model.specs.Values.{value_of_operand};
 ghost use Rattle.path_model.specs.Uses.{Reads, Overflows, argument_uses};
 ghost use Rattle.path_tables.specs.Asked.{AreAnswers};
 ghost use Rattle.path_tables.specs.Worlds.{IsWorld};
@@ -81,7 +81,7 @@ pub(crate) fn arguments(
 
 /// What an operand breaks that is read.
 pub(crate) fn read(heap: &Heap, scene: &Scene, x: &TypedOperand) -> Option<Undefined>
-    ensures { (h : Classes) → SightRefuses h heap.now scene.now (λ s. Reads (value s x.now) ∷ []) result }
+    ensures { (h : Classes) → SightRefuses h heap.now scene.now (λ s. Reads (value_of_operand s x.now) ∷ []) result }
 {
     reads(heap, value(scene, x))
 }
@@ -95,7 +95,7 @@ pub(crate) fn calculation(
     x: &TypedOperand,
     y: &TypedOperand,
 ) -> Option<Undefined>
-    ensures { (h : Classes) → SightRefuses h heap.now scene.now (λ s. Reads (value s x.now) ∷ Reads (value s y.now) ∷ Overflows op t (value s x.now) (value s y.now) ∷ []) result }
+    ensures { (h : Classes) → SightRefuses h heap.now scene.now (λ s. Reads (value_of_operand s x.now) ∷ Reads (value_of_operand s y.now) ∷ Overflows op t (value_of_operand s x.now) (value_of_operand s y.now) ∷ []) result }
 {
     let a = value(scene, x);
     let b = value(scene, y);

@@ -7,7 +7,7 @@ ghost use Rattle.cxx_subobject.specs.Locations.{ObjectPart};
 ghost use Rattle.path_model.specs.Values.{Objects};
 ghost use Rattle.path_model.specs.Rules.{refused};
 ghost use Rattle.path_model.specs.Typed.{IsPath};
-ghost use Rattle.path_model.specs.Order.{asked_members, first_base};
+ghost use Rattle.path_model.specs.Order.{asked_members, first_name_base};
 ghost use Rattle.path_tables.specs.Asked.{AreAnswers};
 ghost use Rattle.path_tables.specs.Worlds.{IsWorld};
 ghost use Rattle.path_refusals.specs.invariants.Pieces.{IsReadyPart, TypedRefuses, OpenRefuses, way_uses, path_asked};
@@ -45,7 +45,7 @@ fn members(moment: &Moment, n: u32, path: &[PassedMember]) -> Option<Undefined>
 
 /// The subobject in which the first name of a place is found.
 fn first_base(place: &TypedPlace) -> &Subobject
-    ensures { result.now ≡ first_base place.now.passed place.now.base }
+    ensures { result.now ≡ first_name_base place.now.passed place.now.base }
 {
     match place.passed.as_slice() {
         [] => &place.base,

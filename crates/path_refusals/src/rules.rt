@@ -2,7 +2,7 @@
 
 ghost use Rattle.std.specs.Prelude.{◌≡◌};
 ghost use Rattle.path_rules.specs.Rules.{undefined_no};
-ghost use Rattle.path_refusals.specs.invariants.Pieces.{smaller, least};
+ghost use Rattle.path_refusals.specs.invariants.Pieces.{smaller, least_undefined};
 
 use path_rules::Undefined;
 
@@ -35,7 +35,7 @@ fn smaller(a: Undefined, b: Undefined) -> Undefined
 
 /// The rule that two lists of uses break first, by that of each.
 pub(crate) fn least(a: Option<Undefined>, b: Option<Undefined>) -> Option<Undefined>
-    ensures { result ≡ least a b }
+    ensures { result ≡ least_undefined a b }
 {
     match (a, b) {
         (None, other) => other,

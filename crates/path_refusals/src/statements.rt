@@ -9,12 +9,12 @@ ghost use Rattle.cxx_program.specs.declared.statement.TypedKind.TheVariants.{Dec
 ghost use Rattle.cxx_program.specs.Typed.{Scope, HasType, IsPlace};
 ghost use Rattle.path_model.specs.Values.{Sight};
 ghost use Rattle.path_model.specs.Uses.{Wanted};
-ghost use Rattle.path_model.specs.Rules.{refusal};
+ghost use Rattle.path_model.specs.Rules.{statement_refusal};
 ghost use Rattle.path_tables.specs.Asked.{AreAnswers};
 ghost use Rattle.path_tables.specs.Worlds.{IsWorld};
 ghost use Rattle.path_values.specs.Scenes.{SceneStands};
 ghost use Rattle.path_values.specs.Given.{IsGiven};
-ghost use Rattle.path_refusals.specs.invariants.Pieces.{Stands};
+ghost use Rattle.path_refusals.specs.invariants.Pieces.{SightStands};
 ghost use Rattle.path_refusals.specs.invariants.SideRules.{ReturnRefuses};
 
 use crate::calls::call;
@@ -45,7 +45,7 @@ fn written(
     requires world { IsWorld moment.now.world }
     requires answers { AreAnswers moment.now.world.h.now answers.old }
     ensures answers { AreAnswers moment.now.world.h.now answers.new }
-    ensures is { IfOk result (λ rule. (e : Scope) (s : Sight) (w : Wanted) (t : ValueType ClassId) → Stands moment.now.world.h.now moment.now.heap.now scene.now e s → IsPlace moment.now.world.h.now e to.now (ValueField t) → rule ≡ refusal moment.now.world.h.now s w (Write to.now x.now)) }
+    ensures is { IfOk result (λ rule. (e : Scope) (s : Sight) (w : Wanted) (t : ValueType ClassId) → SightStands moment.now.world.h.now moment.now.heap.now scene.now e s → IsPlace moment.now.world.h.now e to.now (ValueField t) → rule ≡ statement_refusal moment.now.world.h.now s w (Write to.now x.now)) }
 {
     let v = value(scene, &to.pointer);
     let left = place(moment, answers, v, to)?;
@@ -67,7 +67,7 @@ fn copied(
     requires world { IsWorld moment.now.world }
     requires answers { AreAnswers moment.now.world.h.now answers.old }
     ensures answers { AreAnswers moment.now.world.h.now answers.new }
-    ensures is { IfOk result (λ rule. (e : Scope) (s : Sight) (w : Wanted) → Stands moment.now.world.h.now moment.now.heap.now scene.now e s → HasType e to.now (PointerType c) → HasType e from.now (PointerType c) → rule ≡ refusal moment.now.world.h.now s w (Copy to.now from.now c)) }
+    ensures is { IfOk result (λ rule. (e : Scope) (s : Sight) (w : Wanted) → SightStands moment.now.world.h.now moment.now.heap.now scene.now e s → HasType e to.now (PointerType c) → HasType e from.now (PointerType c) → rule ≡ statement_refusal moment.now.world.h.now s w (Copy to.now from.now c)) }
 {
     let needed = has_virtual_base(&moment.world, c);
     let v = value(scene, to);
@@ -89,7 +89,7 @@ fn declared(
     requires world { IsWorld moment.now.world }
     requires answers { AreAnswers moment.now.world.h.now answers.old }
     ensures answers { AreAnswers moment.now.world.h.now answers.new }
-    ensures is { IfOk result (λ rule. (e : Scope) (s : Sight) (w : Wanted) (n : ℕ) → SceneStands moment.now.world.h.now moment.now.heap.now scene.now s → IsGiven moment.now.world.h.now e s w (Declare n from.now) → rule ≡ refusal moment.now.world.h.now s w (Declare n from.now)) }
+    ensures is { IfOk result (λ rule. (e : Scope) (s : Sight) (w : Wanted) (n : ℕ) → SceneStands moment.now.world.h.now moment.now.heap.now scene.now s → IsGiven moment.now.world.h.now e s w (Declare n from.now) → rule ≡ statement_refusal moment.now.world.h.now s w (Declare n from.now)) }
 {
     match from {
         Some(x) => right(moment, answers, scene, &x.right, &x.conversion),
@@ -133,7 +133,7 @@ pub fn refusal(
     requires world { IsWorld moment.now.world }
     requires answers { AreAnswers moment.now.world.h.now answers.old }
     ensures answers { AreAnswers moment.now.world.h.now answers.new }
-    ensures is { IfOk result (λ rule. (e : Scope) (s : Sight) (w : Wanted) → SceneStands moment.now.world.h.now moment.now.heap.now scene.now s → IsGiven moment.now.world.h.now e s w kind.now → w.found ≡ found.now → w.target ≡ target.now → rule ≡ refusal moment.now.world.h.now s w kind.now) }
+    ensures is { IfOk result (λ rule. (e : Scope) (s : Sight) (w : Wanted) → SceneStands moment.now.world.h.now moment.now.heap.now scene.now s → IsGiven moment.now.world.h.now e s w kind.now → w.found ≡ found.now → w.target ≡ target.now → rule ≡ statement_refusal moment.now.world.h.now s w kind.now) }
 {
     match kind {
         TypedKind::Declare(_, x) => declared(moment, answers, scene, x),

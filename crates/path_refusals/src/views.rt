@@ -2,7 +2,7 @@
 
 ghost use Rattle.std.specs.Prelude.{◌≡◌, ◌∷◌, ◌++◌, IfOk};
 ghost use Rattle.path_model.specs.Values.{Pointer};
-ghost use Rattle.path_model.specs.Uses.{Reads, Guards, arrow, convert, is_shared, views};
+ghost use Rattle.path_model.specs.Uses.{Reads, Guards, arrow, convert, is_shared, uses_of_view};
 ghost use Rattle.path_tables.specs.Asked.{AreAnswers};
 ghost use Rattle.path_tables.specs.Worlds.{IsWorld};
 ghost use Rattle.path_refusals.specs.invariants.Pieces.{Refuses, SteadyRefuses, PartRefuses, ReadyRefuses};
@@ -33,7 +33,7 @@ pub(crate) fn view(moment: &Moment, answers: &mut Answers, n: u32, needed: bool)
     requires world { IsWorld moment.now.world }
     requires answers { AreAnswers moment.now.world.h.now answers.old }
     ensures answers { AreAnswers moment.now.world.h.now answers.new }
-    ensures is { IfOk result (ReadyRefuses moment.now.world.h.now moment.now.heap.now n (λ p. views needed (Pointer p))) }
+    ensures is { IfOk result (ReadyRefuses moment.now.world.h.now moment.now.heap.now n (λ p. uses_of_view needed (Pointer p))) }
 {
     if !needed {
         return Ok(None);
@@ -52,7 +52,7 @@ pub(crate) fn view_of(moment: &Moment, answers: &mut Answers, v: Value, needed: 
     requires world { IsWorld moment.now.world }
     requires answers { AreAnswers moment.now.world.h.now answers.old }
     ensures answers { AreAnswers moment.now.world.h.now answers.new }
-    ensures is { IfOk result (SteadyRefuses moment.now.world.h.now moment.now.heap.now v (λ x. views needed x)) }
+    ensures is { IfOk result (SteadyRefuses moment.now.world.h.now moment.now.heap.now v (λ x. uses_of_view needed x)) }
 {
     match v {
         Value::Unset => Ok(None),
@@ -69,7 +69,7 @@ pub(crate) fn guard_view(moment: &Moment, answers: &mut Answers, n: u32, needed:
     requires world { IsWorld moment.now.world }
     requires answers { AreAnswers moment.now.world.h.now answers.old }
     ensures answers { AreAnswers moment.now.world.h.now answers.new }
-    ensures is { IfOk result (PartRefuses moment.now.world.h.now moment.now.heap.now n (λ p. Guards (Pointer p) ∷ views needed (Pointer p))) }
+    ensures is { IfOk result (PartRefuses moment.now.world.h.now moment.now.heap.now n (λ p. Guards (Pointer p) ∷ uses_of_view needed (Pointer p))) }
 {
     if is_unready(moment.heap, n) {
         return Ok(Some(Undefined::NotReady));
@@ -89,7 +89,7 @@ pub(crate) fn guard_view_of(
     requires world { IsWorld moment.now.world }
     requires answers { AreAnswers moment.now.world.h.now answers.old }
     ensures answers { AreAnswers moment.now.world.h.now answers.new }
-    ensures is { IfOk result (Refuses moment.now.world.h.now moment.now.heap.now v (λ x. Guards x ∷ views needed x)) }
+    ensures is { IfOk result (Refuses moment.now.world.h.now moment.now.heap.now v (λ x. Guards x ∷ uses_of_view needed x)) }
 {
     match v {
         Value::Unset => Ok(None),
@@ -106,7 +106,7 @@ pub(crate) fn read_view(moment: &Moment, answers: &mut Answers, v: Value, needed
     requires world { IsWorld moment.now.world }
     requires answers { AreAnswers moment.now.world.h.now answers.old }
     ensures answers { AreAnswers moment.now.world.h.now answers.new }
-    ensures is { IfOk result (Refuses moment.now.world.h.now moment.now.heap.now v (λ x. Reads x ∷ (Guards x ∷ views needed x))) }
+    ensures is { IfOk result (Refuses moment.now.world.h.now moment.now.heap.now v (λ x. Reads x ∷ (Guards x ∷ uses_of_view needed x))) }
 {
     match reads(moment.heap, v) {
         Some(rule) => Ok(Some(rule)),
@@ -159,7 +159,7 @@ pub(crate) fn arrow_view(moment: &Moment, answers: &mut Answers, v: Value, neede
     requires world { IsWorld moment.now.world }
     requires answers { AreAnswers moment.now.world.h.now answers.old }
     ensures answers { AreAnswers moment.now.world.h.now answers.new }
-    ensures is { IfOk result (Refuses moment.now.world.h.now moment.now.heap.now v (λ x. arrow x ++ views needed x)) }
+    ensures is { IfOk result (Refuses moment.now.world.h.now moment.now.heap.now v (λ x. arrow x ++ uses_of_view needed x)) }
 {
     match arrow(moment.heap, v) {
         Some(rule) => Ok(Some(rule)),

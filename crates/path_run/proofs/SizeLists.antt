@@ -5,7 +5,7 @@ use Rattle.std.proofs.Math.Path.{fun_ext}
 use Rattle.cxx_hierarchy.specs.declared.records.ClassId.{ClassId}
 use Rattle.cxx_hierarchy.specs.Classes.{Classes}
 use Rattle.abi_sound.specs.declared.class_layout.ClassLayout.{ClassLayout}
-use Rattle.abi_sound.specs.Places.{places_of, size_in as size_of_row}
+use Rattle.abi_sound.specs.Places.{places_of, size_in_row as size_of_row}
 use Rattle.path_machine.specs.invariants.Steps.{size_in}
 
 abbrev pub row_size : ClassLayout → ℕ

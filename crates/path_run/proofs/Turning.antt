@@ -15,11 +15,11 @@ use Rattle.path_machine.specs.Tellings.{is_told}
 use Rattle.path_machine.specs.Turns.{IsInRun, taken_by, budget_of, ended_with}
 use Rattle.abi_sound.specs.Places.{Places}
 use Rattle.path_model.specs.Outs.{is_traced}
-use Rattle.text_told.specs.OutTexts.{shown, text_of}
+use Rattle.text_told.specs.OutTexts.{outs_to_show, text_of}
 use Rattle.text_told.specs.declared.ending.End.{End}
 use Rattle.text_told.specs.declared.ending.End.TheVariants.{Limit}
 use Rattle.text_told.specs.Told.{IsRun, text_at, text_limit, told}
-use Rattle.path_run.specs.invariants.Going.{IsGoing, IsOver, IsTurned, HasGoneOn, Stepped, all_told}
+use Rattle.path_run.specs.invariants.Going.{RunGoesOn, HasEndedBefore, IsTurned, HasGoneOn, Stepped, all_told}
 use Rattle.text_told.proofs.Texts.{text_none}
 use Rattle.text_told.proofs.Lines.{IsTextOf, ends_with, lines_pass, lines_stand}
 
@@ -31,23 +31,23 @@ pub traced : (h : Classes) (l : Places) (program : TypedProgram) (told trace : B
 traced h l program told trace before after outs last o same ends a = subst (Stepped h l program trace before after outs) ends (subst (λ (b : Bool). Stepped h l program b before after outs last) same a)
 
 -- the text of the steps taken
-text_so_far : (h : Classes) (l : Places) (program : TypedProgram) (trace : Bool) (before : PathState) (text : List ℕ) → IsGoing h l program trace before text → IsTextOf h l program trace (taken_by before) text
+text_so_far : (h : Classes) (l : Places) (program : TypedProgram) (trace : Bool) (before : PathState) (text : List ℕ) → RunGoesOn h l program trace before text → IsTextOf h l program trace (taken_by before) text
 text_so_far h l program trace before text goes = record { text_is = goes.text_is; small = goes.small; room = goes.room }
 
 -- the run has ended with the text so far
-pub ends_run : (h : Classes) (l : Places) (program : TypedProgram) (trace : Bool) (before : PathState) (text : List ℕ) (end_is : End) → IsGoing h l program trace before text → IsOver h l program before end_is → IsRun h l program trace (budget_of before) text end_is
+pub ends_run : (h : Classes) (l : Places) (program : TypedProgram) (trace : Bool) (before : PathState) (text : List ℕ) (end_is : End) → RunGoesOn h l program trace before text → HasEndedBefore h l program before end_is → IsRun h l program trace (budget_of before) text end_is
 ends_run h l program trace before text end_is goes last = ends_with h l program trace (taken_by before) text (budget_of before) end_is (text_so_far h l program trace before text goes) last.outs last.ending
 
-told_shown : (trace : Bool) (xs : List Out) → filter (is_told trace) xs ≡ shown trace xs
+told_shown : (trace : Bool) (xs : List Out) → filter (is_told trace) xs ≡ outs_to_show trace xs
 told_shown true xs = filter_all (is_told true) xs (λ x has. or-true (not (is_traced x)))
 told_shown false xs = filter_same (is_told false) (λ out. not (is_traced out)) xs (λ x has. or-false (not (is_traced x)))
 
 -- the lines of what was told are those that the step shows
-all_lines : (h : Classes) (l : Places) (program : TypedProgram) (trace : Bool) (before after : PathState) (lines : List ℕ) (telling : List Out) → HasGoneOn h l program trace before after telling → lines ≡ text_of h l telling → lines ≡ text_of h l (shown trace (all_told h l program before))
+all_lines : (h : Classes) (l : Places) (program : TypedProgram) (trace : Bool) (before after : PathState) (lines : List ℕ) (telling : List Out) → HasGoneOn h l program trace before after telling → lines ≡ text_of h l telling → lines ≡ text_of h l (outs_to_show trace (all_told h l program before))
 all_lines h l program trace before after lines telling step adds = adds ∙ ap (text_of h l) (step.tells ∙ told_shown trace (all_told h l program before))
 
 -- the lines pass the limit
-pub passes_limit : (h : Classes) (l : Places) (program : TypedProgram) (trace : Bool) (before after : PathState) (text lines : List ℕ) (telling : List Out) → IsGoing h l program trace before text → HasGoneOn h l program trace before after telling
+pub passes_limit : (h : Classes) (l : Places) (program : TypedProgram) (trace : Bool) (before after : PathState) (text lines : List ℕ) (telling : List Out) → RunGoesOn h l program trace before text → HasGoneOn h l program trace before after telling
     → lines ≡ text_of h l telling → text_limit < length text + length lines → IsRun h l program trace (budget_of before) text (Limit L9)
 passes_limit h l program trace before after text lines telling goes step adds long =
     let n = taken_by before in
@@ -56,7 +56,7 @@ passes_limit h l program trace before after text lines telling goes step adds lo
     lines_pass h l program trace n text (budget_of before) lines (text_so_far h l program trace before text goes) (subst (λ (k : ℕ). IsRunning h l.size program k) step.taken new.running) within (record { telling = all_told h l program before; tells = refl; are = all_lines h l program trace before after lines telling step adds }) long
 
 -- the lines stand behind the text
-pub goes_on : (h : Classes) (l : Places) (program : TypedProgram) (trace : Bool) (before after : PathState) (text lines new : List ℕ) (telling : List Out) → IsGoing h l program trace before text → HasGoneOn h l program trace before after telling
+pub goes_on : (h : Classes) (l : Places) (program : TypedProgram) (trace : Bool) (before after : PathState) (text lines new : List ℕ) (telling : List Out) → RunGoesOn h l program trace before text → HasGoneOn h l program trace before after telling
     → lines ≡ text_of h l telling → length text + length lines ≤ text_limit → new ≡ text ++ lines → IsTurned h l program trace before after new
 goes_on h l program trace before after text lines new telling goes step adds few puts =
     let more = lines_stand h l program trace (taken_by before) text lines new (text_so_far h l program trace before text goes) (record { telling = all_told h l program before; tells = refl; are = all_lines h l program trace before after lines telling step adds }) few puts in
@@ -77,7 +77,7 @@ pub lines_are : (h : Classes) (l : Places) (old lines : List ℕ) (outs telling 
 lines_are h l old lines outs telling none same adds = adds ∙ (ap (λ (t : List ℕ). t ++ text_of h l outs) none ∙ ap (λ (xs : List Out). text_of h l xs) same)
 
 -- before the first step
-pub starts : (h : Classes) (sizes : ClassId → ℕ) (l : Places) (program : TypedProgram) (trace : Bool) (state : PathState) (text : List ℕ) → sizes ≡ l.size → IsInRun h sizes program state None → taken_by state ≡ 0 → ended_with state ≡ None → text ≡ [] → IsGoing h l program trace state text
+pub starts : (h : Classes) (sizes : ClassId → ℕ) (l : Places) (program : TypedProgram) (trace : Bool) (state : PathState) (text : List ℕ) → sizes ≡ l.size → IsInRun h sizes program state None → taken_by state ≡ 0 → ended_with state ≡ None → text ≡ [] → RunGoesOn h l program trace state text
 starts h sizes l program trace state text is in_run none going fresh = record {
   at_step = in_run_at h sizes l program state None is in_run;
   going = going;

@@ -7,7 +7,7 @@ ghost use Rattle.path_model.specs.States.{is_body};
 ghost use Rattle.path_machine.specs.invariants.Setups.{IsSetup};
 ghost use Rattle.path_machine.specs.invariants.Steps.{size_in};
 ghost use Rattle.abi_sound.specs.Places.{places_of};
-ghost use Rattle.text_told.specs.Told.{IsRun, told, ending_of};
+ghost use Rattle.text_told.specs.Told.{IsRun, told, told_ending};
 
 use crate::sizes::sizes_of;
 use crate::turn::turn;
@@ -76,7 +76,7 @@ pub fn run_paths<L: SoundLayout>(
     requires main { is_body program.now.main ≡ true }
     requires budget { steps ≤ 4000000 }
     ensures text { IfOk result (λ run. run.text ≡ (told h.now (places_of h.now (L.rows layout.now)) program.now trace steps).text) }
-    ensures end { IfOk result (λ run. ending_of run.end ≡ (told h.now (places_of h.now (L.rows layout.now)) program.now trace steps).ending) }
+    ensures end { IfOk result (λ run. told_ending run.end ≡ (told h.now (places_of h.now (L.rows layout.now)) program.now trace steps).ending) }
 {
     h.keeps();
     let numbers = Numbers::new(alloc, h)?;

@@ -6,7 +6,7 @@ ghost use Rattle.path_machine.specs.invariants.Setups.{IsSetup};
 ghost use Rattle.path_machine.specs.invariants.Steps.{size_in};
 ghost use Rattle.path_machine.specs.Turns.{IsAtStep, ended_with};
 ghost use Rattle.abi_sound.specs.Places.{Places, places_of};
-ghost use Rattle.path_run.specs.invariants.Going.{IsGoing, Stepped, Turned, end_by};
+ghost use Rattle.path_run.specs.invariants.Going.{RunGoesOn, Stepped, Turned, turn_end};
 
 use crate::lines::append_told;
 use abi_sound::SoundLayout;
@@ -21,7 +21,7 @@ const TEXT_LIMIT: usize = 16777216;
 
 /// The end that an answer is; None for a step that was taken.
 fn end_of(turn: Turn) -> Option<End>
-    ensures { result ≡ end_by turn }
+    ensures { result ≡ turn_end turn }
 {
     match turn {
         Turn::Went => None,
@@ -62,7 +62,7 @@ pub(crate) fn turn<L: SoundLayout>(
     requires setup { IsSetup run.now }
     requires main { is_body run.now.program.now.main ≡ true }
     requires sizes { size_in run.now.sizes.now ≡ (places_of run.now.world.h.now (L.rows layout.now)).size }
-    requires going { IsGoing run.now.world.h.now (places_of run.now.world.h.now (L.rows layout.now)) run.now.program.now trace state.old text.old.items }
+    requires going { RunGoesOn run.now.world.h.now (places_of run.now.world.h.now (L.rows layout.now)) run.now.program.now trace state.old text.old.items }
     ensures { IfOk result (λ end. Turned run.now.world.h.now (places_of run.now.world.h.now (L.rows layout.now)) run.now.program.now trace state.old state.new text.new.items end) }
 {
     let mut telling = Telling::new(run.alloc, trace);

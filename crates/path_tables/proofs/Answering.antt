@@ -21,21 +21,21 @@ use Rattle.cxx_overrider.specs.Overriding.{IsVirtual}
 use Rattle.cxx_search.specs.Searches.{is_within, is_of_class, final_in, cast_in}
 use Rattle.cxx_search.proofs.Within.{inside_within}
 use Rattle.cxx_search.proofs.Casts.{is_cast, is_the_class}
-use Rattle.path_numbers.specs.Numbers.{number_in}
+use Rattle.path_numbers.specs.Numbers.{subobject_number}
 use Rattle.path_tables.specs.declared.finals.FinalAt.{FinalAt}
 use Rattle.path_tables.specs.declared.kept.CastKey.{CastKey}
 use Rattle.path_tables.specs.declared.kept.FinalKey.{FinalKey}
 use Rattle.path_tables.specs.declared.parts.PartList.{PartList}
-use Rattle.path_tables.specs.Parts.{IsNumbered, IsPartList, IsFirstOf, number_of, numbered}
-use Rattle.path_tables.specs.Kept.{id, function_of, IsCastAnswer, IsFinalAnswer}
+use Rattle.path_tables.specs.Parts.{IsNumbered, IsPartList, IsFirstTaken, number_where_found, numbered_overrider}
+use Rattle.path_tables.specs.Kept.{id, keyed_function, IsCastAnswer, IsFinalAnswer}
 use Rattle.path_tables.specs.invariants.Targets.{IsCastTo}
 use Rattle.path_tables.proofs.Numbered.{one_numbered}
 
-pub final_for_all : (h : Classes) → IsHierarchy h → (key : FinalKey) (x y : Subobject) → IsNumbered h (id key.class) key.view x → IsNumbered h (id key.class) key.source y → (answer : Option FinalAt) → answer ≡ numbered h (id key.class) (final_in h x y (function_of key)) → IsFinalAnswer h key answer
+pub final_for_all : (h : Classes) → IsHierarchy h → (key : FinalKey) (x y : Subobject) → IsNumbered h (id key.class) key.view x → IsNumbered h (id key.class) key.source y → (answer : Option FinalAt) → answer ≡ numbered_overrider h (id key.class) (final_in h x y (keyed_function key)) → IsFinalAnswer h key answer
 final_for_all h keeps key x y nx ny answer e = λ s t ns nt of_class is_virtual.
     let a = one_numbered h keeps (id key.class) key.view x s nx ns in
     let b = one_numbered h keeps (id key.class) key.source y t ny nt in
-    e ∙ (ap (λ (z : Subobject). numbered h (id key.class) (final_in h z y (function_of key))) a ∙ ap (λ (z : Subobject). numbered h (id key.class) (final_in h s z (function_of key))) b)
+    e ∙ (ap (λ (z : Subobject). numbered_overrider h (id key.class) (final_in h z y (keyed_function key))) a ∙ ap (λ (z : Subobject). numbered_overrider h (id key.class) (final_in h s z (keyed_function key))) b)
 
 -- a class that is not there has no bases
 no_edge : (h : Classes) (c b : ClassId) (way : Bool) → length h ≤ c.0 → IsDirectBase h c way b → ⊥
@@ -84,14 +84,14 @@ within_whole h keeps c m n e s t ns nt =
     let same = one_numbered h keeps c 0 (whole_of c) s (whole_number h c) (subst (λ k. IsNumbered h c k s) e ns) in
     sym (inside_within h keeps s t (subst (λ (z : Subobject). IsInside h z t) same (record { class = c; of_class = refl; part = t; valid = nt.valid; joined = (sym (whole_joined h c t nt.valid)) })))
 
-cast_for_all : (h : Classes) → IsHierarchy h → (key : CastKey) (x y : Subobject) → IsNumbered h (id key.class) key.view x → IsNumbered h (id key.class) key.source y → (answer : Option ℕ) → answer ≡ number_of h (id key.class) (cast_in h (id key.target) x y) → IsCastAnswer h key answer
+cast_for_all : (h : Classes) → IsHierarchy h → (key : CastKey) (x y : Subobject) → IsNumbered h (id key.class) key.view x → IsNumbered h (id key.class) key.source y → (answer : Option ℕ) → answer ≡ number_where_found h (id key.class) (cast_in h (id key.target) x y) → IsCastAnswer h key answer
 cast_for_all h keeps key x y nx ny answer e = λ s t ns nt.
     let a = one_numbered h keeps (id key.class) key.view x s nx ns in
     let b = one_numbered h keeps (id key.class) key.source y t ny nt in
-    e ∙ (ap (λ (z : Subobject). number_of h (id key.class) (cast_in h (id key.target) z y)) a ∙ ap (λ (z : Subobject). number_of h (id key.class) (cast_in h (id key.target) s z)) b)
+    e ∙ (ap (λ (z : Subobject). number_where_found h (id key.class) (cast_in h (id key.target) z y)) a ∙ ap (λ (z : Subobject). number_where_found h (id key.class) (cast_in h (id key.target) s z)) b)
 
 pub cast_none : (h : Classes) → IsHierarchy h → (key : CastKey) (x y : Subobject) (parts : List Subobject) → IsNumbered h (id key.class) key.view x → IsNumbered h (id key.class) key.source y → IsCastTo h (id key.target) x y parts None → IsCastAnswer h key None
-cast_none h keeps key x y parts nx ny k = cast_for_all h keeps key x y nx ny None (ap (number_of h (id key.class)) (sym (is_cast h keeps (id key.class) x nx.valid (id key.target) y None k)))
+cast_none h keeps key x y parts nx ny k = cast_for_all h keeps key x y nx ny None (ap (number_where_found h (id key.class)) (sym (is_cast h keeps (id key.class) x nx.valid (id key.target) y None k)))
 
 pub cast_some : (h : Classes) → IsHierarchy h → (key : CastKey) (x y : Subobject) (parts : List Subobject) (list : PartList) (place n : ℕ) → IsNumbered h (id key.class) key.view x → IsNumbered h (id key.class) key.source y
     → IsPartList h (id key.class) list → parts ≡ list.parts → IsCastTo h (id key.target) x y parts (Some place) → n ≡ get_or list.numbers.items place 0 → IsCastAnswer h key (Some n)
@@ -101,11 +101,11 @@ cast_some h keeps key x y parts list place n nx ny is e (t, at, k) number =
     let lt = slice_get_within (preorder h c) place t there in
     let same : Some (get_or (preorder h c) place t) ≡ Some t = sym (slice_get-get_or (preorder h c) place t lt) ∙ there in
     let one : get_or (preorder h c) place t ≡ t = cc in
-    let value : n ≡ number_in h c t = number ∙ (ap (λ (l : List ℕ). get_or l place 0) is.numbers ∙ (get_or-map (number_in h c) (preorder h c) place t 0 lt ∙ ap (number_in h c) one)) in
-    cast_for_all h keeps key x y nx ny (Some n) (ap (λ (z : ℕ). Some z) value ∙ ap (number_of h c) (sym (is_cast h keeps c x nx.valid (id key.target) y (Some t) k)))
+    let value : n ≡ subobject_number h c t = number ∙ (ap (λ (l : List ℕ). get_or l place 0) is.numbers ∙ (get_or-map (subobject_number h c) (preorder h c) place t 0 lt ∙ ap (subobject_number h c) one)) in
+    cast_for_all h keeps key x y nx ny (Some n) (ap (λ (z : ℕ). Some z) value ∙ ap (number_where_found h c) (sym (is_cast h keeps c x nx.valid (id key.target) y (Some t) k)))
 
 -- a copy of the first
-pub copied_first : (h : Classes) (c : ClassId) (test : Subobject → Bool) (list : PartList) (parts : List Subobject) (place : ℕ) (found copy : Subobject) → IsPartList h c list → parts ≡ list.parts → IsFirstOf test parts (Some place) → found ≡ get_or parts place found
+pub copied_first : (h : Classes) (c : ClassId) (test : Subobject → Bool) (list : PartList) (parts : List Subobject) (place : ℕ) (found copy : Subobject) → IsPartList h c list → parts ≡ list.parts → IsFirstTaken test parts (Some place) → found ≡ get_or parts place found
     → copy ≡ subobject found.root (found.path ++ []) → Some copy ≡ find test (preorder h c)
 copied_first h c test list parts place found copy is e first at made =
     let same : copy ≡ found = made ∙ ap (subobject found.root) (append-nil found.path) in

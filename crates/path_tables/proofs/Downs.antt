@@ -19,9 +19,9 @@ use Rattle.cxx_subobject.proofs.TreeLemmas.{preorder_has, has_preorder, subobjec
 use Rattle.cxx_search.specs.Searches.{is_of_class}
 use Rattle.cxx_search.proofs.Finding.{finds_some}
 use Rattle.cxx_search.proofs.Casts.{of_class, is_the_class}
-use Rattle.path_numbers.specs.Numbers.{base_number, path_number, number_in}
+use Rattle.path_numbers.specs.Numbers.{base_number, path_number, subobject_number}
 use Rattle.path_tables.specs.declared.kept.DownKey.{DownKey}
-use Rattle.path_tables.specs.Parts.{IsNumbered, number_of, derived_in}
+use Rattle.path_tables.specs.Parts.{IsNumbered, number_where_found, derived_in}
 use Rattle.path_tables.specs.Kept.{id, IsDownAnswer}
 use Rattle.path_tables.proofs.Numbered.{one_numbered}
 use Rattle.path_tables.proofs.Within.{walked, same_some, cons_parts}
@@ -42,7 +42,7 @@ path_more h c [] q = omega arith
 path_more h c (b ∷ p) q = let r = path_more h b p q in let e : base_number h c b + path_number h b (p ++ q) ≡ base_number h c b + path_number h b p + path_number h (last_of b p) q = omega arith in e
 
 -- the number of a base of a subobject
-number_below : (h : Classes) (c d : ClassId) (t : Subobject) (q : List ClassId) → IsSubobject h c t → class_of t ≡ Some d → number_in h c (subobject t.root (t.path ++ q)) ≡ number_in h c t + path_number h d q
+number_below : (h : Classes) (c d : ClassId) (t : Subobject) (q : List ClassId) → IsSubobject h c t → class_of t ≡ Some d → subobject_number h c (subobject t.root (t.path ++ q)) ≡ subobject_number h c t + path_number h d q
 number_below h c d _ q (whole path leads) class =
     let last : last_of c path ≡ d = same_some (last_of c path) d class in path_more h c path q ∙ ap (λ k. path_number h c path + path_number h k q) last
 number_below h c d _ q (shared v path has leads) class =
@@ -74,14 +74,14 @@ is_derived target i y t = is_of_class target t && same_subobject (join t i) y
 
 record IsDerived (h : Classes) (c target : ClassId) (t : Subobject) (offset source : ℕ) : Type 0 where
   class : class_of t ≡ Some target
-  number : number_in h c t + offset ≡ source
+  number : subobject_number h c t + offset ≡ source
 
 derived_true : (h : Classes) (c target : ClassId) (i y t : Subobject) (offset source : ℕ) → IsNumbered h c source y → i.root ≡ Whole → path_number h target (tail_of i.path) ≡ offset → IsSubobject h c t → is_derived target i y t ≡ true → IsDerived h c target t offset source
 derived_true h c target i y t offset source ny root number vt e =
     let both = and_parts (is_of_class target t) (same_subobject (join t i) y) e in
     let class = of_class target (class_of t) both.0 in
     let same : subobject t.root (t.path ++ tail_of i.path) ≡ y = sym (joined t i root) ∙ subobject_same (join t i) y both.1 in
-    record { class = class; number = ap (λ k. number_in h c t + k) (sym number) ∙ (sym (number_below h c target t (tail_of i.path) vt class) ∙ (ap (number_in h c) same ∙ ny.number)) }
+    record { class = class; number = ap (λ k. subobject_number h c t + k) (sym number) ∙ (sym (number_below h c target t (tail_of i.path) vt class) ∙ (ap (subobject_number h c) same ∙ ny.number)) }
 
 true_derived : (h : Classes) → IsHierarchy h → (c target : ClassId) (i y t : Subobject) (offset source : ℕ) → IsNumbered h c source y → i.root ≡ Whole → Leads h target (tail_of i.path) → path_number h target (tail_of i.path) ≡ offset → IsSubobject h c t
     → IsDerived h c target t offset source → is_derived target i y t ≡ true
@@ -89,17 +89,17 @@ true_derived h keeps c target i y t offset source ny root leads number vt is =
     let below = subobject t.root (t.path ++ tail_of i.path) in
     let numbered : IsNumbered h c source below = record {
       valid = below_valid h c target t (tail_of i.path) vt is.class leads;
-      number = number_below h c target t (tail_of i.path) vt is.class ∙ (ap (λ k. number_in h c t + k) number ∙ is.number);
+      number = number_below h c target t (tail_of i.path) vt is.class ∙ (ap (λ k. subobject_number h c t + k) number ∙ is.number);
     } in
     let same = joined t i root ∙ one_numbered h keeps c source below y numbered ny in
     and_from (is_of_class target t) (same_subobject (join t i) y) (is_the_class target (class_of t) is.class) (ap (λ (z : Subobject). same_subobject z y) same ∙ same_itself y)
 
 -- none, where no subobject of the class has the number
-pub down_none : (h : Classes) (key : DownKey) → ((t : Subobject) → IsSubobject h (id key.class) t → class_of t ≡ Some (id key.target) → number_in h (id key.class) t + key.offset ≡ key.source → ⊥) → IsDownAnswer h key None
+pub down_none : (h : Classes) (key : DownKey) → ((t : Subobject) → IsSubobject h (id key.class) t → class_of t ≡ Some (id key.target) → subobject_number h (id key.class) t + key.offset ≡ key.source → ⊥) → IsDownAnswer h key None
 down_none h key none = λ y i ny root leads number.
     let c = id key.class in
     let target = id key.target in
-    ap (number_of h c) (sym (find_none (is_derived target i y) (preorder h c) (λ t has e. let vt = has_preorder h c t has in let d = derived_true h c target i y t key.offset key.source ny root number vt e in none t vt d.class d.number)))
+    ap (number_where_found h c) (sym (find_none (is_derived target i y) (preorder h c) (λ t has e. let vt = has_preorder h c t has in let d = derived_true h c target i y t key.offset key.source ny root number vt e in none t vt d.class d.number)))
 
 -- the one of the number
 pub down_some : (h : Classes) → IsHierarchy h → (key : DownKey) (n : ℕ) (t : Subobject) → n + key.offset ≡ key.source → IsNumbered h (id key.class) n t → class_of t ≡ Some (id key.target) → IsDownAnswer h key (Some n)
@@ -110,12 +110,12 @@ down_some h keeps key n t sum nt class = λ y i ny root leads number.
     let found = finds_some (is_derived target i y) (preorder h c) t (preorder_has h c keeps t nt.valid) is in
     let passes = find_passes (is_derived target i y) (preorder h c) found.0 found.1 in
     let d = derived_true h c target i y found.0 key.offset key.source ny root number (has_preorder h c found.0 passes.0) passes.1 in
-    let same : n ≡ number_in h c found.0 = let a = d.number in omega arith in
-    ap (λ k. Some k) same ∙ ap (number_of h c) (sym found.1)
+    let same : n ≡ subobject_number h c found.0 = let a = d.number in omega arith in
+    ap (λ k. Some k) same ∙ ap (number_where_found h c) (sym found.1)
 
 -- none, where no path leads on
-pub derived_nowhere : (h : Classes) (c target : ClassId) (i y : Subobject) → i.root ≡ Whole → (Leads h target (tail_of i.path) → ⊥) → IsSubobject h c y → None ≡ number_of h c (derived_in h c target i y)
-derived_nowhere h c target i y root none vy = ap (number_of h c) (sym (find_none (is_derived target i y) (preorder h c) (λ t has e.
+pub derived_nowhere : (h : Classes) (c target : ClassId) (i y : Subobject) → i.root ≡ Whole → (Leads h target (tail_of i.path) → ⊥) → IsSubobject h c y → None ≡ number_where_found h c (derived_in h c target i y)
+derived_nowhere h c target i y root none vy = ap (number_where_found h c) (sym (find_none (is_derived target i y) (preorder h c) (λ t has e.
     let both = and_parts (is_of_class target t) (same_subobject (join t i) y) e in
     none (leads_on h c target t y (tail_of i.path) (has_preorder h c t has) (of_class target (class_of t) both.0) vy (sym (joined t i root) ∙ subobject_same (join t i) y both.1)))))
 
@@ -124,11 +124,11 @@ and_true true = refl
 and_true false = refl
 
 -- a virtual base is that of each subobject that reaches it
-pub derived_shared : (h : Classes) (c target v : ClassId) (i y : Subobject) → i.root ≡ Shared v → true ≡ same_subobject i y → number_of h c (find (is_of_class target) (preorder h c)) ≡ number_of h c (derived_in h c target i y)
-derived_shared h c target v i y root same = ap (number_of h c) (sym (find_same (is_derived target i y) (is_of_class target) (preorder h c)
+pub derived_shared : (h : Classes) (c target v : ClassId) (i y : Subobject) → i.root ≡ Shared v → true ≡ same_subobject i y → number_where_found h c (find (is_of_class target) (preorder h c)) ≡ number_where_found h c (derived_in h c target i y)
+derived_shared h c target v i y root same = ap (number_where_found h c) (sym (find_same (is_derived target i y) (is_of_class target) (preorder h c)
     (λ t. ap (λ (z : Subobject). is_of_class target t && same_subobject z y) (shared_joined t i v root) ∙ (ap (λ b. is_of_class target t && b) (sym same) ∙ and_true (is_of_class target t)))))
 
-pub derived_other : (h : Classes) (c target v : ClassId) (i y : Subobject) → i.root ≡ Shared v → false ≡ same_subobject i y → None ≡ number_of h c (derived_in h c target i y)
-derived_other h c target v i y root other = ap (number_of h c) (sym (find_none (is_derived target i y) (preorder h c) (λ t has e.
+pub derived_other : (h : Classes) (c target v : ClassId) (i y : Subobject) → i.root ≡ Shared v → false ≡ same_subobject i y → None ≡ number_where_found h c (derived_in h c target i y)
+derived_other h c target v i y root other = ap (number_where_found h c) (sym (find_none (is_derived target i y) (preorder h c) (λ t has e.
     let both = and_parts (is_of_class target t) (same_subobject (join t i) y) e in
     not_both (ap (λ (z : Subobject). same_subobject z y) (sym (shared_joined t i v root)) ∙ both.1) (sym other))))

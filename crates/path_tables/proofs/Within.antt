@@ -22,8 +22,8 @@ use Rattle.cxx_overrider.proofs.ViewLaws.{view_final}
 use Rattle.cxx_search.specs.Searches.{is_within, final_in}
 use Rattle.cxx_search.proofs.Within.{within_inside, inside_within}
 use Rattle.cxx_search.proofs.Finals.{found_final, final_found}
-use Rattle.path_numbers.specs.Numbers.{number_in}
-use Rattle.path_tables.specs.Parts.{numbered}
+use Rattle.path_numbers.specs.Numbers.{subobject_number}
+use Rattle.path_tables.specs.Parts.{numbered_overrider}
 
 pub same_some : {X : Type 0} (x y : X) → Some x ≡ Some y → x ≡ y
 same_some x y e = cc
@@ -71,19 +71,19 @@ part_shared h c d x y i vy class inside longer is = ⊎_elim
     (inside_cases h x y inside)
 
 -- nothing overrides what does not lie in the view
-pub final_outside : (h : Classes) → IsHierarchy h → (c : ClassId) (x y : Subobject) (f : FunctionId) → IsSubobject h c x → (IsInside h x y → ⊥) → None ≡ numbered h c (final_in h x y f)
+pub final_outside : (h : Classes) → IsHierarchy h → (c : ClassId) (x y : Subobject) (f : FunctionId) → IsSubobject h c x → (IsInside h x y → ⊥) → None ≡ numbered_overrider h c (final_in h x y f)
 final_outside h keeps c x y f there outside = by_answer (final_in h x y f) refl
   where
-    by_answer : (o : Option Overrider) → final_in h x y f ≡ o → None ≡ numbered h c o
+    by_answer : (o : Option Overrider) → final_in h x y f ≡ o → None ≡ numbered_overrider h c o
     by_answer None e = refl
     by_answer (Some o) e = let k = found_final h keeps c x there y f o e in absurd (outside (inside_through h x o.at y k.candidate.inside k.candidate.candidate.contains))
 
-pub final_inside : (h : Classes) → IsHierarchy h → (c d : ClassId) (x y i : Subobject) (f : FunctionId) (o : Overrider) (at : Subobject) (n : ℕ) → IsSubobject h c x → class_of x ≡ Some d → join x i ≡ y → IsFinalOverrider h d i f o → at ≡ join x o.at → n ≡ number_in h c at
-    → Some (record { at = n; function = o.function }) ≡ numbered h c (final_in h x y f)
+pub final_inside : (h : Classes) → IsHierarchy h → (c d : ClassId) (x y i : Subobject) (f : FunctionId) (o : Overrider) (at : Subobject) (n : ℕ) → IsSubobject h c x → class_of x ≡ Some d → join x i ≡ y → IsFinalOverrider h d i f o → at ≡ join x o.at → n ≡ subobject_number h c at
+    → Some (record { at = n; function = o.function }) ≡ numbered_overrider h c (final_in h x y f)
 final_inside h keeps c d x y i f o at n there class joined final is number =
     let found = final_found h keeps c x there (join x i) f (record { at = join x o.at; function = o.function }) (view_final h keeps c d x there class i f o final) in
-    ap (λ (k : ℕ). Some (record { at = k; function = o.function })) (number ∙ ap (number_in h c) is)
-    ∙ ap (numbered h c) (sym (ap (λ (s : Subobject). final_in h x s f) (sym joined) ∙ found))
+    ap (λ (k : ℕ). Some (record { at = k; function = o.function })) (number ∙ ap (subobject_number h c) is)
+    ∙ ap (numbered_overrider h c) (sym (ap (λ (s : Subobject). final_in h x s f) (sym joined) ∙ found))
 
 -- a test of containment is the search for it
 pub within_is : (h : Classes) → IsHierarchy h → (x y : Subobject) (b : Bool) → (IsTrue b ↔ IsInside h x y) → b ≡ is_within h x y

@@ -21,15 +21,15 @@ use Rattle.path_tables.specs.declared.kept.DownKey.{DownKey}
 use Rattle.path_tables.specs.declared.kept.DownTable.{DownTable}
 use Rattle.path_tables.specs.declared.lists.ListTable.{ListTable}
 use Rattle.path_tables.specs.declared.parts.PartList.{PartList}
-use Rattle.path_tables.specs.Parts.{IsNumbered, IsPartList, number_of, numbered, derived_in}
+use Rattle.path_tables.specs.Parts.{IsNumbered, IsPartList, number_where_found, numbered_overrider, derived_in}
 
 -- two keys are one
 abbrev pub same_cast : CastKey → CastKey → Bool
 same_cast a b = nat_eq a.class b.class && (nat_eq a.view b.view && (nat_eq a.source b.source && nat_eq a.target b.target))
 
 -- the answer under a key
-abbrev pub cast_of : CastTable → CastKey → Option (Option ℕ)
-cast_of table key = get_by (same_cast key) table.casts
+abbrev pub kept_cast : CastTable → CastKey → Option (Option ℕ)
+kept_cast table key = get_by (same_cast key) table.casts
 
 -- two keys are one
 abbrev pub same_final : FinalKey → FinalKey → Bool
@@ -65,16 +65,16 @@ id n = record { 0 = n }
 
 -- where a cast from y in the view x leads, as a number
 abbrev pub IsCastAnswer : Classes → CastKey → Option ℕ → Type 0
-IsCastAnswer h key answer = (x y : Subobject) → IsNumbered h (id key.class) key.view x → IsNumbered h (id key.class) key.source y → answer ≡ number_of h (id key.class) (cast_in h (id key.target) x y)
+IsCastAnswer h key answer = (x y : Subobject) → IsNumbered h (id key.class) key.view x → IsNumbered h (id key.class) key.source y → answer ≡ number_where_found h (id key.class) (cast_in h (id key.target) x y)
 
 -- the function that a key names
-abbrev pub function_of : FinalKey → FunctionId
-function_of key = record { class = id key.owner; index = key.index }
+abbrev pub keyed_function : FinalKey → FunctionId
+keyed_function key = record { class = id key.owner; index = key.index }
 
 -- the final overrider of a virtual function of the class of y in the view x, with the number of its subobject
 abbrev pub IsFinalAnswer : Classes → FinalKey → Option FinalAt → Type 0
-IsFinalAnswer h key answer = (x y : Subobject) → IsNumbered h (id key.class) key.view x → IsNumbered h (id key.class) key.source y → class_of y ≡ Some (id key.owner) → IsVirtual h (function_of key)
-    → answer ≡ numbered h (id key.class) (final_in h x y (function_of key))
+IsFinalAnswer h key answer = (x y : Subobject) → IsNumbered h (id key.class) key.view x → IsNumbered h (id key.class) key.source y → class_of y ≡ Some (id key.owner) → IsVirtual h (keyed_function key)
+    → answer ≡ numbered_overrider h (id key.class) (final_in h x y (keyed_function key))
 
 -- whether y lies in x
 abbrev pub IsWithinAnswer : Classes → WithinKey → Bool → Type 0
@@ -83,11 +83,11 @@ IsWithinAnswer h key answer = (x y : Subobject) → IsNumbered h (id key.class) 
 -- the first subobject of the target class whose base i is y, as a number, where a path of this number leads to i
 abbrev pub IsDownAnswer : Classes → DownKey → Option ℕ → Type 0
 IsDownAnswer h key answer = (y i : Subobject) → IsNumbered h (id key.class) key.source y → i.root ≡ Whole → Leads h (id key.target) (tail_of i.path) → path_number h (id key.target) (tail_of i.path) ≡ key.offset
-    → answer ≡ number_of h (id key.class) (derived_in h (id key.class) (id key.target) i y)
+    → answer ≡ number_where_found h (id key.class) (derived_in h (id key.class) (id key.target) i y)
 
 -- what is kept is right
 pub record AreCasts (h : Classes) (table : CastTable) : Type 0 where
-  pub right : (key : CastKey) (answer : Option ℕ) → cast_of table key ≡ Some answer → IsCastAnswer h key answer
+  pub right : (key : CastKey) (answer : Option ℕ) → kept_cast table key ≡ Some answer → IsCastAnswer h key answer
 
 pub record AreFinals (h : Classes) (table : FinalTable) : Type 0 where
   pub right : (key : FinalKey) (answer : Option FinalAt) → final_of table key ≡ Some answer → IsFinalAnswer h key answer

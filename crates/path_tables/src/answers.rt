@@ -5,7 +5,7 @@ ghost use Rattle.cxx_hierarchy.specs.declared.records.ClassId.{ClassId};
 ghost use Rattle.cxx_subobject.specs.declared.Subobject.{Subobject};
 ghost use Rattle.cxx_subobject.specs.Preorder.{preorder};
 ghost use Rattle.cxx_search.specs.Searches.{is_of_class};
-ghost use Rattle.path_tables.specs.Parts.{IsNumbered, IsPartList, number_of, derived_in};
+ghost use Rattle.path_tables.specs.Parts.{IsNumbered, IsPartList, number_where_found, derived_in};
 ghost use Rattle.path_tables.specs.Worlds.{IsWorld};
 ghost use Rattle.path_tables.specs.Kept.{id, IsCastAnswer, IsFinalAnswer, IsWithinAnswer, IsDownAnswer};
 ghost use Rattle.cxx_subobject.specs.declared.Root.TheVariants.{Shared};
@@ -141,7 +141,7 @@ pub(crate) fn down_number(h: &Hierarchy, list: &PartList, key: DownKey) -> Optio
 /// The number of the first subobject of a class, if there is one.
 fn base_number(h: &Hierarchy, c: ClassId, list: &PartList, d: ClassId) -> Option<u32>
     requires { IsPartList h.now c list.now }
-    ensures { result ≡ number_of h.now c (find (is_of_class d) (preorder h.now c)) }
+    ensures { result ≡ number_where_found h.now c (find (is_of_class d) (preorder h.now c)) }
 {
     match first_of_class(list.parts.as_slice(), d) {
         Some(place) => Some(number_at(list, place)),
@@ -162,7 +162,7 @@ pub(crate) fn shared_down(
 ) -> Option<u32>
     requires list { IsPartList h.now c list.now }
     requires shared { i.now.root ≡ Shared _v }
-    ensures { (y : Subobject) → IsNumbered h.now c source y → result ≡ number_of h.now c (derived_in h.now c target i.now y) }
+    ensures { (y : Subobject) → IsNumbered h.now c source y → result ≡ number_where_found h.now c (derived_in h.now c target i.now y) }
 {
     h.keeps();
     match part_at(h, c, list, source) {

@@ -9,7 +9,7 @@ ghost use Rattle.cxx_subobject.specs.Subobjects.{class_of};
 ghost use Rattle.cxx_subobject.specs.Preorder.{preorder};
 ghost use Rattle.cxx_search.specs.Searches.{is_within, is_of_class, cast_in, final_in};
 ghost use Rattle.cxx_overrider.specs.Overriding.{IsVirtual};
-ghost use Rattle.path_tables.specs.Parts.{IsNumbered, number_of, numbered, derived_in};
+ghost use Rattle.path_tables.specs.Parts.{IsNumbered, number_where_found, numbered_overrider, derived_in};
 ghost use Rattle.path_tables.specs.Kept.{IsDownAnswer};
 ghost use Rattle.path_tables.specs.Asked.{AreAnswers};
 ghost use Rattle.path_tables.specs.Worlds.{IsWorld};
@@ -70,7 +70,7 @@ impl Answers {
         requires world { IsWorld world.now }
         requires answers { AreAnswers world.now.h.now self.old }
         ensures answers { AreAnswers world.now.h.now self.new }
-        ensures is { IfOk result (λ answer. (x y : Subobject) → IsNumbered world.now.h.now c view x → IsNumbered world.now.h.now c source y → answer ≡ number_of world.now.h.now c (cast_in world.now.h.now target x y)) }
+        ensures is { IfOk result (λ answer. (x y : Subobject) → IsNumbered world.now.h.now c view x → IsNumbered world.now.h.now c source y → answer ≡ number_where_found world.now.h.now c (cast_in world.now.h.now target x y)) }
     {
         let key = CastKey {
             class: c.0,
@@ -103,7 +103,7 @@ impl Answers {
         requires world { IsWorld world.now }
         requires answers { AreAnswers world.now.h.now self.old }
         ensures answers { AreAnswers world.now.h.now self.new }
-        ensures is { IfOk result (λ answer. (x y : Subobject) → IsNumbered world.now.h.now c view x → IsNumbered world.now.h.now c source y → class_of y ≡ Some f.class → IsVirtual world.now.h.now f → answer ≡ numbered world.now.h.now c (final_in world.now.h.now x y f)) }
+        ensures is { IfOk result (λ answer. (x y : Subobject) → IsNumbered world.now.h.now c view x → IsNumbered world.now.h.now c source y → class_of y ≡ Some f.class → IsVirtual world.now.h.now f → answer ≡ numbered_overrider world.now.h.now c (final_in world.now.h.now x y f)) }
     {
         let key = FinalKey {
             class: c.0,
@@ -191,7 +191,7 @@ impl Answers {
         requires world { IsWorld world.now }
         requires answers { AreAnswers world.now.h.now self.old }
         ensures answers { AreAnswers world.now.h.now self.new }
-        ensures is { IfOk result (λ answer. (y : Subobject) → IsNumbered world.now.h.now c source y → answer ≡ number_of world.now.h.now c (derived_in world.now.h.now c target i.now y)) }
+        ensures is { IfOk result (λ answer. (y : Subobject) → IsNumbered world.now.h.now c source y → answer ≡ number_where_found world.now.h.now c (derived_in world.now.h.now c target i.now y)) }
     {
         match i.root {
             Root::Whole => match path_at(

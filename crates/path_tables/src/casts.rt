@@ -3,7 +3,7 @@
 ghost use Rattle.std.specs.Prelude.{◌≡◌, ◌↔◌, IsTrue, Some, None};
 ghost use Rattle.cxx_subobject.specs.Subobjects.{IsSubobject};
 ghost use Rattle.cxx_search.specs.Casts.{IsOnly, CastsDown, CastsAcross};
-ghost use Rattle.path_tables.specs.invariants.Targets.{AreAmong, IsWanted, is_at, IsOther, IsOtherAt, IsPlaceOf, IsCastTo};
+ghost use Rattle.path_tables.specs.invariants.Targets.{AreAmong, IsWanted, is_passed_over, IsOther, IsOtherAt, IsPlaceOf, IsCastTo};
 
 use crate::parts::is_of_class;
 use cxx_hierarchy::{ClassId, Hierarchy};
@@ -42,7 +42,7 @@ fn is_wanted(cast: &Cast, over: bool, t: &Subobject) -> bool
 
 /// Whether this is the place to be passed over.
 fn is_at(skip: Option<usize>, i: usize) -> bool
-    ensures { result ≡ is_at skip i }
+    ensures { result ≡ is_passed_over skip i }
 {
     match skip {
         Some(place) => place == i,

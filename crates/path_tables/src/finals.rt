@@ -7,9 +7,9 @@ ghost use Rattle.cxx_subobject.specs.Inside.{IsInside};
 ghost use Rattle.cxx_subobject.specs.Parts.{IsWithinLimits};
 ghost use Rattle.cxx_overrider.specs.Overriders.{AreOverriders};
 ghost use Rattle.cxx_search.specs.Searches.{final_in};
-ghost use Rattle.path_numbers.specs.Numbers.{AreNumbers};
-ghost use Rattle.path_tables.specs.Parts.{numbered};
-ghost use Rattle.path_tables.specs.invariants.Calls.{IsCall};
+ghost use Rattle.path_numbers.specs.Numbers.{AreClassNumbers};
+ghost use Rattle.path_tables.specs.Parts.{numbered_overrider};
+ghost use Rattle.path_tables.specs.invariants.Calls.{IsVirtualCall};
 
 use cxx_hierarchy::{ClassId, Hierarchy};
 use cxx_overrider::{FunctionId, Overriders};
@@ -76,9 +76,9 @@ pub(crate) fn final_at(
 ) -> Result<Option<FinalAt>, NoMemory>
     requires limits { (d : ClassId) → d.0 < length call.now.h.now → IsWithinLimits call.now.h.now d }
     requires overriders { AreOverriders call.now.h.now o.now }
-    requires numbers { AreNumbers call.now.h.now numbers.now }
-    requires call { IsCall call.now.h.now call.now.c call.now.view.now call.now.source.now call.now.f }
-    ensures { IfOk result (λ answer. answer ≡ numbered call.now.h.now call.now.c (final_in call.now.h.now call.now.view.now call.now.source.now call.now.f)) }
+    requires numbers { AreClassNumbers call.now.h.now numbers.now }
+    requires call { IsVirtualCall call.now.h.now call.now.c call.now.view.now call.now.source.now call.now.f }
+    ensures { IfOk result (λ answer. answer ≡ numbered_overrider call.now.h.now call.now.c (final_in call.now.h.now call.now.view.now call.now.source.now call.now.f)) }
 {
     call.h.keeps();
     if !contains(call.h, call.c, call.view, call.source) {

@@ -6,7 +6,7 @@ ghost use Rattle.path_tables.specs.declared.kept.CastKey.{CastKey};
 ghost use Rattle.path_tables.specs.declared.kept.FinalKey.{FinalKey};
 ghost use Rattle.path_tables.specs.declared.kept.WithinKey.{WithinKey};
 ghost use Rattle.path_tables.specs.declared.kept.DownKey.{DownKey};
-ghost use Rattle.path_tables.specs.Kept.{cast_of, same_cast, final_of, same_final, within_of, same_within, down_of, same_down, IsCastAnswer, IsFinalAnswer, IsWithinAnswer, IsDownAnswer, AreCasts, AreFinals, AreWithins, AreDowns};
+ghost use Rattle.path_tables.specs.Kept.{kept_cast, same_cast, final_of, same_final, within_of, same_within, down_of, same_down, IsCastAnswer, IsFinalAnswer, IsWithinAnswer, IsDownAnswer, AreCasts, AreFinals, AreWithins, AreDowns};
 
 use crate::finals::FinalAt;
 use foundation::NoMemory;
@@ -58,7 +58,7 @@ pub struct CastTable {
 impl CastTable {
     /// The empty table, which takes no memory.
     pub fn new(alloc: Global) -> CastTable
-        ensures { (q : CastKey) → cast_of result q ≡ None }
+        ensures { (q : CastKey) → kept_cast result q ≡ None }
     {
         CastTable {
             casts: IndexMap::new(alloc),
@@ -67,15 +67,15 @@ impl CastTable {
 
     /// The answer under a key.
     pub fn find(&self, key: CastKey) -> Option<Option<u32>>
-        ensures { result ≡ cast_of self.now key }
+        ensures { result ≡ kept_cast self.now key }
     {
         self.casts.get(&key).copied()
     }
 
     /// Puts an answer under a key. Where memory is wanting nothing is put.
     fn put(&mut self, key: CastKey, answer: Option<u32>) -> Result<(), NoMemory>
-        ensures put { OnOk result ((q : CastKey) → cast_of self.new q ≡ (if same_cast q key then Some answer else cast_of self.old q)) }
-        ensures err { OnErr result ((q : CastKey) → cast_of self.new q ≡ cast_of self.old q) }
+        ensures put { OnOk result ((q : CastKey) → kept_cast self.new q ≡ (if same_cast q key then Some answer else kept_cast self.old q)) }
+        ensures err { OnErr result ((q : CastKey) → kept_cast self.new q ≡ kept_cast self.old q) }
     {
         self.casts.insert(key, answer)?;
         Ok(())

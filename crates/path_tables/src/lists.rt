@@ -5,7 +5,7 @@ ghost use Rattle.std.specs.Option.{option_copied};
 ghost use Rattle.cxx_hierarchy.specs.declared.records.ClassId.{ClassId};
 ghost use Rattle.cxx_hierarchy.specs.Classes.{Classes};
 ghost use Rattle.cxx_subobject.specs.Parts.{IsWithinLimits};
-ghost use Rattle.path_numbers.specs.Numbers.{AreNumbers};
+ghost use Rattle.path_numbers.specs.Numbers.{AreClassNumbers};
 ghost use Rattle.path_tables.specs.Parts.{IsPartList};
 ghost use Rattle.path_tables.specs.Kept.{id, list_of, AreLists};
 
@@ -57,7 +57,7 @@ impl ListTable {
         c: ClassId,
     ) -> Result<(), NoMemory>
         requires limits { (d : ClassId) → d.0 < length h.now → IsWithinLimits h.now d }
-        requires numbers { AreNumbers h.now numbers.now }
+        requires numbers { AreClassNumbers h.now numbers.now }
         requires lists { AreLists h.now self.old }
         ensures lists { AreLists h.now self.new }
         ensures there { OnOk result (IsSome (list_of self.new c.0)) }

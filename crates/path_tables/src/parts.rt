@@ -6,9 +6,9 @@ ghost use Rattle.cxx_subobject.specs.declared.Subobject.{Subobject};
 ghost use Rattle.cxx_subobject.specs.Subobjects.{IsSubobject, whole_of};
 ghost use Rattle.cxx_subobject.specs.Parts.{IsWithinLimits};
 ghost use Rattle.cxx_search.specs.Searches.{is_within, is_of_class};
-ghost use Rattle.path_numbers.specs.Numbers.{AreNumbers, number_in};
-ghost use Rattle.path_tables.specs.Parts.{IsNumbered, IsPartList, IsFirstOf};
-ghost use Rattle.path_tables.specs.invariants.Places.{IsPlace};
+ghost use Rattle.path_numbers.specs.Numbers.{AreClassNumbers, subobject_number};
+ghost use Rattle.path_tables.specs.Parts.{IsNumbered, IsPartList, IsFirstTaken};
+ghost use Rattle.path_tables.specs.invariants.Places.{IsPlaceOfNumber};
 
 use cxx_hierarchy::{ClassId, Hierarchy};
 use cxx_subobject::{Root, Subobject, SubobjectList, class_of, contains, list_subobjects};
@@ -33,9 +33,9 @@ fn numbers_of(
 ) -> Result<Vec<u32>, NoMemory>
     requires known { c.0 < length h.now }
     requires limits { (d : ClassId) → d.0 < length h.now → IsWithinLimits h.now d }
-    requires numbers { AreNumbers h.now numbers.now }
+    requires numbers { AreClassNumbers h.now numbers.now }
     requires valid { (s : Subobject) → Contains parts.now s → IsSubobject h.now c s }
-    ensures { IfOk result (λ list. list.items ≡ map (number_in h.now c) parts.now) }
+    ensures { IfOk result (λ list. list.items ≡ map (subobject_number h.now c) parts.now) }
 {
     let mut list = Vec::new(alloc);
     for part in parts {
@@ -74,7 +74,7 @@ pub fn list_parts(
     c: ClassId,
 ) -> Result<PartList, NoMemory>
     requires limits { (d : ClassId) → d.0 < length h.now → IsWithinLimits h.now d }
-    requires numbers { AreNumbers h.now numbers.now }
+    requires numbers { AreClassNumbers h.now numbers.now }
     ensures { IfOk result (IsPartList h.now c) }
 {
     h.keeps();
@@ -88,7 +88,7 @@ pub fn list_parts(
 
 /// The place of a number in a list, if it stands there.
 fn place_of(numbers: &[u32], x: u32) -> Option<usize>
-    ensures { IsPlace numbers.now x result }
+    ensures { IsPlaceOfNumber numbers.now x result }
 {
     for (i, number) in numbers.iter().enumerate() {
         if *number == x {
@@ -132,7 +132,7 @@ pub fn is_within(h: &Hierarchy, c: ClassId, x: &Subobject, y: &Subobject) -> boo
 
 /// The place of the first subobject of a class.
 pub fn first_of_class(parts: &[Subobject], d: ClassId) -> Option<usize>
-    ensures { IsFirstOf (is_of_class d) parts.now result }
+    ensures { IsFirstTaken (is_of_class d) parts.now result }
 {
     for (i, part) in parts.iter().enumerate() {
         if is_of_class(part, d) {

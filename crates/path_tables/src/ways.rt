@@ -5,7 +5,7 @@ ghost use Rattle.cxx_hierarchy.specs.declared.records.ClassId.{ClassId};
 ghost use Rattle.cxx_hierarchy.specs.VirtualBases.{IsDirectBase};
 ghost use Rattle.cxx_subobject.specs.Subobjects.{Leads, tail_of};
 ghost use Rattle.cxx_subobject.specs.Parts.{IsWithinLimits};
-ghost use Rattle.path_numbers.specs.Numbers.{AreNumbers, base_number, path_number};
+ghost use Rattle.path_numbers.specs.Numbers.{AreClassNumbers, base_number, path_number};
 ghost use Rattle.path_tables.specs.invariants.Places.{IsBaseAt, IsPathAt};
 
 use cxx_hierarchy::{Base, ClassId, Hierarchy};
@@ -20,7 +20,7 @@ fn is_own_base(base: &Base<ClassId>, b: ClassId) -> bool
 
 /// How far a direct base that is not virtual stands behind a part of class c; None where b is none.
 fn base_at(h: &Hierarchy, numbers: &Numbers, c: ClassId, b: ClassId) -> Option<u32>
-    requires { AreNumbers h.now numbers.now }
+    requires { AreClassNumbers h.now numbers.now }
     ensures { IsBaseAt h.now c b result }
 {
     h.keeps();
@@ -39,7 +39,7 @@ fn base_at(h: &Hierarchy, numbers: &Numbers, c: ClassId, b: ClassId) -> Option<u
 /// How far a path of direct bases that are not virtual leads from a part of class c; None where it is no such path.
 pub(crate) fn path_at(h: &Hierarchy, numbers: &Numbers, c: ClassId, path: &[ClassId]) -> Option<u32>
     requires limits { (d : ClassId) → d.0 < length h.now → IsWithinLimits h.now d }
-    requires numbers { AreNumbers h.now numbers.now }
+    requires numbers { AreClassNumbers h.now numbers.now }
     ensures { IsPathAt h.now c path.now result }
 {
     h.keeps();

@@ -16,7 +16,7 @@ use Rattle.path_numbers.specs.Nodes.{Node}
 use Rattle.path_numbers.proofs.Heap.{heap_part, heap_number}
 use Rattle.path_numbers.proofs.Sized.{sizes_are}
 use Rattle.path_model.specs.Values.{Value, Unset, Number, Null, Pointer}
-use Rattle.path_model.specs.Effects.{calculated, arithmetic_value, is_same_pointer}
+use Rattle.path_model.specs.Effects.{calculated_value, arithmetic_value, is_same_pointer}
 use Rattle.path_heap.specs.declared.state.Value.{Value as ValueCode}
 use Rattle.path_heap.specs.declared.state.Value.TheVariants.{Number as NumberCode, Pointer as PointerCode}
 use Rattle.path_heap.specs.Points.{Points}
@@ -33,10 +33,10 @@ means_number h classes a x is v m = number_meant h classes x v (subst (λ (t : V
 
 -- two numbers
 pub numbers_meant : (h : Classes) (classes : List ClassId) (op : Operator) (t : Scalar) (a b : ValueCode) (x y : ℤ) → a ≡ NumberCode x → b ≡ NumberCode y → (v w : Value) → Means h classes a v → Means h classes b w
-    → (i j : ℤ) → i ≡ wrapped t x → j ≡ wrapped t y → (r : ValueCode) → Means h classes r (calculated op t i j) → Means h classes r (arithmetic_value op t v w)
+    → (i j : ℤ) → i ≡ wrapped t x → j ≡ wrapped t y → (r : ValueCode) → Means h classes r (calculated_value op t i j) → Means h classes r (arithmetic_value op t v w)
 numbers_meant h classes op t a b x y a_is b_is v w m n i j i_is j_is r told =
-    let e : arithmetic_value op t v w ≡ calculated op t (wrapped t x) (wrapped t y) = ap (λ k. arithmetic_value op t k w) (means_number h classes a x a_is v m) ∙ ap (λ k. arithmetic_value op t (Number x) k) (means_number h classes b y b_is w n) in
-    subst (λ k. Means h classes r k) (sym e) (subst (λ k. Means h classes r (calculated op t (wrapped t x) k)) j_is (subst (λ k. Means h classes r (calculated op t k j)) i_is told))
+    let e : arithmetic_value op t v w ≡ calculated_value op t (wrapped t x) (wrapped t y) = ap (λ k. arithmetic_value op t k w) (means_number h classes a x a_is v m) ∙ ap (λ k. arithmetic_value op t (Number x) k) (means_number h classes b y b_is w n) in
+    subst (λ k. Means h classes r k) (sym e) (subst (λ k. Means h classes r (calculated_value op t (wrapped t x) k)) j_is (subst (λ k. Means h classes r (calculated_value op t k j)) i_is told))
 
 -- two numbers of parts are one where the parts are
 points_same : (h : Classes) (classes : List ClassId) → IsHierarchy h → (n m : ℕ) (p q : ObjectPart) → Points h classes n p → Points h classes m q → nat_eq n m ≡ same_part p q

@@ -13,7 +13,7 @@ use Rattle.path_model.specs.Typed.{AllSettled}
 use Rattle.path_model.specs.TypedStates.{IsValue, AreValues, IsThis, IsLeafMade}
 
 -- what is seen has the types of the scope e, and so has each leaf; all objects are settled
-pub record IsSeen (h : Classes) (e : Scope) (s : Sight) : Type 0 where
+pub record HasTypesOfScope (h : Classes) (e : Scope) (s : Sight) : Type 0 where
   pub fine : HasNoFault h
   pub settled : AllSettled h s.objects
   pub globals : AreValues h s.objects.classes s.globals e.globals
@@ -27,6 +27,6 @@ GivesBack h e w = (t : ValueType ClassId) → e.returns ≡ Some (ValueReturn t)
 
 -- the statement is typed in the scope, and what it sees fits
 pub record IsGiven (h : Classes) (e : Scope) (s : Sight) (w : Wanted) (kind : TypedKind) : Type 0 where
-  pub seen : IsSeen h e s
+  pub seen : HasTypesOfScope h e s
   pub typed : IsTyped h e kind
   pub back : GivesBack h e w

@@ -9,8 +9,8 @@ use Rattle.cxx_subobject.specs.Subobjects.{class_of}
 use Rattle.cxx_program.specs.declared.statement.TypedCall.{TypedCall}
 use Rattle.cxx_program.specs.declared.statement.TypedPlace.{TypedPlace}
 use Rattle.path_model.specs.Places.{end_part, last_passed, leaf_at}
-use Rattle.path_model.specs.Uses.{goes_to, receiver}
-use Rattle.path_model.specs.Values.{Objects, Sight, value}
+use Rattle.path_model.specs.Uses.{goes_to, receiver_value}
+use Rattle.path_model.specs.Values.{Objects, Sight, value_of_operand}
 use Rattle.path_heap.specs.declared.heap.Heap.{Heap}
 use Rattle.path_heap.specs.declared.state.Value.{Value as ValueCode}
 use Rattle.path_heap.specs.Points.{Points, PointsLeaf}
@@ -23,8 +23,8 @@ use Rattle.path_values.specs.Scenes.{SceneStands}
 -- a pointer to the subobject of the class in which a call's function was found, where its pointer can be moved there
 abbrev pub IsCallReceiver : Classes → Heap → Scene → TypedCall → ValueCode → Type 0
 IsCallReceiver h heap scene call code = (s : Sight) →
-    SceneStands h heap scene s → CanGo h s.objects (value s call.pointer) call.qualifier → CanReach h s.objects (goes_to call.qualifier (value s call.pointer)) call.base →
-    Means h s.objects.classes code (receiver s call)
+    SceneStands h heap scene s → CanGo h s.objects (value_of_operand s call.pointer) call.qualifier → CanReach h s.objects (goes_to call.qualifier (value_of_operand s call.pointer)) call.base →
+    Means h s.objects.classes code (receiver_value s call)
 
 -- the number of the leaf to which a place leads from the part of number n, where its path is open
 abbrev pub IsLeafNumber : Classes → Heap → (n : ℕ) → TypedPlace → (leaf : ℕ) → Type 0

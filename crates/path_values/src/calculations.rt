@@ -6,7 +6,7 @@ ghost use Rattle.cxx_hierarchy.specs.Classes.{Classes};
 ghost use Rattle.cxx_hierarchy.specs.Scalars.{wrapped};
 ghost use Rattle.cxx_hierarchy.specs.Hierarchies.{IsHierarchy};
 ghost use Rattle.path_model.specs.Values.{Value as ValueOf, Number};
-ghost use Rattle.path_model.specs.Effects.{truth, calculated, arithmetic_value, is_number_zero, negated, is_same_pointer};
+ghost use Rattle.path_model.specs.Effects.{truth_as_number, calculated_value, arithmetic_value, is_number_zero, negated, is_same_pointer};
 ghost use Rattle.path_model.specs.Rules.{is_over, is_result_over, overflows};
 ghost use Rattle.path_heap.specs.Stands.{Means};
 
@@ -17,7 +17,7 @@ use path_heap::Value;
 
 /// A truth value as a number: 1 or 0 (ISO C++03 4.5 p4).
 pub fn truth(b: bool) -> Value
-    ensures { (h : Classes) (classes : List ClassId) → Means h classes result (truth b) }
+    ensures { (h : Classes) (classes : List ClassId) → Means h classes result (truth_as_number b) }
 {
     Value::Number(if b { 1 } else { 0 })
 }
@@ -72,7 +72,7 @@ fn product(t: Scalar, a: i128, b: i128) -> i128
 
 /// Two numbers of one type; a result outside the type wraps (ISO C++03 5.6, 5.7, 5.9, 5.10, 3.9.1 p4).
 fn calculated(op: Arithmetic, t: Scalar, a: i128, b: i128) -> Value
-    ensures { (h : Classes) (classes : List ClassId) → Means h classes result (calculated op t a b) }
+    ensures { (h : Classes) (classes : List ClassId) → Means h classes result (calculated_value op t a b) }
 {
     match op {
         Arithmetic::Add => Value::Number(sum(t, a, b)),

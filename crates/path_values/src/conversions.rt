@@ -4,7 +4,7 @@ ghost use Rattle.std.specs.Prelude.{List};
 ghost use Rattle.cxx_hierarchy.specs.declared.records.ClassId.{ClassId};
 ghost use Rattle.cxx_hierarchy.specs.Scalars.{stored_as, kept_in};
 ghost use Rattle.cxx_hierarchy.specs.Classes.{Classes};
-ghost use Rattle.path_model.specs.Values.{Value as ValueOf, Objects, to_base, to_number, converted};
+ghost use Rattle.path_model.specs.Values.{Value as ValueOf, Objects, to_base, to_number, converted_to};
 ghost use Rattle.path_heap.specs.Stands.{HeapStands, Means};
 ghost use Rattle.path_tables.specs.Worlds.{IsWorld};
 ghost use Rattle.path_values.specs.Conversions.{CanReach, CanConvert};
@@ -50,7 +50,7 @@ pub fn to_base(world: &World, heap: &Heap, v: Value, i: &Subobject) -> Value
 /// A value, converted (ISO C++03 4.5, 4.7, 4.10, 4.12, 9.6).
 pub fn convert(world: &World, heap: &Heap, v: Value, c: &Conversion) -> Value
     requires world { IsWorld world.now }
-    ensures { (s : Objects) (w : ValueOf) → HeapStands world.now.h.now heap.now s → Means world.now.h.now s.classes v w → CanConvert world.now.h.now s w c.now → Means world.now.h.now s.classes result (converted w c.now) }
+    ensures { (s : Objects) (w : ValueOf) → HeapStands world.now.h.now heap.now s → Means world.now.h.now s.classes v w → CanConvert world.now.h.now s w c.now → Means world.now.h.now s.classes result (converted_to w c.now) }
 {
     match c {
         Conversion::Number(t) => to_number(*t, v),

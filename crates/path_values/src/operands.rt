@@ -3,7 +3,7 @@
 ghost use Rattle.std.specs.Prelude.{◌≡◌, List, slice_get};
 ghost use Rattle.cxx_hierarchy.specs.declared.records.ClassId.{ClassId};
 ghost use Rattle.cxx_hierarchy.specs.Classes.{Classes};
-ghost use Rattle.path_model.specs.Values.{Sight, variable_value, value};
+ghost use Rattle.path_model.specs.Values.{Sight, variable_value, value_of_operand};
 ghost use Rattle.path_model.specs.Steps.{constant};
 ghost use Rattle.path_heap.specs.declared.heap.Heap.{Heap};
 ghost use Rattle.path_heap.specs.Stands.{Means};
@@ -36,7 +36,7 @@ fn variable_value(scene: &Scene, x: &Variable) -> Value
 
 /// The value of an operand.
 pub fn value(scene: &Scene, x: &TypedOperand) -> Value
-    ensures { (h : Classes) (heap : Heap) (s : Sight) → SceneStands h heap scene.now s → Means h s.objects.classes result (value s x.now) }
+    ensures { (h : Classes) (heap : Heap) (s : Sight) → SceneStands h heap scene.now s → Means h s.objects.classes result (value_of_operand s x.now) }
 {
     match x {
         TypedOperand::Variable(x) => variable_value(scene, x),

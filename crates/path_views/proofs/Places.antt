@@ -9,7 +9,7 @@ use Rattle.path_plan.specs.Places.{Step, ObjectPart, part}
 use Rattle.path_plan.specs.Plans.{InFull}
 use Rattle.path_numbers.specs.Sizes.{sizes_of, total}
 use Rattle.path_numbers.specs.Nodes.{Node}
-use Rattle.path_numbers.specs.Numbers.{number_in}
+use Rattle.path_numbers.specs.Numbers.{subobject_number}
 use Rattle.path_numbers.specs.Heap.{IsAt, root_at}
 use Rattle.path_numbers.proofs.Intervals.{size_some}
 use Rattle.path_numbers.proofs.Sized.{sizes_are}
@@ -38,7 +38,7 @@ record HasNode (h : Classes) (classes : List ClassId) (w : Node) (x : Subobject)
   node : Node
   at : IsAt h (sizes_of h) classes node
   is_part : node.part ≡ part w.part.object w.part.owner x
-  number : node.number ≡ w.number + number_in h w.class x
+  number : node.number ≡ w.number + subobject_number h w.class x
 
 has_node : (h : Classes) → IsHierarchy h → (classes : List ClassId) (w : Node) → IsAt h (sizes_of h) classes w → w.form ≡ InFull → (x : Subobject) → IsSubobject h w.class x → HasNode h classes w x
 has_node h keeps classes w at full x valid =
@@ -61,23 +61,23 @@ module _ (h : Classes) (keeps : IsHierarchy h) (classes : List ClassId) (p : Obj
       subst (λ (t : ObjectPart). IsSubobject h c t.at) q.is_part (subst (λ (d : ClassId). IsSubobject h d y.part.at) (ap (λ (t : Node). t.class) same ∙ w.is_class) o.valid)
 
   -- and its number lies behind that of the complete object
-  pub is_behind : (n : ℕ) (x : Subobject) → Points h classes n (part p.object p.owner x) → n ≡ whole + number_in h c x
+  pub is_behind : (n : ℕ) (x : Subobject) → Points h classes n (part p.object p.owner x) → n ≡ whole + subobject_number h c x
   is_behind n x q =
       let valid = subst (λ (d : ClassId). IsSubobject h d x) (sym w.is_class) (is_inside n x q) in
       let r = has_node h keeps classes w.node w.at w.full x valid in
       let there : r.node.part ≡ q.node.part = r.is_part ∙ (same_place w.node.part.object p.object w.node.part.owner p.owner x w.object w.owner ∙ sym q.is_part) in
       let same = heap_number h (sizes_of h) keeps classes r.node q.node r.at q.at there in
-      sym q.is_number ∙ (ap (λ (t : Node). t.number) (sym same) ∙ (r.number ∙ (ap (λ k. k + number_in h w.node.class x) w.is_number ∙ ap (λ d. whole + number_in h d x) w.is_class)))
+      sym q.is_number ∙ (ap (λ (t : Node). t.number) (sym same) ∙ (r.number ∙ (ap (λ k. k + subobject_number h w.node.class x) w.is_number ∙ ap (λ d. whole + subobject_number h d x) w.is_class)))
 
   -- a subobject of the complete object is the part that stands there
-  pub points_behind : (x : Subobject) → IsSubobject h c x → Points h classes (whole + number_in h c x) (part p.object p.owner x)
+  pub points_behind : (x : Subobject) → IsSubobject h c x → Points h classes (whole + subobject_number h c x) (part p.object p.owner x)
   points_behind x inside =
       let r = has_node h keeps classes w.node w.at w.full x (subst (λ (d : ClassId). IsSubobject h d x) (sym w.is_class) inside) in
       record {
         node = r.node;
         at = r.at;
         is_part = r.is_part ∙ same_place w.node.part.object p.object w.node.part.owner p.owner x w.object w.owner;
-        is_number = r.number ∙ (ap (λ k. k + number_in h w.node.class x) w.is_number ∙ ap (λ d. whole + number_in h d x) w.is_class);
+        is_number = r.number ∙ (ap (λ k. k + subobject_number h w.node.class x) w.is_number ∙ ap (λ d. whole + subobject_number h d x) w.is_class);
       }
 
 -- what stands anywhere has a number of 32 bits
@@ -96,7 +96,7 @@ view_numbered h keeps classes p whole c w (Some v) None x q b = absurd b
 view_numbered h keeps classes p whole c w (Some v) (Some m) None q b = absurd q
 view_numbered h keeps classes p whole c w (Some v) (Some m) (Some x) q b = record {
   valid = is_inside h keeps classes p whole c w v x q;
-  number = sym (b (number_in h c x) (is_behind h keeps classes p whole c w v x q));
+  number = sym (b (subobject_number h c x) (is_behind h keeps classes p whole c w v x q));
 }
 
 pub stands : (h : Classes) → IsHierarchy h → (s : Objects) (p : ObjectPart) (n : ℕ) (at : Standing) (v : Option ℕ) → Points h s.classes n p → PointsWhole h s.classes at.whole p → class_of_owner h s p ≡ Some at.class → ((k : ℕ) → n ≡ at.whole + k → at.part ≡ k)
@@ -106,6 +106,6 @@ stands h keeps s p n at v q whole class number view behind =
     record {
       complete = w;
       owner = class;
-      part = record { valid = is_inside h keeps s.classes p at.whole at.class w n p.at q; number = sym (number (number_in h at.class p.at) (is_behind h keeps s.classes p at.whole at.class w n p.at q)) };
+      part = record { valid = is_inside h keeps s.classes p at.whole at.class w n p.at q; number = sym (number (subobject_number h at.class p.at) (is_behind h keeps s.classes p at.whole at.class w n p.at q)) };
       view = view_numbered h keeps s.classes p at.whole at.class w v at.view (view_of h s p) view behind;
     }

@@ -24,8 +24,8 @@ pub record IsCallable (h : Classes) (p : ObjectPart) (f : FunctionId) : Type 0 w
   pub virtual_function : IsVirtual h f
 
 -- the function that runs and the number of its `this`, where there is one
-abbrev pub IsRun : Classes → List ClassId → Option Found → Option (ObjectPart × FunctionId) → Type 0
-IsRun h classes None None = Unit {0}
-IsRun h classes None (Some run) = ⊥
-IsRun h classes (Some found) None = ⊥
-IsRun h classes (Some found) (Some run) = Points h classes found.this run.0 × (found.function ≡ run.1)
+abbrev pub RunsByView : Classes → List ClassId → Option Found → Option (ObjectPart × FunctionId) → Type 0
+RunsByView h classes None None = Unit {0}
+RunsByView h classes None (Some run) = ⊥
+RunsByView h classes (Some found) None = ⊥
+RunsByView h classes (Some found) (Some run) = Points h classes found.this run.0 × (found.function ≡ run.1)

@@ -4,7 +4,7 @@
 //! are kept (path_tables). Each call is a function of the model, for every state that the heap stands for, and for a part whose
 //! construction has begun.
 //!
-//! This crate owns when a function and its `this` stand for the model's (`IsRun`). The layers above may rely on the clauses; a
+//! This crate owns when a function and its `this` stand for the model's (`RunsByView`). The layers above may rely on the clauses; a
 //! call answers want of memory alone, and then what was kept is still right.
 #![tactic(auto)]
 

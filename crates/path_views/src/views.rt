@@ -6,13 +6,13 @@ ghost use Rattle.path_model.specs.Values.{Objects, Pointer};
 ghost use Rattle.cxx_hierarchy.specs.Classes.{Classes};
 ghost use Rattle.cxx_overrider.specs.Functions.{is_pure};
 ghost use Rattle.path_model.specs.Uses.{view_of, down_value, dynamic_value};
-ghost use Rattle.path_model.specs.Rules.{is_outside, is_pure_at};
-ghost use Rattle.path_model.specs.Effects.{class_conversion, overrider_by, dispatched, type_of};
-ghost use Rattle.path_tables.specs.Parts.{numbered};
+ghost use Rattle.path_model.specs.Rules.{is_outside, is_pure_in_view};
+ghost use Rattle.path_model.specs.Effects.{conversion_to_class, overrider_by, overrider_in_view, typeid_class};
+ghost use Rattle.path_tables.specs.Parts.{numbered_overrider};
 ghost use Rattle.path_heap.specs.Stands.{Means};
 ghost use Rattle.path_tables.specs.Asked.{AreAnswers};
 ghost use Rattle.path_tables.specs.Worlds.{IsWorld};
-ghost use Rattle.path_views.specs.Views.{IsPartAt, IsCallable, IsRun};
+ghost use Rattle.path_views.specs.Views.{IsPartAt, IsCallable, RunsByView};
 ghost use Rattle.path_views.specs.invariants.Standing.{IsStanding, pointer_or};
 
 use crate::standing::{Standing, number_behind, standing_of};
@@ -64,7 +64,7 @@ fn overrider_at(
     requires world { IsWorld world.now }
     requires answers { AreAnswers world.now.h.now answers.old }
     ensures answers { AreAnswers world.now.h.now answers.new }
-    ensures is { IfOk result (λ found. (s : Objects) (p : ObjectPart) → IsStanding world.now.h.now s p at → IsCallable world.now.h.now p f → found ≡ numbered world.now.h.now at.class (overrider_by world.now.h.now (view_of world.now.h.now s p) p.at f)) }
+    ensures is { IfOk result (λ found. (s : Objects) (p : ObjectPart) → IsStanding world.now.h.now s p at → IsCallable world.now.h.now p f → found ≡ numbered_overrider world.now.h.now at.class (overrider_by world.now.h.now (view_of world.now.h.now s p) p.at f)) }
 {
     match at.view {
         Some(view) => answers.final_overrider(alloc, world, at.class, view, at.part, f),
@@ -74,7 +74,7 @@ fn overrider_at(
 
 /// The class that a part's complete object has at this time, if it has one: that of the view (ISO C++03 5.2.8 p2, 12.7 p4).
 pub fn view_type(heap: &Heap, n: u32) -> Option<ClassId>
-    ensures { (h : Classes) (s : Objects) (p : ObjectPart) → IsPartAt h heap.now s n p → result ≡ type_of h s p }
+    ensures { (h : Classes) (s : Objects) (p : ObjectPart) → IsPartAt h heap.now s n p → result ≡ typeid_class h s p }
 {
     match heap.view(n) {
         Some(view) => Some(heap.class(view)),
@@ -121,7 +121,7 @@ pub fn is_pure(
     requires world { IsWorld world.now }
     requires answers { AreAnswers world.now.h.now answers.old }
     ensures answers { AreAnswers world.now.h.now answers.new }
-    ensures is { IfOk result (λ pure. (s : Objects) (p : ObjectPart) → IsPartAt world.now.h.now heap.now s n p → IsCallable world.now.h.now p f → pure ≡ is_pure_at world.now.h.now s f p) }
+    ensures is { IfOk result (λ pure. (s : Objects) (p : ObjectPart) → IsPartAt world.now.h.now heap.now s n p → IsCallable world.now.h.now p f → pure ≡ is_pure_in_view world.now.h.now s f p) }
 {
     let at = standing_of(heap, n);
     match overrider_at(alloc, world, answers, at, f)? {
@@ -144,7 +144,7 @@ pub fn dispatched(
     requires world { IsWorld world.now }
     requires answers { AreAnswers world.now.h.now answers.old }
     ensures answers { AreAnswers world.now.h.now answers.new }
-    ensures is { IfOk result (λ found. (s : Objects) (p : ObjectPart) → IsPartAt world.now.h.now heap.now s n p → IsCallable world.now.h.now p f → IsRun world.now.h.now s.classes found (dispatched world.now.h.now s p f)) }
+    ensures is { IfOk result (λ found. (s : Objects) (p : ObjectPart) → IsPartAt world.now.h.now heap.now s n p → IsCallable world.now.h.now p f → RunsByView world.now.h.now s.classes found (overrider_in_view world.now.h.now s p f)) }
 {
     let at = standing_of(heap, n);
     match overrider_at(alloc, world, answers, at, f)? {
@@ -223,7 +223,7 @@ pub fn conversion(
     requires known { c.0 < length world.now.h.now }
     requires answers { AreAnswers world.now.h.now answers.old }
     ensures answers { AreAnswers world.now.h.now answers.new }
-    ensures is { IfOk result (λ conversion. conversion ≡ class_conversion world.now.h.now c d) }
+    ensures is { IfOk result (λ conversion. conversion ≡ conversion_to_class world.now.h.now c d) }
 {
     if c.0 == d.0 {
         return Ok(Conversion::Same);

@@ -3,12 +3,12 @@ use Rattle.std.proofs.Common.{◌≡◌, ℕ, ◌<◌, Option, Some, None, List,
 use Rattle.std.proofs.lemmas.List.{append_assoc, take-append-drop}
 use Rattle.cxxabi_cmd.specs.declared.status.Status.{Status}
 use Rattle.cxxabi_cmd.specs.declared.status.Status.TheVariants.{Done, Refused, BadInput, Usage, Undefined, OutOfSteps, Limit, ReadFault, WriteFault, NoMemory}
-use Rattle.cxxabi_cmd.specs.Statuses.{code_of}
-use Rattle.cxxabi_cmd.specs.Output.{Answers, BreaksOff, IsAnswered, IsSilent}
-use Rattle.tagymelur_c.specs.Answered.{IsWhole, IsFront}
+use Rattle.cxxabi_cmd.specs.Statuses.{exit_status}
+use Rattle.cxxabi_cmd.specs.Output.{WritesAnswer, BreaksOff, IsAnswerWritten, IsSilent}
+use Rattle.tagymelur_c.specs.Answered.{IsWhole, IsAnswerFront}
 
 -- a code below 6 is that of an answer
-answered_of : (status : Status) → code_of status < 6 → IsAnswered status
+answered_of : (status : Status) → exit_status status < 6 → IsAnswerWritten status
 answered_of Done low = tt
 answered_of (Refused rule at) low = tt
 answered_of (BadInput rule line) low = tt
@@ -29,9 +29,9 @@ same_list xs ys e = ap told_list e
 
 -- the sink had nothing, and has these bytes
 answers_from : (words : List (List ℕ)) (bytes taken : List ℕ) (before after : Option (List ℕ)) (status : Status) → before ≡ Some [] → after ≡ Some taken →
-    Answers words bytes before after status → Answers words bytes (Some []) (Some taken) status
+    WritesAnswer words bytes before after status → WritesAnswer words bytes (Some []) (Some taken) status
 answers_from words bytes taken before after status b a found =
-    subst (λ (o : Option (List ℕ)). Answers words bytes o (Some taken) status) b (subst (λ (o : Option (List ℕ)). Answers words bytes before o status) a found)
+    subst (λ (o : Option (List ℕ)). WritesAnswer words bytes o (Some taken) status) b (subst (λ (o : Option (List ℕ)). WritesAnswer words bytes before o status) a found)
 
 breaks_from : (words : List (List ℕ)) (bytes taken : List ℕ) (before after : Option (List ℕ)) → before ≡ Some [] → after ≡ Some taken →
     BreaksOff words bytes before after → BreaksOff words bytes (Some []) (Some taken)
@@ -40,16 +40,16 @@ breaks_from words bytes taken before after b a found =
 
 -- the sink has the whole text of the answer
 pub whole_of : (words : List (List ℕ)) (bytes taken text : List ℕ) (before after : Option (List ℕ)) (status : Status) → before ≡ Some [] → after ≡ Some taken → text ≡ taken →
-    (IsAnswered status → Answers words bytes before after status) → code_of status < 6 → IsWhole words bytes (code_of status) text
+    (IsAnswerWritten status → WritesAnswer words bytes before after status) → exit_status status < 6 → IsWhole words bytes (exit_status status) text
 whole_of words bytes taken text before after status b a e answers low =
-    let found : Answers words bytes (Some []) (Some taken) status = answers_from words bytes taken before after status b a (answers (answered_of status low)) in
-    record { answer = found.answer; output = found.output; same = ap code_of found.same; is = e ∙ same_list taken found.answer.text found.text }
+    let found : WritesAnswer words bytes (Some []) (Some taken) status = answers_from words bytes taken before after status b a (answers (answered_of status low)) in
+    record { answer = found.answer; output = found.output; same = ap exit_status found.same; is = e ∙ same_list taken found.answer.text found.text }
 
-front_of_text : (words : List (List ℕ)) (bytes taken : List ℕ) (status : Status) (n : ℕ) → Answers words bytes (Some []) (Some taken) status → IsFront words bytes (take n taken)
+front_of_text : (words : List (List ℕ)) (bytes taken : List ℕ) (status : Status) (n : ℕ) → WritesAnswer words bytes (Some []) (Some taken) status → IsAnswerFront words bytes (take n taken)
 front_of_text words bytes taken status n found =
     record { answer = found.answer; output = found.output; rest = drop n taken; is = sym (same_list taken found.answer.text found.text) ∙ sym (take-append-drop n taken) }
 
-front_of_front : (words : List (List ℕ)) (bytes taken : List ℕ) (n : ℕ) → BreaksOff words bytes (Some []) (Some taken) → IsFront words bytes (take n taken)
+front_of_front : (words : List (List ℕ)) (bytes taken : List ℕ) (n : ℕ) → BreaksOff words bytes (Some []) (Some taken) → IsAnswerFront words bytes (take n taken)
 front_of_front words bytes taken n found =
     let part : taken ≡ take found.part.count found.answer.text = same_list taken (take found.part.count found.answer.text) found.part.taken in
     let behind : List ℕ = drop found.part.count found.answer.text in
@@ -66,7 +66,7 @@ nothing_taken taken n before after b a same short =
 
 -- the front of what the sink took is a front of the answer's text, where the sink took more
 pub front_of : (words : List (List ℕ)) (bytes taken : List ℕ) (before after : Option (List ℕ)) (status : Status) (n : ℕ) → before ≡ Some [] → after ≡ Some taken → n < length taken →
-    (IsAnswered status → Answers words bytes before after status) → (status ≡ WriteFault → BreaksOff words bytes before after) → (IsSilent status → after ≡ before) → IsFront words bytes (take n taken)
+    (IsAnswerWritten status → WritesAnswer words bytes before after status) → (status ≡ WriteFault → BreaksOff words bytes before after) → (IsSilent status → after ≡ before) → IsAnswerFront words bytes (take n taken)
 front_of words bytes taken before after Done n b a short answers breaks silent = front_of_text words bytes taken Done n (answers_from words bytes taken before after Done b a (answers tt))
 front_of words bytes taken before after (Refused rule at) n b a short answers breaks silent = front_of_text words bytes taken (Refused rule at) n (answers_from words bytes taken before after (Refused rule at) b a (answers tt))
 front_of words bytes taken before after (BadInput rule line) n b a short answers breaks silent = front_of_text words bytes taken (BadInput rule line) n (answers_from words bytes taken before after (BadInput rule line) b a (answers tt))
@@ -80,7 +80,7 @@ front_of words bytes taken before after NoMemory n b a short answers breaks sile
 
 -- the whole of what the sink took is a front of the answer's text, where the code is that of a sink that failed
 pub front_of_fault : (words : List (List ℕ)) (bytes taken text : List ℕ) (before after : Option (List ℕ)) (status : Status) → before ≡ Some [] → after ≡ Some taken → text ≡ taken →
-    (status ≡ WriteFault → BreaksOff words bytes before after) → code_of status ≡ 7 → IsFront words bytes text
+    (status ≡ WriteFault → BreaksOff words bytes before after) → exit_status status ≡ 7 → IsAnswerFront words bytes text
 front_of_fault words bytes taken text before after WriteFault b a e breaks is =
     let found : BreaksOff words bytes (Some []) (Some taken) = breaks_from words bytes taken before after b a (breaks refl) in
     let part : taken ≡ take found.part.count found.answer.text = same_list taken (take found.part.count found.answer.text) found.part.taken in

@@ -7,7 +7,7 @@ ghost use Rattle.std.specs.Prelude.{ℕ, ◌≡◌, ◌<◌, ◌≤◌, ◌++◌
 ghost use Rattle.std.specs.Bool.{OnFalse};
 ghost use Rattle.cxxabi_cmd.specs.Output.{texts_of};
 ghost use Rattle.tagymelur_c.specs.Words.{words_in, words_behind};
-ghost use Rattle.tagymelur_c.specs.Answered.{IsWhole, IsFront};
+ghost use Rattle.tagymelur_c.specs.Answered.{IsWhole, IsAnswerFront};
 
 use cxxabi_cmd::{BytesSink, Status, SteadySource, run_cxxabi};
 use std::alloc::Global;
@@ -77,7 +77,7 @@ pub extern "C" fn tagymelur_answer(
     // The text and the status are those of the program for these words and this source.
     ensures whole { result < 6 → IsWhole (words_in words.now) source.now result (take written.new text.new) }
     // Where there is too little room, the buffer has a front of that text.
-    ensures front { result ≡ 7 → IsFront (words_in words.now) source.now (take written.new text.new) }
+    ensures front { result ≡ 7 → IsAnswerFront (words_in words.now) source.now (take written.new text.new) }
     // Without an answer nothing is written.
     ensures none { 7 < result → written.new ≡ 0 }
     ensures no_fault { (result < 6) ⊎ (6 < result) }

@@ -4,10 +4,10 @@ use Rattle.std.specs.Prelude.{ℤ, pos, negsuc, ◌+ℤ◌, ◌≤ℤ◌, ◌<�
 use Rattle.std.proofs.lemmas.Int.{ints}
 use Rattle.cxx_hierarchy.specs.declared.records.Scalar.{Scalar}
 use Rattle.cxx_hierarchy.specs.Scalars.{IsInWidth, below_zero, is_signed}
-use Rattle.byte_code.specs.Numbers.{IsWithin, low_in, signed_in}
+use Rattle.byte_code.specs.Numbers.{FitsRange, low_in, signed_in}
 use Rattle.byte_code.proofs.Words.{number_of_bits-word_of, word_of-low_bits}
 
-within : (count : ℕ) (signed : Bool) (z : ℤ) → pos 0 ≤ℤ (z +ℤ pos (below_zero signed count)) → (z +ℤ pos (below_zero signed count)) <ℤ pos count → IsWithin count signed z
+within : (count : ℕ) (signed : Bool) (z : ℤ) → pos 0 ≤ℤ (z +ℤ pos (below_zero signed count)) → (z +ℤ pos (below_zero signed count)) <ℤ pos count → FitsRange count signed z
 within count false (pos a) low high = let h : a < count = omega (arith, ints) in h
 within count false (negsuc a) low high = omega (arith, ints)
 within count true (pos a) low high = let h : a + count / 2 < count = omega (arith, ints) in omega arith

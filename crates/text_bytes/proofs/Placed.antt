@@ -21,7 +21,7 @@ use Rattle.cxx_subobject.proofs.PathLemmas.{class_low, class_inside}
 use Rattle.cxx_subobject.proofs.TreeLemmas.{has_preorder}
 use Rattle.abi_sound.specs.declared.class_layout.ClassLayout.{ClassLayout}
 use Rattle.abi_sound.specs.Places.{Places, places_of, size_of_value}
-use Rattle.abi_sound.specs.Locations.{place_at}
+use Rattle.abi_sound.specs.Locations.{place_along_hops}
 use Rattle.abi_sound.specs.Sound.{IsSoundLayout}
 use Rattle.abi_sound.proofs.PlaceLemmas.{place_at_inner, place_at_value}
 use Rattle.abi_print.specs.LayoutTexts.{subobject_text}
@@ -78,7 +78,7 @@ pub value_leads : (h : Classes) (l : Places) (c : ClassId) (x : PlacedMember) (m
 value_leads h l c x member t i of there is lt = to_value c x.class of.sub x.number i t of.valid of.class (element h x member (Value t) i there is lt)
 
 pub value_place : (h : Classes) (l : Places) (c : ClassId) (x : PlacedMember) (member : Member ClassId) (t : ValueType ClassId) (i : ℕ) → (of : IsPlaced h l c x) → slice_get (members_of h x.class) x.number ≡ Some member → member.ty ≡ Value t → i < elements_of member.count →
-    place_at h l c (Inherit of.sub ∷ MemberHop x.number i ∷ []) ≡ x.place + i * size_of_value t
+    place_along_hops h l c (Inherit of.sub ∷ MemberHop x.number i ∷ []) ≡ x.place + i * size_of_value t
 value_place h l c x member t i of there is lt =
     let at = place_at_value h l c x.class of.sub x.number i t of.class (element h x member (Value t) i there is lt) in
     let start = of.place in omega arith
@@ -89,7 +89,7 @@ pub inner_leads : (h : Classes) (l : Places) (c : ClassId) (x : PlacedMember) (m
 inner_leads h l c x member d i hops type of there is lt leads = to_inner c x.class d of.sub x.number i hops type of.valid of.class (element h x member (Object d) i there is lt) leads
 
 pub inner_place : (h : Classes) (l : Places) (c : ClassId) (x : PlacedMember) (member : Member ClassId) (d : ClassId) (i : ℕ) (hops : List Hop) → (of : IsPlaced h l c x) → slice_get (members_of h x.class) x.number ≡ Some member → member.ty ≡ Object d → i < elements_of member.count →
-    place_at h l c (Inherit of.sub ∷ MemberHop x.number i ∷ hops) ≡ (x.place + i * l.size d) + place_at h l d hops
+    place_along_hops h l c (Inherit of.sub ∷ MemberHop x.number i ∷ hops) ≡ (x.place + i * l.size d) + place_along_hops h l d hops
 inner_place h l c x member d i hops of there is lt =
     let at = place_at_inner h l c x.class d of.sub x.number i hops of.class (element h x member (Object d) i there is lt) in
     let start = of.place in omega arith

@@ -17,7 +17,7 @@ use Rattle.cxx_subobject.specs.Subobjects.{class_of}
 use Rattle.cxx_subobject.specs.Locations.{IsElement, LeadsTo}
 use Rattle.abi_sound.specs.declared.class_layout.ClassLayout.{ClassLayout}
 use Rattle.abi_sound.specs.Places.{Places, places_of, size_of_value}
-use Rattle.abi_sound.specs.Locations.{bits_of_value, last_member, place_at}
+use Rattle.abi_sound.specs.Locations.{bits_of_value, last_member, place_along_hops}
 use Rattle.abi_sound.specs.Sound.{IsAligned, IsSoundLayout}
 use Rattle.text_told.proofs.Leading.{aligned_near, ends_below, ends_inside, width_near}
 use Rattle.abi_sound.proofs.LeafSpans.{last_element, last_inner}
@@ -33,7 +33,7 @@ record IsLeafPlace (h : Classes) (l : Places) (c : ClassId) (row : LeafRow) : Ty
   hops : List Hop
   type : ValueType ClassId
   leads : LeadsTo h c hops (Value type)
-  at : place_at h l c hops ≡ row.place
+  at : place_along_hops h l c hops ≡ row.place
   last : last_member h (Some c) hops ≡ Some (row.class, row.number)
   first : row.first ≡ l.first row.class row.number
 
@@ -94,22 +94,22 @@ row_below h rows keeps sound n c row known has =
 
 -- how a row is aligned
 row_aligned : (h : Classes) (rows : List ClassLayout) → IsSoundLayout h rows → (c : ClassId) (row : LeafRow) → c.0 < length h → (r : IsLeafPlace h (places_of h rows) c row) →
-    IsAligned (width_of_member h row.class row.number) r.type (place_at h (places_of h rows) c r.hops) row.first
+    IsAligned (width_of_member h row.class row.number) r.type (place_along_hops h (places_of h rows) c r.hops) row.first
 row_aligned h rows sound c row known r =
-    subst (IsAligned (width_of_member h row.class row.number) r.type (place_at h (places_of h rows) c r.hops)) (sym r.first) ((sound.each c known).aligned r.type r.hops row.class row.number r.leads r.last)
+    subst (IsAligned (width_of_member h row.class row.number) r.type (place_along_hops h (places_of h rows) c r.hops)) (sym r.first) ((sound.each c known).aligned r.type r.hops row.class row.number r.leads r.last)
 
 -- its bits begin in the byte at its place, and end in the 8 bytes from there, whatever its type
 pub row_starts : (h : Classes) (rows : List ClassLayout) → IsSoundLayout h rows → (n : ℕ) (c : ClassId) (row : LeafRow) → c.0 < length h → Has (rows_within h (places_of h rows) n c) row →
     (row.first < 8) × ((t : ValueType ClassId) → row.first + bits_of_value (width_of_member h row.class row.number) t ≤ 64)
 row_starts h rows sound n c row known has =
     let r = row_there h (places_of h rows) n c row has in
-    aligned_near (width_of_member h row.class row.number) r.type (place_at h (places_of h rows) c r.hops) row.first (row_aligned h rows sound c row known r)
+    aligned_near (width_of_member h row.class row.number) r.type (place_along_hops h (places_of h rows) c r.hops) row.first (row_aligned h rows sound c row known r)
 
 -- so a memory reads those of a bit-field in one word
 pub row_near : (h : Classes) (rows : List ClassLayout) → IsHierarchy h → IsSoundLayout h rows → (n : ℕ) (c : ClassId) (row : LeafRow) → c.0 < length h → Has (rows_within h (places_of h rows) n c) row → IsRowNear h row
 row_near h rows keeps sound n c row known has =
     let r = row_there h (places_of h rows) n c row has in
-    by_width r.type (place_at h (places_of h rows) c r.hops) (width_of_member h row.class row.number) refl (row_aligned h rows sound c row known r)
+    by_width r.type (place_along_hops h (places_of h rows) c r.hops) (width_of_member h row.class row.number) refl (row_aligned h rows sound c row known r)
   where
     by_width : (type : ValueType ClassId) (place : ℕ) (o : Option ℕ) → width_of_member h row.class row.number ≡ o → IsAligned o type place row.first → AreNear row.first o
     by_width type place None e is = tt

@@ -26,11 +26,11 @@ use Rattle.path_model.specs.Values.{Leaf, inner_part}
 use Rattle.path_model.specs.Places.{leaf, leaves_of, leaves_within, member_leaves, own_leaves, typed_leaves}
 use Rattle.path_model.specs.TypedStates.{IsLeafMade}
 use Rattle.abi_sound.specs.Places.{Places, size_of_value}
-use Rattle.abi_sound.specs.Locations.{place_at}
+use Rattle.abi_sound.specs.Locations.{place_along_hops}
 use Rattle.abi_sound.proofs.PlaceLemmas.{place_at_value}
 use Rattle.agree_parts.proofs.Made.{leaf_hops}
 use Rattle.abi_print.specs.LayoutTexts.{subobject_text}
-use Rattle.text_told.specs.Fields.{before_field, element_text, field_text, member_at, type_behind, value_in, value_type}
+use Rattle.text_told.specs.Fields.{before_field, element_name_text, field_name_text, member_at, type_behind, value_in, value_type}
 use Rattle.text_bytes.specs.declared.members.PlacedMember.{PlacedMember}
 use Rattle.text_bytes.specs.declared.rows.LeafRow.{LeafRow}
 use Rattle.text_bytes.specs.LeafRows.{element_name, element_rows, inner_row, leaf_rows, placed_in, placed_member, rows_by_member, rows_by_type, rows_in, rows_within, value_row}
@@ -42,13 +42,13 @@ pub record IsRowOf (h : Classes) (l : Places) (classes : List ClassId) (k : ℕ)
   pub type : ValueType ClassId
   pub object : a.part.object ≡ k
   pub made : IsLeafMade h classes a type
-  pub place : place_at h l c (leaf_hops a) ≡ row.place
+  pub place : place_along_hops h l c (leaf_hops a) ≡ row.place
   pub leads : type_behind h (Some c) (leaf_hops a) ≡ Some type
   pub member : value_type (member_at h (Some row.class) row.number) ≡ Some type
   pub class : row.class ≡ made.class
   pub number : row.number ≡ a.member
   pub first : row.first ≡ l.first row.class row.number
-  pub name : field_text h (leaf_hops a) ≡ row.name
+  pub name : field_name_text h (leaf_hops a) ≡ row.name
 
 -- a row of an object that lies at a place of another one, whose leaves have names behind this one
 abbrev shifted : ℕ → List ℕ → LeafRow → LeafRow
@@ -88,7 +88,7 @@ module _ (h : Classes) (l : Places) (classes : List ClassId) (k : ℕ) (c : Clas
       class = refl;
       number = refl;
       first = refl;
-      name = on.named s (MemberHop m i ∷ []) ∙ ap (λ n. name ++ (before_field (subobject_text h s) ++ n)) (append-nil (element_text (member_at h (class_of s) m) i) ∙ ap (λ o. element_text o i) found);
+      name = on.named s (MemberHop m i ∷ []) ∙ ap (λ n. name ++ (before_field (subobject_text h s) ++ n)) (append-nil (element_name_text (member_at h (class_of s) m) i) ∙ ap (λ o. element_name_text o i) found);
     }
       where
         inside : List Hop

@@ -12,7 +12,7 @@ use Rattle.cxx_subobject.specs.Subobjects.{class_of}
 use Rattle.cxx_subobject.specs.Preorder.{preorder}
 use Rattle.abi_sound.specs.Places.{Places, size_of_value}
 use Rattle.abi_print.specs.LayoutTexts.{subobject_text}
-use Rattle.text_told.specs.Fields.{before_field, element_text, member_at}
+use Rattle.text_told.specs.Fields.{before_field, element_name_text, member_at}
 use Rattle.text_bytes.specs.declared.members.PlacedMember.{PlacedMember}
 use Rattle.text_bytes.specs.declared.rows.LeafRow.{LeafRow}
 
@@ -31,7 +31,7 @@ placed_members h l c = flat_map (λ s. placed_in h l (l.place c s) (before_field
 
 -- the name of an element of a member
 abbrev pub element_name : PlacedMember → Member ClassId → ℕ → List ℕ
-element_name x member i = x.before ++ element_text (Some member) i
+element_name x member i = x.before ++ element_name_text (Some member) i
 
 -- an element that is a number or a pointer, of so many bytes
 abbrev pub value_row : PlacedMember → Member ClassId → ℕ → ℕ → LeafRow

@@ -20,8 +20,8 @@ use Rattle.byte_machine.specs.Heap.{object_at}
 use Rattle.byte_machine.specs.Effects.{bytes_before}
 use Rattle.byte_machine.specs.Running.{moved, table_word}
 use Rattle.abi_print.specs.Texts.{location_text}
-use Rattle.abi_print.specs.LayoutTexts.{bits_text, name_of, value_text}
-use Rattle.abi_print.specs.TableTexts.{name_in}
+use Rattle.abi_print.specs.LayoutTexts.{bits_text, declared_class_name, value_type_text}
+use Rattle.abi_print.specs.TableTexts.{optional_class_name}
 use Rattle.text_told.specs.declared.items.Item.{Item}
 use Rattle.text_told.specs.declared.pointers.TablePointer.{TablePointer}
 use Rattle.text_told.specs.Fields.{member_at, value_type}
@@ -49,17 +49,17 @@ behind_top at None = codes "?"
 behind_top at (Some top) = decimal (at - moved at top)
 
 -- the number of a class, with which its type information begins (Itanium C++ ABI 2.9.5)
-abbrev pub class_in : ImageBytes → Option ℕ → Option ℕ
-class_in image None = None
-class_in image (Some info) = word_at image info
+abbrev pub class_of_info : ImageBytes → Option ℕ → Option ℕ
+class_of_info image None = None
+class_of_info image (Some info) = word_at image info
 
-abbrev pub class_text : Classes → Option ℕ → List ℕ
-class_text h None = codes "?"
-class_text h (Some c) = name_of h (record { 0 = c })
+abbrev pub class_name_text : Classes → Option ℕ → List ℕ
+class_name_text h None = codes "?"
+class_name_text h (Some c) = declared_class_name h (record { 0 = c })
 
 -- the virtual pointer at an address, in a subobject of a class: where that lies in its complete object, and the class of this are read in the table
 abbrev pub led_text : Classes → ImageBytes → Store → ℕ → Option ClassId → List ℕ
-led_text h image memory at class = codes "vptr " ++ name_in h class ++ codes "@" ++ behind_top at (table_word image memory at (bytes_before 16)) ++ codes " of " ++ class_text h (class_in image (table_word image memory at (bytes_before 8)))
+led_text h image memory at class = codes "vptr " ++ optional_class_name h class ++ codes "@" ++ behind_top at (table_word image memory at (bytes_before 16)) ++ codes " of " ++ class_name_text h (class_of_info image (table_word image memory at (bytes_before 8)))
 
 -- a virtual pointer of an object that starts there
 abbrev pub led_item : Classes → ImageBytes → Store → ℕ → TablePointer → Item
@@ -72,13 +72,13 @@ abbrev pub bytes_text : ℕ → ℕ → List ℕ
 bytes_text size word = flat_map byte_text (take size (to_le_bytes w64 word))
 
 -- a word of a leaf: the bytes of a number, and a pointer as an address
-abbrev pub word_text : List Opened → ValueType ClassId → ℕ → List ℕ
-word_text objects (Number t) word = bytes_text (size_of t) word
-word_text objects (Pointer c) word = address_text objects word
+abbrev pub leaf_word_text : List Opened → ValueType ClassId → ℕ → List ℕ
+leaf_word_text objects (Number t) word = bytes_text (size_of t) word
+leaf_word_text objects (Pointer c) word = address_text objects word
 
 -- what a load of a leaf of this type answers; bytes that it cannot read are shown as unset
 abbrev pub loaded_text : List Opened → ValueType ClassId → Result ℕ MemoryFault → List ℕ
-loaded_text objects type (Ok word) = word_text objects type word
+loaded_text objects type (Ok word) = leaf_word_text objects type word
 loaded_text objects type (Err fault) = unset_text (size_of_value type)
 
 -- the bits of a type are read as two's complement
@@ -97,8 +97,8 @@ read_text memory objects at None first type = loaded_text objects type (load_of 
 read_text memory objects at (Some width) first type = bits_text first width ++ codes " " ++ number_text type width (load_bits_of memory at first width)
 
 -- the leaf at an address: what stands there, its type and its name
-abbrev pub row_text : Classes → Store → List Opened → ℕ → Option ℕ → ℕ → ValueType ClassId → List ℕ → List ℕ
-row_text h memory objects at width first type name = read_text memory objects at width first type ++ codes " " ++ value_text h type ++ codes " " ++ name
+abbrev pub raw_leaf_text : Classes → Store → List Opened → ℕ → Option ℕ → ℕ → ValueType ClassId → List ℕ → List ℕ
+raw_leaf_text h memory objects at width first type name = read_text memory objects at width first type ++ codes " " ++ value_type_text h type ++ codes " " ++ name
 
 -- objects
 
@@ -108,7 +108,7 @@ row_by_type h memory objects start row width (Some type) = record {
   place = row.place;
   first = row.first;
   size = bytes_touched row.first (bits_of_value width type);
-  text = row_text h memory objects (moved start row.place) width row.first type row.name;
+  text = raw_leaf_text h memory objects (moved start row.place) width row.first type row.name;
 }
 
 -- a leaf of an object that starts there
@@ -128,7 +128,7 @@ class_of_object object = record { 0 = object.class }
 
 -- the dump of a heap object: its number, class and size, and what lies in it by place, with the gaps
 abbrev pub object_text : Classes → Places → ImageBytes → Store → List Opened → Opened → List ℕ
-object_text h l image memory objects object = codes "dump #" ++ decimal object.number ++ codes " " ++ name_of h (class_of_object object) ++ codes " " ++ decimal (l.size (class_of_object object))
+object_text h l image memory objects object = codes "dump #" ++ decimal object.number ++ codes " " ++ declared_class_name h (class_of_object object) ++ codes " " ++ decimal (l.size (class_of_object object))
     ++ lines_from (l.size (class_of_object object)) 0 (by_place (l.size (class_of_object object)) (raw_items h l image memory objects object.start (class_of_object object)))
 
 abbrev pub dump_by : Classes → Places → ImageBytes → Store → List Opened → Option Opened → List ℕ

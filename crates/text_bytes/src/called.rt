@@ -4,7 +4,7 @@ ghost use Rattle.std.specs.Prelude.{◌≡◌, ℕ, IfOk, OnOk, Some, if◌then�
 ghost use Rattle.indexmap.specs.IndexMap.{get};
 ghost use Rattle.abi_slots.specs.CodeRows.{kind_number};
 ghost use Rattle.abi_slots.specs.declared.code_numbers.BlockKind.TheVariants.{Plain};
-ghost use Rattle.text_bytes.specs.RawTexts.{begins_at, function_at};
+ghost use Rattle.text_bytes.specs.RawTexts.{code_begins_at, function_at_block};
 
 use abi_slots::{BlockKind, CodeRow};
 use cxx_overrider::FunctionId;
@@ -27,13 +27,13 @@ impl<'a> Model for CalledFunctions<'a> {
     ghost use Rattle.std.specs.Prelude.{◌≡◌, ℕ, List, nat_eq};
     ghost use Rattle.indexmap.specs.IndexMap.{get};
     ghost use Rattle.abi_slots.specs.declared.code_numbers.CodeRow.{CodeRow};
-    ghost use Rattle.text_bytes.specs.RawTexts.{function_at};
+    ghost use Rattle.text_bytes.specs.RawTexts.{function_at_block};
 
     ghost Value = { List CodeRow };
 
     ghost view = { λ called. called.rows.now };
 
-    ghost invariant = { λ called. (block : ℕ) → get nat_eq called.functions block ≡ function_at called.rows.now block };
+    ghost invariant = { λ called. (block : ℕ) → get nat_eq called.functions block ≡ function_at_block called.rows.now block };
 }
 
 /// Whether it is the code of a plain function.
@@ -46,7 +46,7 @@ fn is_plain(kind: BlockKind) -> bool
 /// Puts the function of a row under its block, in place of one that was there; a constructor or destructor is never called, and
 /// is left out.
 fn put_row(functions: &mut BlockTable, row: CodeRow) -> Result<(), NoMemory>
-    ensures { OnOk result ((block : ℕ) → get nat_eq functions.new block ≡ (if begins_at block row then Some row.function else get nat_eq functions.old block)) }
+    ensures { OnOk result ((block : ℕ) → get nat_eq functions.new block ≡ (if code_begins_at block row then Some row.function else get nat_eq functions.old block)) }
 {
     if !is_plain(row.kind) {
         return Ok(());
@@ -57,7 +57,7 @@ fn put_row(functions: &mut BlockTable, row: CodeRow) -> Result<(), NoMemory>
 
 /// The table of rows. It is filled from the last row to the first, so that the first row of a block stays.
 fn table_of(alloc: Global, rows: &[CodeRow]) -> Result<BlockTable, NoMemory>
-    ensures { IfOk result (λ functions. (block : ℕ) → get nat_eq functions block ≡ function_at rows.now block) }
+    ensures { IfOk result (λ functions. (block : ℕ) → get nat_eq functions block ≡ function_at_block rows.now block) }
 {
     let mut functions = IndexMap::new(alloc);
     let mut left = rows.len();
@@ -81,7 +81,7 @@ impl<'a> CalledFunctions<'a> {
 
     /// The function whose code begins at a block; None where that of no plain function does.
     pub fn function(&self, block: u32) -> Option<FunctionId>
-        ensures { result ≡ function_at self.now block }
+        ensures { result ≡ function_at_block self.now block }
     {
         self.functions.get(&block).copied()
     }

@@ -3,9 +3,9 @@
 ghost use Rattle.std.specs.Prelude.{◌≡◌, ◌++◌, ◌<◌, IfOk, OnOk, length};
 ghost use Rattle.abi_sound.specs.Places.{places_of};
 ghost use Rattle.byte_machine.specs.Heap.{object_at};
-ghost use Rattle.byte_machine.specs.MachineState.{image_of, state_of};
+ghost use Rattle.byte_machine.specs.MachineState.{machine_image, state_of};
 ghost use Rattle.text_bytes.specs.RawDumps.{object_text, raw_dump, raw_items, contents_lines};
-ghost use Rattle.text_bytes.specs.RawTexts.{IsKnown};
+ghost use Rattle.text_bytes.specs.RawTexts.{IsKnownObject};
 
 use crate::items::push_rows;
 use crate::led::push_led;
@@ -32,7 +32,7 @@ fn raw_items<M: Memory, L: SoundLayout>(
 ) -> Result<Vec<Item>, NoMemory>
     requires layout { L.lays_out layout.now h.now }
     requires known { c.0 < length h.now }
-    ensures { IfOk result (λ items. items.items ≡ raw_items h.now (places_of h.now (L.rows layout.now)) (image_of machine.now) (state_of machine.now).memory (state_of machine.now).objects start c) }
+    ensures { IfOk result (λ items. items.items ≡ raw_items h.now (places_of h.now (L.rows layout.now)) (machine_image machine.now) (state_of machine.now).memory (state_of machine.now).objects start c) }
 {
     h.keeps();
     let mut items = Vec::new(alloc);
@@ -55,7 +55,7 @@ fn append_contents<M: Memory, L: SoundLayout>(
 ) -> Result<(), NoMemory>
     requires layout { L.lays_out layout.now h.now }
     requires known { c.0 < length h.now }
-    ensures { OnOk result (text.new.items ≡ text.old.items ++ contents_lines h.now (places_of h.now (L.rows layout.now)) (image_of machine.now) (state_of machine.now).memory (state_of machine.now).objects start c) }
+    ensures { OnOk result (text.new.items ≡ text.old.items ++ contents_lines h.now (places_of h.now (L.rows layout.now)) (machine_image machine.now) (state_of machine.now).memory (state_of machine.now).objects start c) }
 {
     h.keeps();
     let size = layout.layout(c).size;
@@ -76,7 +76,7 @@ fn append_object<M: Memory, L: SoundLayout>(
 ) -> Result<(), NoMemory>
     requires layout { L.lays_out layout.now h.now }
     requires known { object.class < length h.now }
-    ensures { OnOk result (text.new.items ≡ text.old.items ++ object_text h.now (places_of h.now (L.rows layout.now)) (image_of machine.now) (state_of machine.now).memory (state_of machine.now).objects object) }
+    ensures { OnOk result (text.new.items ≡ text.old.items ++ object_text h.now (places_of h.now (L.rows layout.now)) (machine_image machine.now) (state_of machine.now).memory (state_of machine.now).objects object) }
 {
     let c = ClassId(object.class);
     append(text, b"dump #")?;
@@ -101,8 +101,8 @@ pub(crate) fn append_raw_dump<M: Memory, L: SoundLayout>(
     at: u64,
 ) -> Result<(), NoMemory>
     requires layout { L.lays_out layout.now h.now }
-    requires known { IsKnown h.now (object_at (state_of machine.now).objects at) }
-    ensures { OnOk result (text.new.items ≡ text.old.items ++ raw_dump h.now (places_of h.now (L.rows layout.now)) (image_of machine.now) (state_of machine.now).memory (state_of machine.now).objects at) }
+    requires known { IsKnownObject h.now (object_at (state_of machine.now).objects at) }
+    ensures { OnOk result (text.new.items ≡ text.old.items ++ raw_dump h.now (places_of h.now (L.rows layout.now)) (machine_image machine.now) (state_of machine.now).memory (state_of machine.now).objects at) }
 {
     match machine.opened(at) {
         None => Ok(()),

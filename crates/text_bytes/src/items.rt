@@ -9,7 +9,7 @@ ghost use Rattle.byte_machine.specs.Heap.{object_at};
 ghost use Rattle.byte_machine.specs.MachineState.{state_of};
 ghost use Rattle.byte_machine.specs.Running.{moved};
 ghost use Rattle.abi_sound.specs.Places.{size_of_value as size_of_value_by};
-ghost use Rattle.text_bytes.specs.RawDumps.{address_text, bytes_text, is_signed_value, loaded_text, number_text, place_text, read_text, row_item, row_text, word_text};
+ghost use Rattle.text_bytes.specs.RawDumps.{address_text, bytes_text, is_signed_value, loaded_text, number_text, place_text, read_text, row_item, raw_leaf_text, leaf_word_text};
 ghost use Rattle.text_bytes.specs.declared.rows.LeafRow.{LeafRow};
 ghost use Rattle.text_bytes.specs.invariants.Readable.{AreNear, IsRowNear};
 
@@ -93,7 +93,7 @@ fn append_word<M: Memory>(
     ty: &ValueType<ClassId>,
     word: u64,
 ) -> Result<(), NoMemory>
-    ensures { OnOk result (text.new.items ≡ text.old.items ++ word_text (state_of machine.now).objects ty.now word) }
+    ensures { OnOk result (text.new.items ≡ text.old.items ++ leaf_word_text (state_of machine.now).objects ty.now word) }
 {
     match ty {
         ValueType::Number(_) => append_low(text, size_of_value(ty), word)?,
@@ -216,7 +216,7 @@ fn row_text<M: Memory>(
     name: &[u8],
 ) -> Result<Vec<u8>, NoMemory>
     requires { AreNear bits.first bits.width }
-    ensures { IfOk result (λ text. text.items ≡ row_text h.now (state_of machine.now).memory (state_of machine.now).objects at bits.width bits.first ty.now name.now) }
+    ensures { IfOk result (λ text. text.items ≡ raw_leaf_text h.now (state_of machine.now).memory (state_of machine.now).objects at bits.width bits.first ty.now name.now) }
 {
     let mut text = Vec::new(alloc);
     append_read(alloc, &mut text, machine, ty, at, bits)?;

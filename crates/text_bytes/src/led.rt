@@ -2,10 +2,10 @@
 
 ghost use Rattle.std.specs.Prelude.{◌≡◌, ◌++◌, ◌<◌, IfOk, OnOk, map};
 ghost use Rattle.byte_machine.specs.Effects.{bytes_before};
-ghost use Rattle.byte_machine.specs.MachineState.{image_of, state_of};
+ghost use Rattle.byte_machine.specs.MachineState.{machine_image, state_of};
 ghost use Rattle.byte_machine.specs.Running.{table_word};
-ghost use Rattle.abi_print.specs.TableTexts.{name_in};
-ghost use Rattle.text_bytes.specs.RawDumps.{behind_top, class_in, class_text, led_item, led_text};
+ghost use Rattle.abi_print.specs.TableTexts.{optional_class_name};
+ghost use Rattle.text_bytes.specs.RawDumps.{behind_top, class_of_info, class_name_text, led_item, led_text};
 
 use abi_print::text::{append, append_class};
 use byte_machine::Machine;
@@ -19,7 +19,7 @@ use text_told::pointers::TablePointer;
 /// The word that stands so many bytes behind the address point to which the virtual pointer at an address leads, where one is read.
 #[tactic(auto, unfolding(byte_machine::specs::Running::table_of))]
 fn table_word<M: Memory>(machine: &Machine<M>, at: u64, bytes: u64) -> Option<u64>
-    ensures { result ≡ table_word (image_of machine.now) (state_of machine.now).memory at bytes }
+    ensures { result ≡ table_word (machine_image machine.now) (state_of machine.now).memory at bytes }
 {
     match machine.memory().load(at, 8) {
         Ok(table) => machine.image().number(table.wrapping_add(bytes)),
@@ -30,7 +30,7 @@ fn table_word<M: Memory>(machine: &Machine<M>, at: u64, bytes: u64) -> Option<u6
 /// The word that stands so many bytes before it.
 fn word_before<M: Memory>(machine: &Machine<M>, at: u64, bytes: u64) -> Option<u64>
     requires { 0 < bytes }
-    ensures { result ≡ table_word (image_of machine.now) (state_of machine.now).memory at (bytes_before bytes) }
+    ensures { result ≡ table_word (machine_image machine.now) (state_of machine.now).memory at (bytes_before bytes) }
 {
     table_word(machine, at, 0u64.wrapping_sub(bytes))
 }
@@ -56,14 +56,14 @@ fn append_behind(
 
 /// The number of a class at the begin of its type information.
 fn class_at<M: Memory>(machine: &Machine<M>, info: Option<u64>) -> Option<u64>
-    ensures { result ≡ class_in (image_of machine.now) info }
+    ensures { result ≡ class_of_info (machine_image machine.now) info }
 {
     machine.image().number(info?)
 }
 
 /// Puts the name of the class of a number at the end of a text.
 fn append_numbered(text: &mut Vec<u8>, h: &Hierarchy, class: Option<u64>) -> Result<(), NoMemory>
-    ensures { OnOk result (text.new.items ≡ text.old.items ++ class_text h.now class) }
+    ensures { OnOk result (text.new.items ≡ text.old.items ++ class_name_text h.now class) }
 {
     match class {
         None => append(text, b"?")?,
@@ -78,7 +78,7 @@ fn append_numbered(text: &mut Vec<u8>, h: &Hierarchy, class: Option<u64>) -> Res
 
 /// Puts the name of a class at the end of a text, where there is one.
 fn append_named(text: &mut Vec<u8>, h: &Hierarchy, class: Option<ClassId>) -> Result<(), NoMemory>
-    ensures { OnOk result (text.new.items ≡ text.old.items ++ name_in h.now class) }
+    ensures { OnOk result (text.new.items ≡ text.old.items ++ optional_class_name h.now class) }
 {
     match class {
         None => {}
@@ -95,7 +95,7 @@ fn led_text<M: Memory>(
     at: u64,
     class: Option<ClassId>,
 ) -> Result<Vec<u8>, NoMemory>
-    ensures { IfOk result (λ text. text.items ≡ led_text h.now (image_of machine.now) (state_of machine.now).memory at class) }
+    ensures { IfOk result (λ text. text.items ≡ led_text h.now (machine_image machine.now) (state_of machine.now).memory at class) }
 {
     let mut text = Vec::new(alloc);
     append(&mut text, b"vptr ")?;
@@ -115,7 +115,7 @@ fn led_item<M: Memory>(
     start: u64,
     pointer: TablePointer,
 ) -> Result<Item, NoMemory>
-    ensures { IfOk result (λ item. item ≡ led_item h.now (image_of machine.now) (state_of machine.now).memory start pointer) }
+    ensures { IfOk result (λ item. item ≡ led_item h.now (machine_image machine.now) (state_of machine.now).memory start pointer) }
 {
     let at = start.wrapping_add(pointer.place as u64);
     let text = led_text(alloc, h, machine, at, pointer.class)?;
@@ -138,7 +138,7 @@ pub(crate) fn push_led<M: Memory>(
     start: u64,
     pointers: &[TablePointer],
 ) -> Result<(), NoMemory>
-    ensures { OnOk result (items.new.items ≡ items.old.items ++ map (led_item h.now (image_of machine.now) (state_of machine.now).memory start) pointers.now) }
+    ensures { OnOk result (items.new.items ≡ items.old.items ++ map (led_item h.now (machine_image machine.now) (state_of machine.now).memory start) pointers.now) }
 {
     for pointer in pointers {
         items.push(led_item(alloc, h, machine, start, *pointer)?)?;

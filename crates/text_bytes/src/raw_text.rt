@@ -2,10 +2,10 @@
 
 ghost use Rattle.std.specs.Prelude.{◌≡◌, ◌++◌, ◌∷◌, [], IfOk, OnErr, OnOk, codes};
 ghost use Rattle.abi_sound.specs.Places.{places_of};
-ghost use Rattle.byte_machine.specs.MachineState.{image_of, state_of};
-ghost use Rattle.abi_print.specs.LayoutTexts.{name_of};
+ghost use Rattle.byte_machine.specs.MachineState.{machine_image, state_of};
+ghost use Rattle.abi_print.specs.LayoutTexts.{declared_class_name};
 ghost use Rattle.text_bytes.specs.RawDumps.{address_text};
-ghost use Rattle.text_bytes.specs.RawTexts.{HasText, function_at, function_in, is_traced, raw_line, raw_text};
+ghost use Rattle.text_bytes.specs.RawTexts.{HasText, function_at_block, function_name_text, is_raw_traced, raw_line, raw_text};
 
 use crate::called::CalledFunctions;
 use crate::dump::append_raw_dump;
@@ -25,7 +25,7 @@ fn append_function_at(
     h: &Hierarchy,
     function: Option<FunctionId>,
 ) -> Result<(), NoMemory>
-    ensures { OnOk result (text.new.items ≡ text.old.items ++ function_in h.now function) }
+    ensures { OnOk result (text.new.items ≡ text.old.items ++ function_name_text h.now function) }
 {
     match function {
         None => {}
@@ -44,7 +44,7 @@ fn append_call<M: Memory>(
     block: u32,
     this: u64,
 ) -> Result<(), NoMemory>
-    ensures { OnOk result (text.new.items ≡ text.old.items ++ codes "call " ++ function_in h.now (function_at called.now block) ++ codes " " ++ address_text (state_of machine.now).objects this) }
+    ensures { OnOk result (text.new.items ≡ text.old.items ++ codes "call " ++ function_name_text h.now (function_at_block called.now block) ++ codes " " ++ address_text (state_of machine.now).objects this) }
 {
     append(text, b"call ")?;
     append_function_at(text, h, called.function(block))?;
@@ -63,7 +63,7 @@ fn append_event<M: Memory>(
     class: ClassId,
     at: u64,
 ) -> Result<(), NoMemory>
-    ensures { OnOk result (text.new.items ≡ text.old.items ++ event.now ++ name_of h.now class ++ codes " " ++ address_text (state_of machine.now).objects at) }
+    ensures { OnOk result (text.new.items ≡ text.old.items ++ event.now ++ declared_class_name h.now class ++ codes " " ++ address_text (state_of machine.now).objects at) }
 {
     append(text, event)?;
     append_class(text, h, class)?;
@@ -84,7 +84,7 @@ fn append_told<M: Memory, L: SoundLayout>(
 ) -> Result<(), NoMemory>
     requires layout { L.lays_out layout.now h.now }
     requires has_text { HasText h.now (state_of machine.now).objects raw }
-    ensures { OnOk result (text.new.items ≡ text.old.items ++ raw_line h.now (places_of h.now (L.rows layout.now)) called.now (image_of machine.now) (state_of machine.now).memory (state_of machine.now).objects raw) }
+    ensures { OnOk result (text.new.items ≡ text.old.items ++ raw_line h.now (places_of h.now (L.rows layout.now)) called.now (machine_image machine.now) (state_of machine.now).memory (state_of machine.now).objects raw) }
 {
     match raw {
         RawOut::Number(number) => append_signed(alloc, text, number),
@@ -116,7 +116,7 @@ pub fn append_raw<M: Memory, L: SoundLayout>(
 ) -> Result<(), NoMemory>
     requires layout { L.lays_out layout.now h.now }
     requires has_text { HasText h.now (state_of machine.now).objects raw }
-    ensures ok { OnOk result (text.new.items ≡ text.old.items ++ raw_text h.now (places_of h.now (L.rows layout.now)) called.now (image_of machine.now) (state_of machine.now).memory (state_of machine.now).objects raw) }
+    ensures ok { OnOk result (text.new.items ≡ text.old.items ++ raw_text h.now (places_of h.now (L.rows layout.now)) called.now (machine_image machine.now) (state_of machine.now).memory (state_of machine.now).objects raw) }
     ensures err { OnErr result (text.new.items ≡ text.old.items) }
 {
     let mut line = Vec::new(alloc);
@@ -128,7 +128,7 @@ pub fn append_raw<M: Memory, L: SoundLayout>(
 
 /// Whether it is told in a trace alone: a call of a member function, the end of a construction, the begin of a destruction.
 pub fn is_traced(raw: RawOut) -> bool
-    ensures { result ≡ is_traced raw }
+    ensures { result ≡ is_raw_traced raw }
 {
     matches!(
         raw,

@@ -20,27 +20,27 @@ use Rattle.cxx_subobject.specs.Locations.{IsElement, LeadsTo, to_subobject, to_v
 use Rattle.cxx_subobject.proofs.PathLemmas.{class_low, class_inside}
 use Rattle.abi_sound.specs.declared.class_layout.ClassLayout.{ClassLayout}
 use Rattle.abi_sound.specs.Places.{places_of, size_of_value}
-use Rattle.abi_sound.specs.Locations.{bits_of_member, bits_of_type, bits_of_value, class_in, class_of_type, element_class, last_member, place_at, span_of}
+use Rattle.abi_sound.specs.Locations.{bits_of_member, bits_of_type, bits_of_value, class_of_member, class_of_type, element_class, last_member, place_along_hops, span_of}
 use Rattle.abi_sound.specs.Sound.{IsAligned, IsSoundLayout}
 use Rattle.cxx_hierarchy.specs.declared.records.Member.{Member}
 use Rattle.cxx_subobject.proofs.LocationLemmas.{element_low}
-use Rattle.text_told.specs.Fields.{first_of, member_at, width_of}
+use Rattle.text_told.specs.Fields.{first_value_bit, member_at, bit_field_width}
 use Rattle.text_told.specs.Dumps.{bytes_touched}
-use Rattle.text_told.specs.invariants.Leading.{GoAlong, IsKnown}
+use Rattle.text_told.specs.invariants.Leading.{AreKnownHops, IsKnownClass}
 
-pub known_class : (h : Classes) → IsHierarchy h → (c : ClassId) (s : Subobject) → c.0 < length h → IsSubobject h c s → IsKnown h (class_of s)
+pub known_class : (h : Classes) → IsHierarchy h → (c : ClassId) (s : Subobject) → c.0 < length h → IsSubobject h c s → IsKnownClass h (class_of s)
 known_class h keeps c s known valid = by_class (class_of s) refl
   where
-    by_class : (o : Option ClassId) → class_of s ≡ o → IsKnown h o
+    by_class : (o : Option ClassId) → class_of s ≡ o → IsKnownClass h o
     by_class None e = tt
     by_class (Some d) e = class_inside h keeps c d s known valid e
 
 -- what an element of a member is, by its type
 pub element_is : (h : Classes) (d : ClassId) (m i : ℕ) (type : FieldType ClassId) → IsElement h d m i type → element_class h (Some d) m ≡ class_of_type type
-element_is h d m i type element = ap class_in element.there ∙ ap class_of_type element.type_is
+element_is h d m i type element = ap class_of_member element.there ∙ ap class_of_type element.type_is
 
 -- hops that lead to something go along
-pub go_along : (h : Classes) → IsHierarchy h → (c : ClassId) (hops : List Hop) (type : FieldType ClassId) → c.0 < length h → LeadsTo h c hops type → GoAlong h (Some c) hops
+pub go_along : (h : Classes) → IsHierarchy h → (c : ClassId) (hops : List Hop) (type : FieldType ClassId) → c.0 < length h → LeadsTo h c hops type → AreKnownHops h (Some c) hops
 go_along h keeps _ _ _ known (to_subobject c d s valid class) = ((known, valid), tt)
 go_along h keeps _ _ _ known (to_value c d s m i type valid class element) = ((known, valid), (known_class h keeps c s known valid, tt))
 go_along h keeps _ _ _ known (to_inner c d b s m i hops type valid class element leads) =
@@ -48,7 +48,7 @@ go_along h keeps _ _ _ known (to_inner c d b s m i hops type valid class element
     let low : d.0 ≤ c.0 = class_low h keeps c d s valid class in
     let lower : b.0 < d.0 = element_low h keeps d b m i element in
     let inside : b.0 < length h = omega arith in
-    ((known, valid), (known_class h keeps c s known valid, subst (λ (o : Option ClassId). GoAlong h o hops) (sym e) (go_along h keeps b hops type inside leads)))
+    ((known, valid), (known_class h keeps c s known valid, subst (λ (o : Option ClassId). AreKnownHops h o hops) (sym e) (go_along h keeps b hops type inside leads)))
 
 some_scalar : (t : Scalar) → 1 ≤ size_of t
 some_scalar TheBool = omega arith
@@ -169,28 +169,28 @@ some_bits h keeps d m i type is =
     by_width (Some n) e = (width_near h keeps d m n e).0
 
 -- a class subobject begins before the end of the object
-pub object_inside : (h : Classes) (rows : List ClassLayout) → IsSoundLayout h rows → (c d : ClassId) (hops : List Hop) → c.0 < length h → LeadsTo h c hops (Object d) → place_at h (places_of h rows) c hops < (places_of h rows).size c
+pub object_inside : (h : Classes) (rows : List ClassLayout) → IsSoundLayout h rows → (c d : ClassId) (hops : List Hop) → c.0 < length h → LeadsTo h c hops (Object d) → place_along_hops h (places_of h rows) c hops < (places_of h rows).size c
 object_inside h rows sound c d hops known leads = (sound.each c known).begins_inside d hops leads
 
-pub object_below : (h : Classes) (rows : List ClassLayout) → IsSoundLayout h rows → (c d : ClassId) (hops : List Hop) → c.0 < length h → LeadsTo h c hops (Object d) → place_at h (places_of h rows) c hops < 1048576
+pub object_below : (h : Classes) (rows : List ClassLayout) → IsSoundLayout h rows → (c d : ClassId) (hops : List Hop) → c.0 < length h → LeadsTo h c hops (Object d) → place_along_hops h (places_of h rows) c hops < 1048576
 object_below h rows sound c d hops known leads =
     let ends = object_inside h rows sound c d hops known leads in
     let most = (sound.each c known).bounded in omega arith
 
 -- and so does all that hops lead to
 pub ends_inside : (h : Classes) (rows : List ClassLayout) → IsHierarchy h → IsSoundLayout h rows → (c : ClassId) (hops : List Hop) (type : FieldType ClassId) → c.0 < length h → LeadsTo h c hops type →
-    place_at h (places_of h rows) c hops < (places_of h rows).size c
+    place_along_hops h (places_of h rows) c hops < (places_of h rows).size c
 ends_inside h rows keeps sound c hops (Object d) known leads = object_inside h rows sound c d hops known leads
 ends_inside h rows keeps sound c hops (Value type) known leads =
     let l = places_of h rows in
     let e = ends_in h c hops type leads in
-    let place = place_at h l c hops in
+    let place = place_along_hops h l c hops in
     let ends : 8 * place + l.first e.class e.member + bits_of_member (slice_get (members_of h e.class) e.member) ≤ 8 * l.size c =
     subst (λ (o : Option (ClassId × ℕ)). (span_of h l place o).start + (span_of h l place o).length ≤ 8 * l.size c) e.last ((sound.each c known).leaf_inside type hops leads) in
     let some = some_bits h keeps e.class e.member e.index type e.element in omega arith
 
 pub ends_below : (h : Classes) (rows : List ClassLayout) → IsHierarchy h → IsSoundLayout h rows → (c : ClassId) (hops : List Hop) (type : FieldType ClassId) → c.0 < length h → LeadsTo h c hops type →
-    place_at h (places_of h rows) c hops < 1048576
+    place_along_hops h (places_of h rows) c hops < 1048576
 ends_below h rows keeps sound c hops type known leads =
     let ends = ends_inside h rows keeps sound c hops type known leads in
     let most = (sound.each c known).bounded in omega arith
@@ -201,12 +201,12 @@ aligned_near None type place first is = let none = is.1 in (omega arith, λ t. l
 aligned_near (Some n) type place first is = (is.0, λ t. is.1)
 
 pub leaf_near : (h : Classes) (rows : List ClassLayout) → IsSoundLayout h rows → (c : ClassId) (hops : List Hop) (type : ValueType ClassId) → c.0 < length h → LeadsTo h c hops (Value type) →
-    (first_of (places_of h rows) (last_member h (Some c) hops) < 8) × ((t : ValueType ClassId) → first_of (places_of h rows) (last_member h (Some c) hops) + bits_of_value (width_of h (last_member h (Some c) hops)) t ≤ 64)
+    (first_value_bit (places_of h rows) (last_member h (Some c) hops) < 8) × ((t : ValueType ClassId) → first_value_bit (places_of h rows) (last_member h (Some c) hops) + bits_of_value (bit_field_width h (last_member h (Some c) hops)) t ≤ 64)
 leaf_near h rows sound c hops type known leads =
     let l = places_of h rows in
     let e = ends_in h c hops type leads in
-    subst (λ (o : Option (ClassId × ℕ)). (first_of l o < 8) × ((t : ValueType ClassId) → first_of l o + bits_of_value (width_of h o) t ≤ 64)) (sym e.last)
-    (aligned_near (width_of_member h e.class e.member) type (place_at h l c hops) (l.first e.class e.member) ((sound.each c known).aligned type hops e.class e.member leads e.last))
+    subst (λ (o : Option (ClassId × ℕ)). (first_value_bit l o < 8) × ((t : ValueType ClassId) → first_value_bit l o + bits_of_value (bit_field_width h o) t ≤ 64)) (sym e.last)
+    (aligned_near (width_of_member h e.class e.member) type (place_along_hops h l c hops) (l.first e.class e.member) ((sound.each c known).aligned type hops e.class e.member leads e.last))
 
 -- so it has bits in 8 bytes at most
 pub few_touched : (first bits : ℕ) → first + bits ≤ 64 → bytes_touched first bits ≤ 8

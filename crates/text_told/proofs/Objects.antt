@@ -24,8 +24,8 @@ use Rattle.cxx_subobject.proofs.PathLemmas.{class_low, class_inside}
 use Rattle.cxx_subobject.proofs.TreeLemmas.{has_preorder}
 use Rattle.abi_primary.specs.Kinds.{IsDynamic}
 use Rattle.abi_sound.specs.declared.class_layout.ClassLayout.{ClassLayout}
-use Rattle.abi_sound.specs.Places.{Places, places_of, number_in, members_in}
-use Rattle.abi_sound.specs.Locations.{element_class, element_place, place_at, place_behind, stride_in, size_of_type}
+use Rattle.abi_sound.specs.Places.{Places, places_of, place_or_zero, member_places_in}
+use Rattle.abi_sound.specs.Locations.{element_class, element_place, place_along_hops, place_behind, stride_in, size_of_type}
 use Rattle.abi_sound.specs.Sound.{IsSoundLayout}
 use Rattle.abi_slots.specs.Views.{by_part, heads, is_dynamic, is_dynamic_class, is_first, is_head}
 use Rattle.abi_slots.proofs.Dynamics.{dynamic_whole}
@@ -33,7 +33,7 @@ use Rattle.abi_slots.proofs.Heads.{test_dynamic}
 use Rattle.abi_slots.proofs.HeadsOnce.{part_valid}
 use Rattle.text_told.specs.declared.pointers.TablePointer.{TablePointer}
 use Rattle.text_told.specs.declared.pointers.MemberObjects.{MemberObjects}
-use Rattle.text_told.specs.Pointers.{whole_view, pointer_at, own_pointers, objects_by_type, objects_by_member, objects_in, member_objects, moved, pointers_in, pointers_within}
+use Rattle.text_told.specs.Pointers.{whole_view, table_pointer_at, own_pointers, objects_by_type, objects_by_member, objects_in, member_objects, moved_pointer, pointers_in, pointers_within}
 use Rattle.text_told.proofs.Leading.{element_is, ends_below, object_below, object_inside}
 
 -- the numbers of a range are below its end
@@ -93,11 +93,11 @@ are_members h l c x has =
 
 -- the place of what lies in an element, behind the hops to it
 inner_place : (h : Classes) (l : Places) (c : ClassId) (x : MemberObjects) (of : AreMembers h l c x) (i : ℕ) (hops : List Hop) → i < x.count →
-    place_at h l c (Inherit of.sub ∷ MemberHop of.member i ∷ hops) ≡ (x.place + i * l.size x.class) + place_at h l x.class hops
+    place_along_hops h l c (Inherit of.sub ∷ MemberHop of.member i ∷ hops) ≡ (x.place + i * l.size x.class) + place_along_hops h l x.class hops
 inner_place h l c x of i hops lt =
     let e : element_place h l (class_of of.sub) of.member i ≡ l.member of.owner of.member + i * l.size x.class = ap (λ o. element_place h l o of.member i) of.class ∙ ap (λ k. l.member of.owner of.member + i * k) of.stride in
     let k : element_class h (class_of of.sub) of.member ≡ Some x.class = ap (λ o. element_class h o of.member) of.class ∙ element_is h of.owner of.member i (Object x.class) (of.element i lt) in
-    let r : place_behind h l (element_class h (class_of of.sub) of.member) hops ≡ place_at h l x.class hops = ap (λ o. place_behind h l o hops) k in
+    let r : place_behind h l (element_class h (class_of of.sub) of.member) hops ≡ place_along_hops h l x.class hops = ap (λ o. place_behind h l o hops) k in
     let at : x.place ≡ l.place c of.sub + l.member of.owner of.member = of.at in
     omega arith
 
@@ -124,9 +124,9 @@ objects_lower h keeps l c x has =
     let low : x.class.0 < of.owner.0 = keeps.objects of.owner x.class of.declared (contains_at (members_of h of.owner) of.member of.declared of.there) of.is in
     let up : of.owner.0 ≤ c.0 = class_low h keeps c of.owner of.sub of.valid of.class in omega arith
 
-row_there : (rows : List ClassLayout) (n m : ℕ) → (o : Option ClassLayout) → slice_get rows n ≡ o → n < length rows → ((row : ClassLayout) → slice_get rows n ≡ Some row → length row.member_places ≤ m) → number_in (slice_get (members_in o) m) ≡ 0
+row_there : (rows : List ClassLayout) (n m : ℕ) → (o : Option ClassLayout) → slice_get rows n ≡ o → n < length rows → ((row : ClassLayout) → slice_get rows n ≡ Some row → length row.member_places ≤ m) → place_or_zero (slice_get (member_places_in o) m) ≡ 0
 row_there rows n m None e lt rule = absurd (let le : length rows ≤ n = get_none rows n e in omega arith)
-row_there rows n m (Some row) e lt rule = ap number_in (slice_get_past row.member_places m (rule row e))
+row_there rows n m (Some row) e lt rule = ap place_or_zero (slice_get_past row.member_places m (rule row e))
 
 no_member : (h : Classes) (rows : List ClassLayout) → IsSoundLayout h rows → (b : ClassId) → b.0 < length h → (m : ℕ) → slice_get (members_of h b) m ≡ None → (places_of h rows).member b m ≡ 0
 no_member h rows sound b inside m there =
@@ -202,13 +202,13 @@ pub record LeadsThere (h : Classes) (l : Places) (c : ClassId) (place : ℕ) : T
   pub hops : List Hop
   pub class : ClassId
   pub leads : LeadsTo h c hops (Object class)
-  pub at : place_at h l c hops ≡ place
+  pub at : place_along_hops h l c hops ≡ place
 
 own_there : (h : Classes) (l : Places) (c : ClassId) (s : Subobject) → IsSubobject h c s → (o : Option ClassId) → class_of s ≡ o → LeadsThere h l c (l.place c s)
 own_there h l c s valid None e = absurd (some_class h c s valid e)
 own_there h l c s valid (Some d) e = record { hops = Inherit s ∷ []; class = d; leads = to_subobject c d s valid e; at = omega arith }
 
-from_own : (h : Classes) (l : Places) (c : ClassId) (p : TablePointer) → ((s : Subobject) × Has (heads h l (whole_view c)) s × (pointer_at l c s ≡ p)) → LeadsThere h l c p.place
+from_own : (h : Classes) (l : Places) (c : ClassId) (p : TablePointer) → ((s : Subobject) × Has (heads h l (whole_view c)) s × (table_pointer_at l c s ≡ p)) → LeadsThere h l c p.place
 from_own h l c p f = subst (λ (q : TablePointer). LeadsThere h l c q.place) f.2 (own_there h l c f.0 (head_valid h l c f.0 f.1) (class_of f.0) refl)
 
 moved_there : (h : Classes) (l : Places) (c : ClassId) (x : MemberObjects) → AreMembers h l c x → (i : ℕ) → i < x.count → (place : ℕ) → LeadsThere h l x.class place → LeadsThere h l c ((x.place + i * l.size x.class) + place)
@@ -224,15 +224,15 @@ from_more : (h : Classes) (l : Places) (inside : ClassId → List TablePointer) 
 from_more h l inside rule c p has =
     let f = from_flat_map (pointers_in l inside) (member_objects h l c) p has in
     let x = f.0 in
-    let g = from_flat_map (λ i. map (moved (x.place + i * l.size x.class)) (inside x.class)) (range_with_len 0 x.count) p f.2 in
-    let q = from_map (moved (x.place + g.0 * l.size x.class)) (inside x.class) p g.2 in
+    let g = from_flat_map (λ i. map (moved_pointer (x.place + i * l.size x.class)) (inside x.class)) (range_with_len 0 x.count) p f.2 in
+    let q = from_map (moved_pointer (x.place + g.0 * l.size x.class)) (inside x.class) p g.2 in
     let lt : g.0 < 0 + x.count = range_has 0 x.count g.0 g.1 in
     subst (λ (r : TablePointer). LeadsThere h l c r.place) q.2 (moved_there h l c x (are_members h l c x f.1) g.0 (omega arith) q.0.place (rule x.class q.0 q.1))
 
 pub pointer_there : (h : Classes) (l : Places) (n : ℕ) (c : ClassId) (p : TablePointer) → Has (pointers_within h l n c) p → LeadsThere h l c p.place
 pointer_there h l zero c p has = absurd has
 pointer_there h l (suc n) c p has = ⊎_elim
-    (λ own. from_own h l c p (from_map (pointer_at l c) (heads h l (whole_view c)) p own))
+    (λ own. from_own h l c p (from_map (table_pointer_at l c) (heads h l (whole_view c)) p own))
     (λ more. from_more h l (pointers_within h l n) (λ d q at. pointer_there h l n d q at) c p more)
     (has_cases (own_pointers h l c) (flat_map (pointers_in l (pointers_within h l n)) (member_objects h l c)) p has)
 

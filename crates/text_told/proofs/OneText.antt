@@ -14,14 +14,14 @@ use Rattle.cxx_program.specs.declared.program.TypedProgram.{TypedProgram}
 use Rattle.path_plan.specs.Plans.{count_from, upto}
 use Rattle.path_model.specs.declared.outs.Out.{Out}
 use Rattle.path_model.specs.declared.outs.Out.TheVariants.{Number, Pointer, TypeName, Dump, Call, Built, Ending}
-use Rattle.path_model.specs.States.{State}
-use Rattle.path_model.specs.Runs.{Done, IsLimited, IsOver, IsRefused, IsRunning, IsWrong, LimitMet, Move, Moves, OutOfSteps, Ran, behind, is_taken, move, outs_at, outs_in, ran_by, run_from, run_of, state_at, state_behind}
+use Rattle.path_model.specs.States.{ProgramState}
+use Rattle.path_model.specs.Runs.{Done, IsLimited, IsOver, IsRefused, IsRunning, IsWrong, LimitMet, Move, Moves, OutOfSteps, Ran, behind, is_step_taken, move, outs_at, outs_in, ran_by, run_from, run_of, state_at, state_behind}
 use Rattle.path_model.proofs.RunLaws.{run_on, runs_alike}
 use Rattle.abi_sound.specs.Places.{Places}
 use Rattle.path_model.specs.Outs.{is_traced}
 use Rattle.text_told.specs.OutTexts.{out_text, printed, text_of}
-use Rattle.text_told.specs.Layouts.{HasNoPlace}
-use Rattle.text_told.specs.Told.{passes, text_at, text_limit, told, told_by}
+use Rattle.text_told.specs.Layouts.{TellsNoPlace}
+use Rattle.text_told.specs.Told.{passes_text_limit, text_at, text_limit, told, told_by}
 use Rattle.text_told.proofs.Ends.{run_front}
 
 -- the steps of a run, as budgets
@@ -56,8 +56,8 @@ module _ (h : Classes) (sizes : ClassId → ℕ) (program : TypedProgram) where
         free = λ limit met. one_free (move h sizes program (state_at h sizes program a)) lt limit (sym (ap (λ (r : Ran). r.ending) on) ∙ met);
       }
 
-  running_more : (a : ℕ) → IsRunning h sizes program a → is_taken (move h sizes program (state_at h sizes program a)) ≡ true → IsRunning h sizes program (suc a)
-  running_more a running here k less = ⊎_elim (λ (low : k < a). running k low) (λ high. let same : k ≡ a = omega (arith, less, high) in ap (λ (n : ℕ). is_taken (move h sizes program (state_at h sizes program n))) same ∙ here) (cases_lt k a)
+  running_more : (a : ℕ) → IsRunning h sizes program a → is_step_taken (move h sizes program (state_at h sizes program a)) ≡ true → IsRunning h sizes program (suc a)
+  running_more a running here k less = ⊎_elim (λ (low : k < a). running k low) (λ high. let same : k ≡ a = omega (arith, less, high) in ap (λ (n : ℕ). is_step_taken (move h sizes program (state_at h sizes program n))) same ∙ here) (cases_lt k a)
 
   first_through : (a : ℕ) (x : Move) → IsRunning h sizes program a → move h sizes program (state_at h sizes program a) ≡ x → 0 < (ran_by x (run_from h sizes program 0)).steps → GoesThrough (suc (a + 0))
   first_through a x running is lt =
@@ -71,7 +71,7 @@ module _ (h : Classes) (sizes : ClassId → ℕ) (program : TypedProgram) where
       let here : s ≡ state_at h sizes program (suc a) = sym (ap (λ (x : Move). state_behind x (state_at h sizes program a)) is) in
       let less : j < (run_from h sizes program m s).steps = omega (arith, lt) in
       let next : suc a + j ≡ a + suc j = omega arith in
-      subst (λ (n : ℕ). GoesThrough (suc n)) next (rule j (running_more a running (ap is_taken is)) (subst (λ (x : State). j < (run_from h sizes program m x).steps) here less))
+      subst (λ (n : ℕ). GoesThrough (suc n)) next (rule j (running_more a running (ap is_step_taken is)) (subst (λ (x : ProgramState). j < (run_from h sizes program m x).steps) here less))
   through_by m a j rule running (IsRefused rule_met line) is lt = absurd (omega (arith, lt))
   through_by m a j rule running (IsLimited limit) is lt = absurd (omega (arith, lt))
   through_by m a zero rule running IsOver is lt = first_through a IsOver running is (omega arith)
@@ -104,7 +104,7 @@ find_below p a (suc n) k e = split (p a) (λ b. (if b then Some a else find p (c
 
 -- texts without places
 
-plain_out : (h : Classes) (one other : Places) (out : Out) → HasNoPlace out → out_text h one out ≡ out_text h other out
+plain_out : (h : Classes) (one other : Places) (out : Out) → TellsNoPlace out → out_text h one out ≡ out_text h other out
 plain_out h one other (Number z) plain = refl
 plain_out h one other (Pointer at_part) plain = absurd plain
 plain_out h one other (TypeName c) plain = refl
@@ -113,7 +113,7 @@ plain_out h one other (Call f at_part) plain = absurd plain
 plain_out h one other (Built c at_part) plain = absurd plain
 plain_out h one other (Ending c at_part) plain = absurd plain
 
-plain_text : (h : Classes) (one other : Places) (outs : List Out) → ((out : Out) → Has outs out → HasNoPlace out) → text_of h one outs ≡ text_of h other outs
+plain_text : (h : Classes) (one other : Places) (outs : List Out) → ((out : Out) → Has outs out → TellsNoPlace out) → text_of h one outs ≡ text_of h other outs
 plain_text h one other outs plain = flat_map_same (out_text h one) (out_text h other) outs (λ out has. plain_out h one other out (plain out has))
 
 -- what is printed of a front is printed of the whole
@@ -122,11 +122,11 @@ front_printed front rest all out is has =
     let here = has_filter (λ x. not (is_traced x)) front out has in
     filter_has (λ x. not (is_traced x)) all out (subst (λ (xs : List Out). Has xs out) (sym is) (has_left front rest out here.0)) here.1
 
-module _ (h : Classes) (one other : Places) (program : TypedProgram) (steps : ℕ) (one_fits : (run_of h one.size program steps).ending ≡ LimitMet L8 → ⊥) (other_fits : (run_of h other.size program steps).ending ≡ LimitMet L8 → ⊥) (plain : (out : Out) → Contains (printed (run_of h one.size program steps).outs) out → HasNoPlace out) where
+module _ (h : Classes) (one other : Places) (program : TypedProgram) (steps : ℕ) (one_fits : (run_of h one.size program steps).ending ≡ LimitMet L8 → ⊥) (other_fits : (run_of h other.size program steps).ending ≡ LimitMet L8 → ⊥) (plain : (out : Out) → Contains (printed (run_of h one.size program steps).outs) out → TellsNoPlace out) where
   same : run_of h one.size program steps ≡ run_of h other.size program steps
   same = runs_alike h one.size other.size program steps one_fits other_fits
 
-  plain_run : (out : Out) → Has (printed (run_of h one.size program steps).outs) out → HasNoPlace out
+  plain_run : (out : Out) → Has (printed (run_of h one.size program steps).outs) out → TellsNoPlace out
   plain_run out has = plain out (contains_from_has (printed (run_of h one.size program steps).outs) out has)
 
   outs_same : (j : ℕ) → j < (run_of h one.size program steps).steps → outs_at h one.size program (suc j) ≡ outs_at h other.size program (suc j)
@@ -144,19 +144,19 @@ module _ (h : Classes) (one other : Places) (program : TypedProgram) (steps : �
       plain_text h one other (printed (outs_at h one.size program (suc j))) (λ out has. plain_run out (front_printed (outs_at h one.size program (suc j)) front.0 (run_of h one.size program steps).outs out front.1 has))
       ∙ ap (λ (os : List Out). text_of h other (printed os)) (outs_same j lt)
 
-  passes_same : (j : ℕ) → j < (run_of h one.size program steps).steps → passes h one program false j ≡ passes h other program false j
+  passes_same : (j : ℕ) → j < (run_of h one.size program steps).steps → passes_text_limit h one program false j ≡ passes_text_limit h other program false j
   passes_same j lt =
       let more : suc j ≡ j + 1 = omega arith in
       ap (λ (t : List ℕ). nat_lt text_limit (length t)) (subst (λ (n : ℕ). text_at h one program false n ≡ text_at h other program false n) more (text_same (suc j) (omega (arith, lt))))
 
-  found_same : (o : Option ℕ) → find (passes h one program false) (upto (run_of h one.size program steps).steps) ≡ o → told_by h one program false (run_of h one.size program steps) o ≡ told_by h other program false (run_of h one.size program steps) o
+  found_same : (o : Option ℕ) → find (passes_text_limit h one program false) (upto (run_of h one.size program steps).steps) ≡ o → told_by h one program false (run_of h one.size program steps) o ≡ told_by h other program false (run_of h one.size program steps) o
   found_same None is = ap (λ (t : List ℕ). record { text = t; ending = (run_of h one.size program steps).ending }) (plain_text h one other (printed (run_of h one.size program steps).outs) plain_run)
   found_same (Some j) is =
-      let low = find_below (passes h one program false) 0 (run_of h one.size program steps).steps j is in
+      let low = find_below (passes_text_limit h one program false) 0 (run_of h one.size program steps).steps j is in
       ap (λ (t : List ℕ). record { text = t; ending = LimitMet L9 }) (text_same j (omega (arith, low)))
 
   pub one_text : told h one program false steps ≡ told h other program false steps
   one_text =
-      found_same (find (passes h one program false) (upto (run_of h one.size program steps).steps)) refl
-      ∙ (ap (told_by h other program false (run_of h one.size program steps)) (find_same (passes h one program false) (passes h other program false) 0 (run_of h one.size program steps).steps (λ j lt. passes_same j (omega (arith, lt))))
-      ∙ ap (λ (r : Ran). told_by h other program false r (find (passes h other program false) (upto r.steps))) same)
+      found_same (find (passes_text_limit h one program false) (upto (run_of h one.size program steps).steps)) refl
+      ∙ (ap (told_by h other program false (run_of h one.size program steps)) (find_same (passes_text_limit h one program false) (passes_text_limit h other program false) 0 (run_of h one.size program steps).steps (λ j lt. passes_same j (omega (arith, lt))))
+      ∙ ap (λ (r : Ran). told_by h other program false r (find (passes_text_limit h other program false) (upto r.steps))) same)

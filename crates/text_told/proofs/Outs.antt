@@ -14,7 +14,7 @@ use Rattle.path_model.specs.declared.outs.Out.{Out}
 use Rattle.path_model.specs.Values.{Value, Unset, Number, Null, Pointer, Leaf, Objects}
 use Rattle.path_model.specs.Outs.{location_of}
 use Rattle.path_model.specs.Uses.{view_of}
-use Rattle.path_model.specs.Effects.{value_out, part_out, part_at, view_out, class_out, type_of, type_out, object_out, dump_out}
+use Rattle.path_model.specs.Effects.{value_out, part_out, part_in_same_object, view_out, class_out, typeid_class, type_out, object_out, dump_out}
 use Rattle.path_model.specs.TypedStates.{IsLeafMade, IsPartMade, IsValue}
 use Rattle.path_model.proofs.TypedViews.{AreRunningParts, view_valid}
 use Rattle.text_told.specs.Fields.{NamesPart}
@@ -43,7 +43,7 @@ module _ (h : Classes) (x : Objects) (known : AreKnown h x.classes) where
   value_names (Pointer p) (NumberType t) a = absurd a
   value_names (Pointer p) (PointerType c) a = (part_names p c a, refl)
 
-  view_names_at : (runs : AreRunningParts h x) (p : ObjectPart) (c : ClassId) → IsPartMade h x.classes p c → (o : Option Subobject) → view_of h x p ≡ o → IfTold h (part_out x (part_at p o))
+  view_names_at : (runs : AreRunningParts h x) (p : ObjectPart) (c : ClassId) → IsPartMade h x.classes p c → (o : Option Subobject) → view_of h x p ≡ o → IfTold h (part_out x (part_in_same_object p o))
   view_names_at runs p c a None e = tt
   view_names_at runs p c a (Some view) e = (told_part h x (part p.object p.owner view) a.class (known p.object a.class a.made) a.made (a.inside.0, a.inside.1, view_valid h x runs p c a view e), refl)
 
@@ -61,7 +61,7 @@ module _ (h : Classes) (x : Objects) (known : AreKnown h x.classes) where
   type_names Unset = tt
   type_names (Number z) = tt
   type_names Null = tt
-  type_names (Pointer p) = class_names (type_of h x p)
+  type_names (Pointer p) = class_names (typeid_class h x p)
 
   module _ (leaves : (l : Leaf) (t : ValueType ClassId) → IsLeafMade h x.classes l t → IsValue h x.classes (x.leaf l) t) where
     leaf_names : (p : ObjectPart) (t : ValueType ClassId) → IsValue h x.classes (Pointer p) t → NamesPart h (location_of x p)

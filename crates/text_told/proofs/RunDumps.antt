@@ -26,7 +26,7 @@ use Rattle.path_model.specs.Values.{Leaf, Objects, Value, Unset, Number, Null, P
 use Rattle.path_model.specs.Outs.{class_or_first, dump_leaf, location_of, object_class, shown}
 use Rattle.path_model.specs.Places.{leaf, leaves_of, leaves_within, member_leaves, own_leaves, typed_leaves}
 use Rattle.text_told.specs.Fields.{NamesPart}
-use Rattle.text_told.specs.Dumps.{IsDumped, IsDumpedLeaf, NamesValue}
+use Rattle.text_told.specs.Dumps.{AreDumpedLeaves, IsDumpedLeaf, NamesValue}
 
 -- a leaf of the heap object k of class c
 pub record IsLeafOf (h : Classes) (c : ClassId) (k : ℕ) (l : Leaf) : Type 0 where
@@ -97,7 +97,7 @@ leaf_is h s k c l known made of value =
     }
 
 pub told_dump : (h : Classes) (s : Objects) (k : ℕ) (c : ClassId) → c.0 < length h → slice_get s.classes k ≡ Some c → ((l : Leaf) (p : ObjectPart) → Contains (leaves_of h c (whole_part k c)) l → s.leaf l ≡ Pointer p → NamesPart h (location_of s p)) →
-    IsDumped h c (map (dump_leaf s) (leaves_of h c (whole_part k c)))
+    AreDumpedLeaves h c (map (dump_leaf s) (leaves_of h c (whole_part k c)))
 told_dump h s k c known made rule = record {
   known = known;
   each = λ leaf has.

@@ -15,11 +15,11 @@ use Rattle.abi_sound.specs.Places.{Places}
 use Rattle.abi_slots.specs.Views.{View}
 use Rattle.abi_vtable.specs.declared.view.Part.{Part}
 use Rattle.abi_vtable.specs.declared.view.ViewParts.{ViewParts}
-use Rattle.abi_vtable.specs.invariants.Parts.{at_of, view_in}
+use Rattle.abi_vtable.specs.invariants.Parts.{at_of, view_of_parts}
 use Rattle.abi_vtable.proofs.Lists.{map_more, read_at}
 use Rattle.text_told.specs.declared.pointers.TablePointer.{TablePointer}
 use Rattle.text_told.specs.declared.pointers.MemberObjects.{MemberObjects}
-use Rattle.text_told.specs.Pointers.{member_objects, moved, objects_by_member, objects_by_type, own_pointers, pointers_in, pointers_within, whole_view}
+use Rattle.text_told.specs.Pointers.{member_objects, moved_pointer, objects_by_member, objects_by_type, own_pointers, pointers_in, pointers_within, whole_view}
 
 range_suc : {A : Type 0} (f : ℕ → List A) (a n : ℕ) → flat_map f (range_with_len a (suc n)) ≡ flat_map f (range_with_len a n) ++ f (a + n)
 range_suc f a zero = append-nil (f a) ∙ ap f (at_end a)
@@ -58,7 +58,7 @@ part_is parts slice list n part s same is there at =
 pub class_is : (x : ViewParts) (c : ClassId) → x.at ≡ whole_of c → class_of x.at ≡ Some x.class → x.class ≡ c
 class_is x c at class = let e : Some c ≡ Some x.class = sym (ap class_of at) ∙ class in cc
 
-pub view_is : (x : ViewParts) (c : ClassId) → x.complete ≡ c → x.at ≡ whole_of c → x.class ≡ c → view_in x ≡ whole_view c
+pub view_is : (x : ViewParts) (c : ClassId) → x.complete ≡ c → x.at ≡ whole_of c → x.class ≡ c → view_of_parts x ≡ whole_view c
 view_is x c complete at class =
     let make : ClassId → Subobject → ClassId → View = λ d s e. record { complete = d; at_sub = s; class = e } in
     let e : make x.complete x.at x.class ≡ make c (whole_of c) c = ap (λ d. make d x.at x.class) complete ∙ (ap (λ s. make c s x.class) at ∙ ap (λ d. make c (whole_of c) d) class) in e
@@ -89,11 +89,11 @@ all_pointers h l c (suc k) list items i le same rule lt = rule k (omega arith) �
 -- one member more
 pub pointers_more : (h : Classes) (l : Places) (c : ClassId) (n : ℕ) (list new inside : List TablePointer) (size : ℕ) (items : List MemberObjects) (i : ℕ) (d x : MemberObjects) → i < length items → x ≡ get_or items i d →
     list ≡ own_pointers h l c ++ flat_map (pointers_in l (pointers_within h l n)) (take i items) → size ≡ l.size x.class → inside ≡ pointers_within h l n x.class →
-    new ≡ list ++ flat_map (λ k. map (moved (x.place + k * size)) inside) (range_with_len 0 x.count) →
+    new ≡ list ++ flat_map (λ k. map (moved_pointer (x.place + k * size)) inside) (range_with_len 0 x.count) →
     new ≡ own_pointers h l c ++ flat_map (pointers_in l (pointers_within h l n)) (take (i + 1) items)
 pointers_more h l c n list new inside size items i d x lt at so sizes insides adds =
     let f : MemberObjects → List TablePointer = pointers_in l (pointers_within h l n) in
-    let make : ℕ → List TablePointer → List TablePointer = λ s ps. flat_map (λ k. map (moved (x.place + k * s)) ps) (range_with_len 0 x.count) in
+    let make : ℕ → List TablePointer → List TablePointer = λ s ps. flat_map (λ k. map (moved_pointer (x.place + k * s)) ps) (range_with_len 0 x.count) in
     let same : make size inside ≡ f x = ap (λ s. make s inside) sizes ∙ ap (make (l.size x.class)) insides in
     adds
     ∙ (ap (λ ys. list ++ ys) (same ∙ ap f at)

@@ -29,16 +29,16 @@ use Rattle.cxx_program.specs.declared.program.TypedProgram.{TypedProgram}
 use Rattle.cxx_program.specs.Typed.{Scope, scope_of, this_of, HasRight, an_operand, a_calculation, a_comparison, a_negation, a_read, an_address, a_result, an_object, a_cast, a_type_test, IsConverted, a_right, a_null_right, IsTyped, declares, begins, assigns, writes, copies, calls, deletes, branches, repeats, returns_nothing, returns_value, prints, prints_type, prints_view, dumps, IsTypedProgram}
 use Rattle.path_rules.specs.declared.Undefined.{Undefined}
 use Rattle.path_plan.specs.Whole.{whole_part}
-use Rattle.path_plan.specs.Phases.{Event, Begin, Ready, Init, Body, Done, Ending, Bases, End, part_of}
+use Rattle.path_plan.specs.Phases.{PartEvent, Begin, Ready, Init, Body, Done, Ending, Bases, End, part_of}
 use Rattle.path_model.specs.declared.outs.Out.{Out}
 use Rattle.path_model.specs.declared.outs.Out.TheVariants.{Number as NumberOut, Pointer as PointerOut, TypeName as TypeNameOut, Dump as DumpOut, Call as CallOut, Built as BuiltOut, Ending as EndingOut}
-use Rattle.path_model.specs.Values.{Value, Unset, Number, Null, Pointer, Sight, value, argument_value, converted}
-use Rattle.path_model.specs.Uses.{receiver}
-use Rattle.path_model.specs.Rules.{closing_refusal, refusal}
-use Rattle.path_model.specs.States.{Target, Running, Planned, Frame, InBody, InPlan, State, assigned, body_of, is_body, sight, wanted, with_frames, with_objects}
+use Rattle.path_model.specs.Values.{Value, Unset, Number, Null, Pointer, Sight, value_of_operand, argument_value, converted_to}
+use Rattle.path_model.specs.Uses.{receiver_value}
+use Rattle.path_model.specs.Rules.{closing_refusal, statement_refusal}
+use Rattle.path_model.specs.States.{Target, RunningBody, Planned, Frame, InBody, InPlan, ProgramState, assigned, owned_body, is_body, sight, wanted_result, with_frames, with_objects}
 use Rattle.path_model.specs.Outs.{location_of, object_class}
-use Rattle.path_model.specs.Effects.{Next, Goes, Refuses, Ends, Wrong, body_entered, block_at, branched, called, called_at, copied_at, deleted, dump_out, effect, function_entered, given, going, kind_effect, left_by, object_ended, result_given, returned, right_value, runs, taken, taker, telling, type_out, value_out, view_out, written}
-use Rattle.path_model.specs.Steps.{before_kind, body_opened, body_owner, body_step, class_of_part, closed, constructor_closed, event_outs, event_step, frame_step, in_body, objects_after, plan_left, resumed, step, unless}
+use Rattle.path_model.specs.Effects.{Next, Goes, Refuses, Ends, Wrong, body_entered, block_at, branched, called, called_at, copied_at, deleted, dump_out, effect, function_entered, given_to_target, going_on_at, kind_effect, left_by, object_ended, result_given, returned, right_side_value, runs, taken, taker, telling, type_out, value_out, view_out, written}
+use Rattle.path_model.specs.Steps.{before_kind, body_opened, body_owner, body_step, class_of_part, body_closed, constructor_closed, event_outs, event_step, frame_step, next_in_body, objects_after, plan_left, resumed, step, unless}
 use Rattle.path_model.specs.Runs.{limit_at, move, move_by, outs_in, state_at, within}
 use Rattle.path_model.specs.TypedStates.{IsPartMade, IsThis}
 use Rattle.path_model.proofs.KeptFrames.{IfGoes, IsKept, IsKeptAt, kept_left}
@@ -60,7 +60,7 @@ HasBody program (NumberOut z) = Unit {0}
 HasBody program (PointerOut at_part) = Unit {0}
 HasBody program (TypeNameOut c) = Unit {0}
 HasBody program (DumpOut number c leaves) = Unit {0}
-HasBody program (CallOut f at_part) = is_body (body_of program (Function f)) ≡ true
+HasBody program (CallOut f at_part) = is_body (owned_body program (Function f)) ≡ true
 HasBody program (BuiltOut c at_part) = Unit {0}
 HasBody program (EndingOut c at_part) = Unit {0}
 
@@ -93,17 +93,17 @@ IsFine h program Wrong = Unit {0}
 
 -- changes of a state that make no object
 
-assigned_known : (h : Classes) (s : State) (x : Variable) (v : Value) → AreKnown h s.objects.classes → AreKnown h (assigned s x v).objects.classes
+assigned_known : (h : Classes) (s : ProgramState) (x : Variable) (v : Value) → AreKnown h s.objects.classes → AreKnown h (assigned s x v).objects.classes
 assigned_known h s (Global n) v known = known
 assigned_known h s (Local n) v known = known
 
-given_known : (h : Classes) (s : State) (v : Value) (target : Option Target) → AreKnown h s.objects.classes → AreKnown h (given s v target).objects.classes
+given_known : (h : Classes) (s : ProgramState) (v : Value) (target : Option Target) → AreKnown h s.objects.classes → AreKnown h (given_to_target s v target).objects.classes
 given_known h s v None known = known
-given_known h s v (Some target) known = assigned_known h s target.variable (converted v target.conversion) known
+given_known h s v (Some target) known = assigned_known h s target.variable (converted_to v target.conversion) known
 
-result_known : (h : Classes) (s : State) (found : Conversion) (target : Option Target) (v : Option Value) → AreKnown h s.objects.classes → AreKnown h (result_given s found target v).objects.classes
+result_known : (h : Classes) (s : ProgramState) (found : Conversion) (target : Option Target) (v : Option Value) → AreKnown h s.objects.classes → AreKnown h (result_given s found target v).objects.classes
 result_known h s found target None known = known
-result_known h s found target (Some v) known = given_known h s (converted v found) target known
+result_known h s found target (Some v) known = given_known h s (converted_to v found) target known
 
 pushed_known : (h : Classes) (cs : List ClassId) (d : ClassId) → AreKnown h cs → d.0 < length h → AreKnown h (cs ++ d ∷ [])
 pushed_known h cs d known new k c there = ⊎_elim (λ old. known k c old) (λ last. subst (λ (e : ClassId). e.0 < length h) (sym last.1) new) (get_pushed cs d k c there)
@@ -111,26 +111,26 @@ pushed_known h cs d known new k c there = ⊎_elim (λ old. known k c old) (λ l
 -- events
 
 -- the parts of events were made
-abbrev AreMade : Classes → List ClassId → List Event → Type 0
-AreMade h cs events = (e : Event) → Has events e → IsPartMade h cs (part_of e) (class_of_part (part_of e))
+abbrev AreMade : Classes → List ClassId → List PartEvent → Type 0
+AreMade h cs events = (e : PartEvent) → Has events e → IsPartMade h cs (part_of e) (class_of_part (part_of e))
 
 module _ (h : Classes) (program : TypedProgram) where
-  opened_fine : (s : State) (p : ObjectPart) (outs : List Out) (frames : List Frame) (o : Option TypedBody) → AreKnown h s.objects.classes → AreTold h program outs → IsFine h program (body_opened s p outs frames o)
+  opened_fine : (s : ProgramState) (p : ObjectPart) (outs : List Out) (frames : List Frame) (o : Option TypedBody) → AreKnown h s.objects.classes → AreTold h program outs → IsFine h program (body_opened s p outs frames o)
   opened_fine s p outs frames None known told = tt
   opened_fine s p outs frames (Some body) known told = (known, told)
 
-  resumed_fine : (s : State) (f : Planned) (below : List Frame) (outs : List Out) (events : List Event) → AreKnown h s.objects.classes → AreTold h program outs → IsFine h program (resumed program s f below outs events)
+  resumed_fine : (s : ProgramState) (f : Planned) (below : List Frame) (outs : List Out) (events : List PartEvent) → AreKnown h s.objects.classes → AreTold h program outs → IsFine h program (resumed program s f below outs events)
   resumed_fine s f below outs [] known told = (given_known h (with_frames s below) (Pointer (whole_part f.object (object_class s.objects f.object))) f.target known, told)
   resumed_fine s f below outs (Begin p ∷ events) known told = (known, told)
   resumed_fine s f below outs (Ready p ∷ events) known told = (known, told)
   resumed_fine s f below outs (Init p m ∷ events) known told = (known, told)
-  resumed_fine s f below outs (Body p ∷ events) known told = opened_fine s p outs (plan_left f events ∷ below) (body_of program (body_owner f.is_building (class_of_part p))) known told
+  resumed_fine s f below outs (Body p ∷ events) known told = opened_fine s p outs (plan_left f events ∷ below) (owned_body program (body_owner f.is_building (class_of_part p))) known told
   resumed_fine s f below outs (Done p ∷ events) known told = (known, told)
   resumed_fine s f below outs (Ending p ∷ events) known told = (known, told)
   resumed_fine s f below outs (Bases p ∷ events) known told = (known, told)
   resumed_fine s f below outs (End p ∷ events) known told = (known, told)
 
-  event_fine : (s : State) (f : Planned) (below : List Frame) (events : List Event) → AreKnown h s.objects.classes → AreMade h s.objects.classes events → IsFine h program (event_step program s f below events)
+  event_fine : (s : ProgramState) (f : Planned) (below : List Frame) (events : List PartEvent) → AreKnown h s.objects.classes → AreMade h s.objects.classes events → IsFine h program (event_step program s f below events)
   event_fine s f below [] known made = tt
   event_fine s f below (Begin p ∷ events) known made = resumed_fine (with_objects s (objects_after program s.objects (Begin p))) f below [] events known (none_told h program)
   event_fine s f below (Ready p ∷ events) known made = resumed_fine (with_objects s (objects_after program s.objects (Ready p))) f below [] events known (none_told h program)
@@ -145,7 +145,7 @@ module _ (h : Classes) (program : TypedProgram) where
   event_fine s f below (Bases p ∷ events) known made = resumed_fine (with_objects s (objects_after program s.objects (Bases p))) f below [] events known (none_told h program)
   event_fine s f below (End p ∷ events) known made = resumed_fine (with_objects s (objects_after program s.objects (End p))) f below [] events known (none_told h program)
 
-  plan_fine : IsHierarchy h → (s : State) (f : Planned) (below : List Frame) → IsKeptAt h program s.objects (InPlan f ∷ below) → AreKnown h s.objects.classes → IsFine h program (event_step program s f below f.events)
+  plan_fine : IsHierarchy h → (s : ProgramState) (f : Planned) (below : List Frame) → IsKeptAt h program s.objects (InPlan f ∷ below) → AreKnown h s.objects.classes → IsFine h program (event_step program s f below f.events)
   plan_fine keeps s f below kept known =
       event_fine s f below f.events known (λ e has. let r = plan_inside h keeps program s.objects (InPlan f ∷ below) kept f e (inl refl) has in inside_made h s.objects.classes f.object r.0 (part_of e) r.1 r.2)
 
@@ -155,12 +155,12 @@ module _ (h : Classes) (program : TypedProgram) where
   unless_fine None line next fine = fine refl
   unless_fine (Some rule) line next fine = tt
 
-  constructor_fine : IsHierarchy h → (s : State) (below : List Frame) → IsKeptAt h program s.objects below → AreKnown h s.objects.classes → IsFine h program (constructor_closed program s below)
+  constructor_fine : IsHierarchy h → (s : ProgramState) (below : List Frame) → IsKeptAt h program s.objects below → AreKnown h s.objects.classes → IsFine h program (constructor_closed program s below)
   constructor_fine keeps s [] kept known = tt
   constructor_fine keeps s (InBody f ∷ below) kept known = tt
   constructor_fine keeps s (InPlan f ∷ below) kept known = plan_fine keeps s f below kept known
 
-  closed_fine : IsHierarchy h → (s : State) (o : Owner) (line : ℕ) (below : List Frame) → IsKeptAt h program s.objects below → AreKnown h s.objects.classes → IsFine h program (closed h program s o line below)
+  closed_fine : IsHierarchy h → (s : ProgramState) (o : Owner) (line : ℕ) (below : List Frame) → IsKeptAt h program s.objects below → AreKnown h s.objects.classes → IsFine h program (body_closed h program s o line below)
   closed_fine keeps s Main line below kept known = tt
   closed_fine keeps s (Function g) line below kept known = unless_fine (closing_refusal h s.objects g) line (Goes (with_frames s below) []) (λ none. (known, none_told h program))
   closed_fine keeps s (Constructor c) line below kept known = constructor_fine keeps s below kept known
@@ -176,7 +176,7 @@ module _ (h : Classes) (program : TypedProgram) where
       subst (λ (q : ObjectPart). IsPartMade h cs q g.class) at_part r.2
 
   module _ (typed : IsTypedProgram h program) where
-    entered_fine : (s : State) (values : List Value) (call : TypedCall) (target : Option Target) (run : ObjectPart × FunctionId) (o : Option TypedBody) → body_of program (Function run.1) ≡ o → AreKnown h s.objects.classes
+    entered_fine : (s : ProgramState) (values : List Value) (call : TypedCall) (target : Option Target) (run : ObjectPart × FunctionId) (o : Option TypedBody) → owned_body program (Function run.1) ≡ o → AreKnown h s.objects.classes
         → IsSoundNext h program (body_entered h s values call target run o) → IsFine h program (body_entered h s values call target run o)
     entered_fine s values call target run None there known sound = tt
     entered_fine s values call target run (Some body) there known sound =
@@ -184,20 +184,20 @@ module _ (h : Classes) (program : TypedProgram) where
         let made = this_made s.objects.classes body.owner run.1 run.0 owner sound.typed.frames.0.1.this in
         (known, one_told h program (CallOut run.1 (location_of s.objects run.0)) (part_names h s.objects known run.0 run.1.class made) (ap is_body there))
 
-    function_fine : (s : State) (values : List Value) (call : TypedCall) (target : Option Target) (o : Option (ObjectPart × FunctionId)) → AreKnown h s.objects.classes
+    function_fine : (s : ProgramState) (values : List Value) (call : TypedCall) (target : Option Target) (o : Option (ObjectPart × FunctionId)) → AreKnown h s.objects.classes
         → IsSoundNext h program (function_entered h program s values call target o) → IsFine h program (function_entered h program s values call target o)
     function_fine s values call target None known sound = tt
-    function_fine s values call target (Some run) known sound = entered_fine s values call target run (body_of program (Function run.1)) refl known sound
+    function_fine s values call target (Some run) known sound = entered_fine s values call target run (owned_body program (Function run.1)) refl known sound
 
-    called_at_fine : (s : State) (values : List Value) (call : TypedCall) (target : Option Target) (v : Value) → AreKnown h s.objects.classes
+    called_at_fine : (s : ProgramState) (values : List Value) (call : TypedCall) (target : Option Target) (v : Value) → AreKnown h s.objects.classes
         → IsSoundNext h program (called_at h program s values call target v) → IsFine h program (called_at h program s values call target v)
     called_at_fine s values call target Unset known sound = tt
     called_at_fine s values call target (Number z) known sound = tt
     called_at_fine s values call target Null known sound = tt
     called_at_fine s values call target (Pointer p) known sound = function_fine s values call target (runs h s.objects call p) known sound
 
-    called_fine : (see : Sight) (s : State) (call : TypedCall) (target : Option Target) → AreKnown h s.objects.classes → IsSoundNext h program (called h program see s call target) → IsFine h program (called h program see s call target)
-    called_fine see s call target known sound = called_at_fine s (map (argument_value see) call.arguments) call target (receiver see call) known sound
+    called_fine : (see : Sight) (s : ProgramState) (call : TypedCall) (target : Option Target) → AreKnown h s.objects.classes → IsSoundNext h program (called h program see s call target) → IsFine h program (called h program see s call target)
+    called_fine see s call target known sound = called_at_fine s (map (argument_value see) call.arguments) call target (receiver_value see call) known sound
 
   -- right sides
 
@@ -217,28 +217,28 @@ module _ (h : Classes) (program : TypedProgram) where
   new_known e _ _ (a_right x u t has fits) d is = made_known e x.right u has d is
   new_known e _ _ (a_null_right c) d is = absurd (cc)
 
-  taken_fine : IsTypedProgram h program → (e : Scope) (see : Sight) (s : State) (variable : Variable) (t : ValueType ClassId) (r : TypedRight) (c : Conversion) → IsConverted h e (record { right = r; conversion = c }) t → AreKnown h s.objects.classes
+  taken_fine : IsTypedProgram h program → (e : Scope) (see : Sight) (s : ProgramState) (variable : Variable) (t : ValueType ClassId) (r : TypedRight) (c : Conversion) → IsConverted h e (record { right = r; conversion = c }) t → AreKnown h s.objects.classes
       → IsSoundNext h program (taken h program see s variable r c) → IsFine h program (taken h program see s variable r c)
-  taken_fine typed e see s variable t (Operand x) c fits known sound = (assigned_known h s variable (converted (right_value h see (Operand x)) c) known, none_told h program)
-  taken_fine typed e see s variable t (Arithmetic op k x y) c fits known sound = (assigned_known h s variable (converted (right_value h see (Arithmetic op k x y)) c) known, none_told h program)
-  taken_fine typed e see s variable t (SamePointer differ x y) c fits known sound = (assigned_known h s variable (converted (right_value h see (SamePointer differ x y)) c) known, none_told h program)
-  taken_fine typed e see s variable t (Not x) c fits known sound = (assigned_known h s variable (converted (right_value h see (Not x)) c) known, none_told h program)
-  taken_fine typed e see s variable t (Read place) c fits known sound = (assigned_known h s variable (converted (right_value h see (Read place)) c) known, none_told h program)
-  taken_fine typed e see s variable t (Address place d) c fits known sound = (assigned_known h s variable (converted (right_value h see (Address place d)) c) known, none_told h program)
+  taken_fine typed e see s variable t (Operand x) c fits known sound = (assigned_known h s variable (converted_to (right_side_value h see (Operand x)) c) known, none_told h program)
+  taken_fine typed e see s variable t (Arithmetic op k x y) c fits known sound = (assigned_known h s variable (converted_to (right_side_value h see (Arithmetic op k x y)) c) known, none_told h program)
+  taken_fine typed e see s variable t (SamePointer differ x y) c fits known sound = (assigned_known h s variable (converted_to (right_side_value h see (SamePointer differ x y)) c) known, none_told h program)
+  taken_fine typed e see s variable t (Not x) c fits known sound = (assigned_known h s variable (converted_to (right_side_value h see (Not x)) c) known, none_told h program)
+  taken_fine typed e see s variable t (Read place) c fits known sound = (assigned_known h s variable (converted_to (right_side_value h see (Read place)) c) known, none_told h program)
+  taken_fine typed e see s variable t (Address place d) c fits known sound = (assigned_known h s variable (converted_to (right_side_value h see (Address place d)) c) known, none_told h program)
   taken_fine typed e see s variable t (CallRight call) c fits known sound = called_fine typed see s call (taker variable c) known sound
   taken_fine typed e see s variable t (New d) c fits known sound = (pushed_known h s.objects.classes d known (new_known e (record { right = New d; conversion = c }) t fits d refl), none_told h program)
-  taken_fine typed e see s variable t (Cast cast x) c fits known sound = (assigned_known h s variable (converted (right_value h see (Cast cast x)) c) known, none_told h program)
-  taken_fine typed e see s variable t (TypeEqual x d) c fits known sound = (assigned_known h s variable (converted (right_value h see (TypeEqual x d)) c) known, none_told h program)
+  taken_fine typed e see s variable t (Cast cast x) c fits known sound = (assigned_known h s variable (converted_to (right_side_value h see (Cast cast x)) c) known, none_told h program)
+  taken_fine typed e see s variable t (TypeEqual x d) c fits known sound = (assigned_known h s variable (converted_to (right_side_value h see (TypeEqual x d)) c) known, none_told h program)
 
   -- other statements
 
-  written_fine : (s : State) (place : TypedPlace) (v w : Value) → AreKnown h s.objects.classes → IsFine h program (written s place v w)
+  written_fine : (s : ProgramState) (place : TypedPlace) (v w : Value) → AreKnown h s.objects.classes → IsFine h program (written s place v w)
   written_fine s place v Unset known = tt
   written_fine s place v (Number z) known = tt
   written_fine s place v Null known = tt
   written_fine s place v (Pointer p) known = (known, none_told h program)
 
-  copied_fine : (s : State) (c : ClassId) (v w : Value) → AreKnown h s.objects.classes → IsFine h program (copied_at h s c v w)
+  copied_fine : (s : ProgramState) (c : ClassId) (v w : Value) → AreKnown h s.objects.classes → IsFine h program (copied_at h s c v w)
   copied_fine s c Unset w known = tt
   copied_fine s c (Number z) w known = tt
   copied_fine s c Null w known = tt
@@ -247,45 +247,45 @@ module _ (h : Classes) (program : TypedProgram) where
   copied_fine s c (Pointer p) Null known = tt
   copied_fine s c (Pointer p) (Pointer q) known = (known, none_told h program)
 
-  ended_fine : (s : State) (k : ℕ) (o : Option ClassId) → AreKnown h s.objects.classes → IsFine h program (object_ended h program s k o)
+  ended_fine : (s : ProgramState) (k : ℕ) (o : Option ClassId) → AreKnown h s.objects.classes → IsFine h program (object_ended h program s k o)
   ended_fine s k None known = tt
   ended_fine s k (Some c) known = (known, none_told h program)
 
-  deleted_fine : (s : State) (v : Value) → AreKnown h s.objects.classes → IsFine h program (deleted h program s v)
+  deleted_fine : (s : ProgramState) (v : Value) → AreKnown h s.objects.classes → IsFine h program (deleted h program s v)
   deleted_fine s Unset known = tt
   deleted_fine s (Number z) known = tt
   deleted_fine s Null known = (known, none_told h program)
   deleted_fine s (Pointer p) known = ended_fine s p.object (slice_get s.objects.classes p.object) known
 
-  branched_fine : (s : State) (v : Value) (yes_at no_at : ℕ) → AreKnown h s.objects.classes → IsFine h program (branched s v yes_at no_at)
+  branched_fine : (s : ProgramState) (v : Value) (yes_at no_at : ℕ) → AreKnown h s.objects.classes → IsFine h program (branched s v yes_at no_at)
   branched_fine s Unset yes_at no_at known = tt
   branched_fine s (Number z) yes_at no_at known = (known, none_told h program)
   branched_fine s Null yes_at no_at known = tt
   branched_fine s (Pointer p) yes_at no_at known = tt
 
-  left_fine : (o : Owner) (s : State) → AreKnown h s.objects.classes → IsFine h program (left_by o s)
+  left_fine : (o : Owner) (s : ProgramState) → AreKnown h s.objects.classes → IsFine h program (left_by o s)
   left_fine Main s known = tt
   left_fine (Function g) s known = (known, none_told h program)
   left_fine (Constructor c) s known = tt
   left_fine (Destructor c) s known = tt
 
-  returned_fine : (s : State) (f : Running) (below : List Frame) (v : Option Value) → AreKnown h s.objects.classes → IsFine h program (returned s f below v)
+  returned_fine : (s : ProgramState) (f : RunningBody) (below : List Frame) (v : Option Value) → AreKnown h s.objects.classes → IsFine h program (returned s f below v)
   returned_fine s f below v known = left_fine f.owner (result_given (with_frames s below) f.found f.target v) (result_known h (with_frames s below) f.found f.target v known)
 
-  telling_fine : (s : State) (o : Option Out) → AreKnown h s.objects.classes → IfTold h o → IsFine h program (telling s o)
+  telling_fine : (s : ProgramState) (o : Option Out) → AreKnown h s.objects.classes → IfTold h o → IsFine h program (telling s o)
   telling_fine s None known told = tt
   telling_fine s (Some out) known told = (known, one_told h program out told.0 (printed_body program out told.1))
 
   -- statements
 
-  module _ (typed : IsTypedProgram h program) (s : State) (f : Running) (below : List Frame) (body : TypedBody) (there : body_of program f.owner ≡ Some body) (b : IsSound h program (with_frames s (InBody f ∷ below))) (known : AreKnown h s.objects.classes) (n next : ℕ) where
+  module _ (typed : IsTypedProgram h program) (s : ProgramState) (f : RunningBody) (below : List Frame) (body : TypedBody) (there : owned_body program f.owner ≡ Some body) (b : IsSound h program (with_frames s (InBody f ∷ below))) (known : AreKnown h s.objects.classes) (n next : ℕ) where
     -- what the statement sees
     abbrev See : TypedKind → Sight
     See kind = sight (with_frames s (InBody (before_kind f kind) ∷ below)) (before_kind f kind)
 
     -- the state in which control has gone on
-    abbrev On : TypedKind → State
-    On kind = going (with_frames s (InBody (before_kind f kind) ∷ below)) next
+    abbrev On : TypedKind → ProgramState
+    On kind = going_on_at (with_frames s (InBody (before_kind f kind) ∷ below)) next
 
     sees : IsTypedSight h (scope_of h program.globals body) (sight (with_frames s (InBody f ∷ below)) f)
     sees = sight_typed h program (with_frames s (InBody f ∷ below)) f below body refl there (body_typed h program typed f.owner body there).0 b.typed
@@ -294,23 +294,23 @@ module _ (h : Classes) (program : TypedProgram) where
     kind_fine kind (declares m t is) sound = (known, none_told h program)
     kind_fine kind (begins m y t is fits) sound = taken_fine typed (scope_of h program.globals body) (See kind) (On kind) (Local m) t y.right y.conversion fits known sound
     kind_fine kind (assigns variable y t is fits) sound = taken_fine typed (scope_of h program.globals body) (See kind) (On kind) variable t y.right y.conversion fits known sound
-    kind_fine kind (writes place y t p fits) sound = written_fine (On kind) place (argument_value (See kind) y) (value (See kind) place.pointer) known
-    kind_fine kind (copies to from c has_to has_from) sound = copied_fine (On kind) c (value (See kind) to) (value (See kind) from) known
+    kind_fine kind (writes place y t p fits) sound = written_fine (On kind) place (argument_value (See kind) y) (value_of_operand (See kind) place.pointer) known
+    kind_fine kind (copies to from c has_to has_from) sound = copied_fine (On kind) c (value_of_operand (See kind) to) (value_of_operand (See kind) from) known
     kind_fine kind (calls call d c) sound = called_fine typed (See kind) (On kind) call None known sound
-    kind_fine kind (deletes y c has) sound = deleted_fine (On kind) (value (See kind) y) known
-    kind_fine kind (branches y t other behind has) sound = branched_fine (On kind) (value (See kind) y) (block_at (n + 1) other next) (block_at other behind next) known
-    kind_fine kind (repeats y t behind has) sound = branched_fine (On kind) (value (See kind) y) (block_at (n + 1) behind n) next known
+    kind_fine kind (deletes y c has) sound = deleted_fine (On kind) (value_of_operand (See kind) y) known
+    kind_fine kind (branches y t other behind has) sound = branched_fine (On kind) (value_of_operand (See kind) y) (block_at (n + 1) other next) (block_at other behind next) known
+    kind_fine kind (repeats y t behind has) sound = branched_fine (On kind) (value_of_operand (See kind) y) (block_at (n + 1) behind n) next known
     kind_fine kind (returns_nothing is) sound = returned_fine (On kind) f below None known
     kind_fine kind (returns_value y t is fits) sound = returned_fine (On kind) f below (Some (argument_value (See kind) y)) known
-    kind_fine kind (prints y t has) sound = telling_fine (On kind) (value_out s.objects (value (See kind) y)) known (value_names h s.objects known (value (See kind) y) t (operand_typed h (scope_of h program.globals body) (See kind) sees y t has))
-    kind_fine kind (prints_type y c has poly) sound = telling_fine (On kind) (type_out h s.objects (value (See kind) y)) known (type_names h s.objects known (value (See kind) y))
+    kind_fine kind (prints y t has) sound = telling_fine (On kind) (value_out s.objects (value_of_operand (See kind) y)) known (value_names h s.objects known (value_of_operand (See kind) y) t (operand_typed h (scope_of h program.globals body) (See kind) sees y t has))
+    kind_fine kind (prints_type y c has poly) sound = telling_fine (On kind) (type_out h s.objects (value_of_operand (See kind) y)) known (type_names h s.objects known (value_of_operand (See kind) y))
     kind_fine kind (prints_view y c has poly) sound =
-        telling_fine (On kind) (view_out h s.objects (value (See kind) y)) known (view_names h s.objects known b.runs (value (See kind) y) c (operand_typed h (scope_of h program.globals body) (See kind) sees y (PointerType c) has))
-    kind_fine kind (dumps y c has) sound = telling_fine (On kind) (dump_out h s.objects (value (See kind) y)) known (dump_names h s.objects known b.typed.leaves (value (See kind) y))
+        telling_fine (On kind) (view_out h s.objects (value_of_operand (See kind) y)) known (view_names h s.objects known b.runs (value_of_operand (See kind) y) c (operand_typed h (scope_of h program.globals body) (See kind) sees y (PointerType c) has))
+    kind_fine kind (dumps y c has) sound = telling_fine (On kind) (dump_out h s.objects (value_of_operand (See kind) y)) known (dump_names h s.objects known b.typed.leaves (value_of_operand (See kind) y))
 
   module _ (keeps : IsHierarchy h) (fine : HasNoFault h) (typed : IsTypedProgram h program) where
     -- a declaration makes its variable unset
-    before_sound : (s : State) (f : Running) (below : List Frame) (body : TypedBody) → body_of program f.owner ≡ Some body → (kind : TypedKind) → IsTyped h (scope_of h program.globals body) kind → IsSound h program (with_frames s (InBody f ∷ below))
+    before_sound : (s : ProgramState) (f : RunningBody) (below : List Frame) (body : TypedBody) → owned_body program f.owner ≡ Some body → (kind : TypedKind) → IsTyped h (scope_of h program.globals body) kind → IsSound h program (with_frames s (InBody f ∷ below))
         → IsSound h program (with_frames s (InBody (before_kind f kind) ∷ below))
     before_sound s f below body there kind (declares n t is) b = assigned_sound h program (with_frames s (InBody f ∷ below)) body there (Local n) t is Unset tt b
     before_sound s f below body there kind (begins n x t is fits) b = assigned_sound h program (with_frames s (InBody f ∷ below)) body there (Local n) t is Unset tt b
@@ -328,39 +328,39 @@ module _ (h : Classes) (program : TypedProgram) where
     before_sound s f below body there kind (prints_view x c has poly) b = b
     before_sound s f below body there kind (dumps x c has) b = b
 
-    statement_fine : (s : State) (f : Running) (below : List Frame) (body : TypedBody) → body_of program f.owner ≡ Some body → IsKeptAt h program s.objects (InBody f ∷ below) → IsSound h program (with_frames s (InBody f ∷ below))
-        → AreKnown h s.objects.classes → (o : Option TypedStatement) → slice_get body.statements f.next ≡ o → IsFine h program (in_body h program s f below body o)
+    statement_fine : (s : ProgramState) (f : RunningBody) (below : List Frame) (body : TypedBody) → owned_body program f.owner ≡ Some body → IsKeptAt h program s.objects (InBody f ∷ below) → IsSound h program (with_frames s (InBody f ∷ below))
+        → AreKnown h s.objects.classes → (o : Option TypedStatement) → slice_get body.statements f.next ≡ o → IsFine h program (next_in_body h program s f below body o)
     statement_fine s f below body there kept b known None is = closed_fine keeps s f.owner body.close_line below (kept_left h program s.objects f below kept) known
     statement_fine s f below body there kept b known (Some statement) is =
         let g = before_kind f statement.kind in
         let a = (body_typed h program typed f.owner body there).1.statements f.next statement is in
-        let found : body_of program g.owner ≡ Some body = ap (body_of program) (sym ((before_rest f statement.kind).owner)) ∙ there in
-        unless_fine (refusal h (sight s g) (wanted g) statement.kind) statement.line (effect h program (with_frames s (InBody g ∷ below)) g below f.next statement)
+        let found : owned_body program g.owner ≡ Some body = ap (owned_body program) (sym ((before_rest f statement.kind).owner)) ∙ there in
+        unless_fine (statement_refusal h (sight s g) (wanted_result g) statement.kind) statement.line (effect h program (with_frames s (InBody g ∷ below)) g below f.next statement)
         (λ none. kind_fine typed s f below body there b known f.next statement.next statement.kind a.typed
-        (kind_sound h keeps fine program typed s.objects s.globals g below body found (wanted g) f.next statement.next a.next (before_sound s f below body there statement.kind a.typed b) statement.kind a.typed a.within none))
+        (kind_sound h keeps fine program typed s.objects s.globals g below body found (wanted_result g) f.next statement.next a.next (before_sound s f below body there statement.kind a.typed b) statement.kind a.typed a.within none))
 
-    body_fine : (s : State) (f : Running) (below : List Frame) → IsKeptAt h program s.objects (InBody f ∷ below) → IsSound h program (with_frames s (InBody f ∷ below)) → AreKnown h s.objects.classes
-        → (o : Option TypedBody) → body_of program f.owner ≡ o → IsFine h program (body_step h program s f below o)
+    body_fine : (s : ProgramState) (f : RunningBody) (below : List Frame) → IsKeptAt h program s.objects (InBody f ∷ below) → IsSound h program (with_frames s (InBody f ∷ below)) → AreKnown h s.objects.classes
+        → (o : Option TypedBody) → owned_body program f.owner ≡ o → IsFine h program (body_step h program s f below o)
     body_fine s f below kept b known None there = tt
     body_fine s f below kept b known (Some body) there = statement_fine s f below body there kept b known (slice_get body.statements f.next) refl
 
-    frames_fine : (s : State) (frames : List Frame) → IsKeptAt h program s.objects frames → IsSound h program (with_frames s frames) → AreKnown h s.objects.classes → IsFine h program (frame_step h program s frames)
+    frames_fine : (s : ProgramState) (frames : List Frame) → IsKeptAt h program s.objects frames → IsSound h program (with_frames s frames) → AreKnown h s.objects.classes → IsFine h program (frame_step h program s frames)
     frames_fine s [] kept b known = tt
-    frames_fine s (InBody f ∷ below) kept b known = body_fine s f below kept b known (body_of program f.owner) refl
+    frames_fine s (InBody f ∷ below) kept b known = body_fine s f below kept b known (owned_body program f.owner) refl
     frames_fine s (InPlan f ∷ below) kept b known = plan_fine keeps s f below kept known
 
-    step_fine : (s : State) → IsKept h program s → IsSound h program s → AreKnown h s.objects.classes → IsFine h program (step h program s)
+    step_fine : (s : ProgramState) → IsKept h program s → IsSound h program s → AreKnown h s.objects.classes → IsFine h program (step h program s)
     step_fine s kept b known = frames_fine s s.frames kept b known
 
 -- runs
 
-fine_goes : (h : Classes) (program : TypedProgram) (next : Next) → IsFine h program next → IfGoes (λ (s : State). AreKnown h s.objects.classes) next
+fine_goes : (h : Classes) (program : TypedProgram) (next : Next) → IsFine h program next → IfGoes (λ (s : ProgramState). AreKnown h s.objects.classes) next
 fine_goes h program (Goes s outs) fine = fine.0
 fine_goes h program (Refuses rule line) fine = tt
 fine_goes h program Ends fine = tt
 fine_goes h program Wrong fine = tt
 
-within_told : (h : Classes) (program : TypedProgram) (o : Option LimitNo) (s : State) (outs : List Out) → AreTold h program outs → AreTold h program (outs_in (within o s outs))
+within_told : (h : Classes) (program : TypedProgram) (o : Option LimitNo) (s : ProgramState) (outs : List Out) → AreTold h program outs → AreTold h program (outs_in (within o s outs))
 within_told h program None s outs told = told
 within_told h program (Some limit) s outs told = none_told h program
 
@@ -381,7 +381,7 @@ module _ (h : Classes) (keeps : IsHierarchy h) (fine : HasNoFault h) (program : 
   known_at zero = none_known h
   known_at (suc n) =
       let s = state_at h sizes program n in
-      behind_move (λ (x : State). AreKnown h x.objects.classes) (step h program s) (limit_at sizes program s) s (known_at n) (fine_goes h program (step h program s) (step_at n (known_at n)))
+      behind_move (λ (x : ProgramState). AreKnown h x.objects.classes) (step h program s) (limit_at sizes program s) s (known_at n) (fine_goes h program (step h program s) (step_at n (known_at n)))
 
   -- what a step of the run tells names parts and bodies that are there
   pub steps_told : (n : ℕ) → AreTold h program (outs_in (move h sizes program (state_at h sizes program n)))

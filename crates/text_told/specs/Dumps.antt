@@ -13,11 +13,11 @@ use Rattle.path_model.specs.declared.outs.DumpLeaf.{DumpLeaf}
 use Rattle.byte_code.specs.Numbers.{word_of}
 use Rattle.abi_sound.specs.Places.{Places, size_of_value}
 use Rattle.abi_sound.specs.Locations.{bits_of_value, last_member}
-use Rattle.abi_print.specs.LayoutTexts.{bits_text, name_of, value_text}
-use Rattle.abi_print.specs.TableTexts.{name_in}
+use Rattle.abi_print.specs.LayoutTexts.{bits_text, declared_class_name, value_type_text}
+use Rattle.abi_print.specs.TableTexts.{optional_class_name}
 use Rattle.text_told.specs.declared.pointers.TablePointer.{TablePointer}
 use Rattle.text_told.specs.declared.items.Item.{Item}
-use Rattle.text_told.specs.Fields.{Names, NamesPart, place_in, part_text, field_text, first_of, type_behind, width_of}
+use Rattle.text_told.specs.Fields.{Names, NamesPart, location_place, part_text, field_name_text, first_value_bit, type_behind, bit_field_width}
 use Rattle.text_told.specs.Pointers.{pointers_of}
 
 abbrev pub NamesValue : Classes → Value → Type 0
@@ -33,7 +33,7 @@ pub record IsDumpedLeaf (h : Classes) (c : ClassId) (leaf : DumpLeaf) : Type 0 w
   pub names : Names h (ValueField type) leaf.at
   pub value : NamesValue h leaf.value
 
-pub record IsDumped (h : Classes) (c : ClassId) (leaves : List DumpLeaf) : Type 0 where
+pub record AreDumpedLeaves (h : Classes) (c : ClassId) (leaves : List DumpLeaf) : Type 0 where
   pub known : c.0 < length h
   pub each : (leaf : DumpLeaf) → Contains leaves leaf → IsDumpedLeaf h c leaf
 
@@ -79,28 +79,28 @@ bytes_touched first bits = (first + bits + 7) / 8
 
 -- what a leaf holds, its type and its name
 abbrev pub leaf_text : Classes → Places → Option ℕ → ℕ → ValueType ClassId → DumpLeaf → List ℕ
-leaf_text h l width first type leaf = held_text h l width first type leaf.value ++ codes " " ++ value_text h type ++ codes " " ++ field_text h leaf.at.hops
+leaf_text h l width first type leaf = held_text h l width first type leaf.value ++ codes " " ++ value_type_text h type ++ codes " " ++ field_name_text h leaf.at.hops
 
 abbrev pub leaf_by_type : Classes → Places → DumpLeaf → Option ℕ → ℕ → Option (ValueType ClassId) → Item
-leaf_by_type h l leaf width first None = record { place = place_in h l leaf.at; first = 0; size = 0; text = [] }
-leaf_by_type h l leaf width first (Some type) = record { place = place_in h l leaf.at; first = first; size = bytes_touched first (bits_of_value width type); text = leaf_text h l width first type leaf }
+leaf_by_type h l leaf width first None = record { place = location_place h l leaf.at; first = 0; size = 0; text = [] }
+leaf_by_type h l leaf width first (Some type) = record { place = location_place h l leaf.at; first = first; size = bytes_touched first (bits_of_value width type); text = leaf_text h l width first type leaf }
 
 -- a leaf that is an element of a member
-abbrev pub leaf_of : Classes → Places → DumpLeaf → Option (ClassId × ℕ) → Item
-leaf_of h l leaf member = leaf_by_type h l leaf (width_of h member) (first_of l member) (type_behind h (Some leaf.at.class) leaf.at.hops)
+abbrev pub member_leaf_item : Classes → Places → DumpLeaf → Option (ClassId × ℕ) → Item
+member_leaf_item h l leaf member = leaf_by_type h l leaf (bit_field_width h member) (first_value_bit l member) (type_behind h (Some leaf.at.class) leaf.at.hops)
 
 abbrev pub leaf_item : Classes → Places → DumpLeaf → Item
-leaf_item h l leaf = leaf_of h l leaf (last_member h (Some leaf.at.class) leaf.at.hops)
+leaf_item h l leaf = member_leaf_item h l leaf (last_member h (Some leaf.at.class) leaf.at.hops)
 
 -- the table to which a virtual pointer points
-abbrev pub table_text : Classes → TablePointer → List ℕ
-table_text h p = codes "vptr " ++ name_in h p.class ++ codes "@" ++ decimal p.in_object ++ codes " of " ++ name_of h p.object
+abbrev pub table_pointer_text : Classes → TablePointer → List ℕ
+table_pointer_text h p = codes "vptr " ++ optional_class_name h p.class ++ codes "@" ++ decimal p.in_object ++ codes " of " ++ declared_class_name h p.object
 
 abbrev pub pointer_item : Classes → TablePointer → Item
-pointer_item h p = record { place = p.place; first = 0; size = 8; text = table_text h p }
+pointer_item h p = record { place = p.place; first = 0; size = 8; text = table_pointer_text h p }
 
-abbrev pub items_of : Classes → Places → ClassId → List DumpLeaf → List Item
-items_of h l c leaves = map (pointer_item h) (pointers_of h l c) ++ map (leaf_item h l) leaves
+abbrev pub dump_items : Classes → Places → ClassId → List DumpLeaf → List Item
+dump_items h l c leaves = map (pointer_item h) (pointers_of h l c) ++ map (leaf_item h l) leaves
 
 -- lines: each begins with the line feed that ends the one before it
 
@@ -129,9 +129,9 @@ lines_from end at [] = gap_text at end
 lines_from end at (item ∷ items) = gap_text at item.place ++ item_text item ++ lines_from end (max at (item.place + item.size)) items
 
 -- the virtual pointers and leaves of an object of class c by place, and the gaps
-abbrev pub lines_of : Classes → Places → ClassId → List DumpLeaf → List ℕ
-lines_of h l c leaves = lines_from (l.size c) 0 (by_place (l.size c) (items_of h l c leaves))
+abbrev pub object_lines : Classes → Places → ClassId → List DumpLeaf → List ℕ
+object_lines h l c leaves = lines_from (l.size c) 0 (by_place (l.size c) (dump_items h l c leaves))
 
 -- the dump of the heap object of a number: its class and size, and what lies in it
 abbrev pub dump_text : Classes → Places → ℕ → ClassId → List DumpLeaf → List ℕ
-dump_text h l n c leaves = codes "dump #" ++ decimal n ++ codes " " ++ name_of h c ++ codes " " ++ decimal (l.size c) ++ lines_of h l c leaves
+dump_text h l n c leaves = codes "dump #" ++ decimal n ++ codes " " ++ declared_class_name h c ++ codes " " ++ decimal (l.size c) ++ object_lines h l c leaves

@@ -14,7 +14,7 @@ use Rattle.cxx_subobject.specs.declared.locations.Location.{Location}
 use Rattle.cxx_subobject.specs.Subobjects.{class_of}
 use Rattle.cxx_subobject.specs.Locations.{LeadsTo}
 use Rattle.abi_sound.specs.Places.{Places}
-use Rattle.abi_sound.specs.Locations.{place_at, element_class}
+use Rattle.abi_sound.specs.Locations.{place_along_hops, element_class}
 use Rattle.abi_print.specs.LayoutTexts.{subobject_text}
 use Rattle.abi_print.specs.Texts.{location_text}
 
@@ -28,12 +28,12 @@ abbrev pub NamesPart : Classes → Location → Type 0
 NamesPart h at = (d : ClassId) × Names h (Object d) at
 
 -- the place of a location in its heap object, in bytes
-abbrev pub place_in : Classes → Places → Location → ℕ
-place_in h l at = place_at h l at.class at.hops
+abbrev pub location_place : Classes → Places → Location → ℕ
+location_place h l at = place_along_hops h l at.class at.hops
 
 -- `#n+off`: the number of the heap object, and the place in it
 abbrev pub part_text : Classes → Places → Location → List ℕ
-part_text h l at = location_text at.object (place_in h l at)
+part_text h l at = location_text at.object (location_place h l at)
 
 -- the member of a number of a class
 abbrev pub member_at : Classes → Option ClassId → ℕ → Option (Member ClassId)
@@ -50,21 +50,21 @@ index_text None i = []
 index_text (Some count) i = codes "[" ++ decimal i ++ codes "]"
 
 -- a member by its name, and an element of an array by its index behind that
-abbrev pub element_text : Option (Member ClassId) → ℕ → List ℕ
-element_text None i = []
-element_text (Some member) i = member.name ++ index_text member.count i
+abbrev pub element_name_text : Option (Member ClassId) → ℕ → List ℕ
+element_name_text None i = []
+element_name_text (Some member) i = member.name ++ index_text member.count i
 
 -- the field to which the hops lead from what is of class c: inside a member it follows a `.`
 abbrev pub inner_text : Classes → Option ClassId → List Hop → List ℕ
 inner_text h c [] = []
 inner_text h c (Inherit s ∷ hops) = codes "." ++ before_field (subobject_text h s) ++ inner_text h (class_of s) hops
-inner_text h c (MemberHop m i ∷ hops) = element_text (member_at h c m) i ++ inner_text h (element_class h c m) hops
+inner_text h c (MemberHop m i ∷ hops) = element_name_text (member_at h c m) i ++ inner_text h (element_class h c m) hops
 
 -- a field of a complete object
-abbrev pub field_text : Classes → List Hop → List ℕ
-field_text h [] = []
-field_text h (Inherit s ∷ hops) = before_field (subobject_text h s) ++ inner_text h (class_of s) hops
-field_text h (MemberHop m i ∷ hops) = []
+abbrev pub field_name_text : Classes → List Hop → List ℕ
+field_name_text h [] = []
+field_name_text h (Inherit s ∷ hops) = before_field (subobject_text h s) ++ inner_text h (class_of s) hops
+field_name_text h (MemberHop m i ∷ hops) = []
 
 abbrev pub value_in : FieldType ClassId → Option (ValueType ClassId)
 value_in (Value type) = Some type
@@ -82,11 +82,11 @@ type_behind h c (Inherit s ∷ hops) = type_behind h (class_of s) hops
 type_behind h c (MemberHop m i ∷ hops) = option_or (type_behind h (element_class h c m) hops) (value_type (member_at h c m))
 
 -- the width of a member, by the class that declares it and its number there, where it is a bit-field (ISO C++03 9.6)
-abbrev pub width_of : Classes → Option (ClassId × ℕ) → Option ℕ
-width_of h None = None
-width_of h (Some member) = width_of_member h member.0 member.1
+abbrev pub bit_field_width : Classes → Option (ClassId × ℕ) → Option ℕ
+bit_field_width h None = None
+bit_field_width h (Some member) = width_of_member h member.0 member.1
 
 -- the first bit of the value of a member, in the byte at its place
-abbrev pub first_of : Places → Option (ClassId × ℕ) → ℕ
-first_of l None = 0
-first_of l (Some member) = l.first member.0 member.1
+abbrev pub first_value_bit : Places → Option (ClassId × ℕ) → ℕ
+first_value_bit l None = 0
+first_value_bit l (Some member) = l.first member.0 member.1

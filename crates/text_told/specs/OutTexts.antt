@@ -8,10 +8,10 @@ use Rattle.path_model.specs.declared.outs.Out.{Out}
 use Rattle.path_model.specs.declared.outs.Out.TheVariants.{Number, Pointer, TypeName, Dump, Call, Built, Ending}
 use Rattle.path_model.specs.Outs.{is_traced}
 use Rattle.abi_sound.specs.Places.{Places}
-use Rattle.abi_print.specs.LayoutTexts.{name_of}
+use Rattle.abi_print.specs.LayoutTexts.{declared_class_name}
 use Rattle.abi_print.specs.TableTexts.{function_text}
 use Rattle.text_told.specs.Fields.{NamesPart, part_text}
-use Rattle.text_told.specs.Dumps.{IsDumped, dump_text}
+use Rattle.text_told.specs.Dumps.{AreDumpedLeaves, dump_text}
 
 abbrev pub NamesPartOrNull : Classes → Option Location → Type 0
 NamesPartOrNull h None = Unit {0}
@@ -22,7 +22,7 @@ abbrev pub IsTold : Classes → Out → Type 0
 IsTold h (Number z) = Unit {0}
 IsTold h (Pointer at) = NamesPartOrNull h at
 IsTold h (TypeName c) = Unit {0}
-IsTold h (Dump n c leaves) = IsDumped h c leaves
+IsTold h (Dump n c leaves) = AreDumpedLeaves h c leaves
 IsTold h (Call f at) = NamesPart h at
 IsTold h (Built c at) = NamesPart h at
 IsTold h (Ending c at) = NamesPart h at
@@ -36,11 +36,11 @@ pointer_text h l (Some at) = part_text h l at
 abbrev pub line_text : Classes → Places → Out → List ℕ
 line_text h l (Number z) = signed_decimal z
 line_text h l (Pointer at) = pointer_text h l at
-line_text h l (TypeName c) = name_of h c
+line_text h l (TypeName c) = declared_class_name h c
 line_text h l (Dump n c leaves) = dump_text h l n c leaves
 line_text h l (Call f at) = codes "call " ++ function_text h f ++ codes " " ++ part_text h l at
-line_text h l (Built c at) = codes "built " ++ name_of h c ++ codes " " ++ part_text h l at
-line_text h l (Ending c at) = codes "ending " ++ name_of h c ++ codes " " ++ part_text h l at
+line_text h l (Built c at) = codes "built " ++ declared_class_name h c ++ codes " " ++ part_text h l at
+line_text h l (Ending c at) = codes "ending " ++ declared_class_name h c ++ codes " " ++ part_text h l at
 
 -- the text of what is told: a line, or the lines of a dump
 abbrev pub out_text : Classes → Places → Out → List ℕ
@@ -51,9 +51,9 @@ abbrev pub printed : List Out → List Out
 printed outs = filter (λ out. not (is_traced out)) outs
 
 -- what a run shows: all that it tells where it is traced, else what is printed
-abbrev pub shown : Bool → List Out → List Out
-shown true outs = outs
-shown false outs = printed outs
+abbrev pub outs_to_show : Bool → List Out → List Out
+outs_to_show true outs = outs
+outs_to_show false outs = printed outs
 
 -- the text of what is shown, in order
 abbrev pub text_of : Classes → Places → List Out → List ℕ

@@ -20,12 +20,12 @@ abbrev pub whole_view : ClassId → View
 whole_view c = record { complete = c; at_sub = whole_of c; class = c }
 
 -- the virtual pointer of a subobject of class c points to the table of that subobject
-abbrev pub pointer_at : Places → ClassId → Subobject → TablePointer
-pointer_at l c s = record { place = l.place c s; class = class_of s; in_object = l.place c s; object = c }
+abbrev pub table_pointer_at : Places → ClassId → Subobject → TablePointer
+table_pointer_at l c s = record { place = l.place c s; class = class_of s; in_object = l.place c s; object = c }
 
 -- the pointers of a complete object itself: one for each table of its class
 abbrev pub own_pointers : Classes → Places → ClassId → List TablePointer
-own_pointers h l c = map (pointer_at l c) (heads h l (whole_view c))
+own_pointers h l c = map (table_pointer_at l c) (heads h l (whole_view c))
 
 abbrev pub objects_by_type : ℕ → ℕ → FieldType ClassId → List MemberObjects
 objects_by_type place count (Value type) = []
@@ -45,12 +45,12 @@ abbrev pub member_objects : Classes → Places → ClassId → List MemberObject
 member_objects h l c = flat_map (λ s. objects_in h l (l.place c s) (class_of s)) (preorder h c)
 
 -- the same pointer, of an object that lies so much further
-abbrev pub moved : ℕ → TablePointer → TablePointer
-moved by p = record { place = by + p.place; class = p.class; in_object = p.in_object; object = p.object }
+abbrev pub moved_pointer : ℕ → TablePointer → TablePointer
+moved_pointer by p = record { place = by + p.place; class = p.class; in_object = p.in_object; object = p.object }
 
 -- the pointers in each element of a member, by those in an object of its class
 abbrev pub pointers_in : Places → (ClassId → List TablePointer) → MemberObjects → List TablePointer
-pointers_in l inside x = flat_map (λ i. map (moved (x.place + i * l.size x.class)) (inside x.class)) (range_with_len 0 x.count)
+pointers_in l inside x = flat_map (λ i. map (moved_pointer (x.place + i * l.size x.class)) (inside x.class)) (range_with_len 0 x.count)
 
 -- for classes of numbers below n
 abbrev pub pointers_within : Classes → Places → ℕ → ClassId → List TablePointer

@@ -3,7 +3,7 @@
 ghost use Rattle.std.specs.Prelude.{◌≡◌, ◌++◌, ◌<◌, ◌≤◌, ◌+◌, ◌*◌, ◌^◌, ℕ, Contains, IfOk, OnOk};
 ghost use Rattle.abi_sound.specs.Places.{places_of};
 ghost use Rattle.text_told.specs.declared.items.Item.{Item};
-ghost use Rattle.text_told.specs.Dumps.{IsDumped, bit_of, by_place, dump_text, gap_text, item_text, lines_from, lines_of};
+ghost use Rattle.text_told.specs.Dumps.{AreDumpedLeaves, bit_of, by_place, dump_text, gap_text, item_text, lines_from, object_lines};
 
 use crate::items::{Item, items_of};
 use abi_print::text::{append, append_class, append_number};
@@ -85,8 +85,8 @@ fn append_contents<L: SoundLayout>(
     leaves: &[DumpLeaf],
 ) -> Result<(), NoMemory>
     requires layout { L.lays_out layout.now h.now }
-    requires dumped { IsDumped h.now c leaves.now }
-    ensures { OnOk result (text.new.items ≡ text.old.items ++ lines_of h.now (places_of h.now (L.rows layout.now)) c leaves.now) }
+    requires dumped { AreDumpedLeaves h.now c leaves.now }
+    ensures { OnOk result (text.new.items ≡ text.old.items ++ object_lines h.now (places_of h.now (L.rows layout.now)) c leaves.now) }
 {
     h.keeps();
     let size = layout.layout(c).size;
@@ -110,7 +110,7 @@ pub(crate) fn append_dump<L: SoundLayout>(
     leaves: &[DumpLeaf],
 ) -> Result<(), NoMemory>
     requires layout { L.lays_out layout.now h.now }
-    requires dumped { IsDumped h.now c leaves.now }
+    requires dumped { AreDumpedLeaves h.now c leaves.now }
     ensures { OnOk result (text.new.items ≡ text.old.items ++ dump_text h.now (places_of h.now (L.rows layout.now)) number c leaves.now) }
 {
     append(text, b"dump #")?;

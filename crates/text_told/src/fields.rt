@@ -3,7 +3,7 @@
 ghost use Rattle.std.specs.Prelude.{◌≡◌, ◌++◌, OnOk};
 ghost use Rattle.std.specs.Option.{option_copied};
 ghost use Rattle.abi_print.specs.LayoutTexts.{subobject_text};
-ghost use Rattle.text_told.specs.Fields.{before_field, element_text, field_text, index_text, inner_text, type_behind, value_type};
+ghost use Rattle.text_told.specs.Fields.{before_field, element_name_text, field_name_text, index_text, inner_text, type_behind, value_type};
 
 use crate::locations::{element_class, member_at};
 use abi_print::text::{append, append_number, append_subobject};
@@ -67,7 +67,7 @@ pub fn append_element(
     member: Option<&Member<ClassId>>,
     i: u32,
 ) -> Result<(), NoMemory>
-    ensures { OnOk result (text.new.items ≡ text.old.items ++ element_text (option_copied member.entry) i) }
+    ensures { OnOk result (text.new.items ≡ text.old.items ++ element_name_text (option_copied member.entry) i) }
 {
     match member {
         None => Ok(()),
@@ -112,7 +112,7 @@ pub(crate) fn append_field(
     h: &Hierarchy,
     hops: &[Hop],
 ) -> Result<(), NoMemory>
-    ensures { OnOk result (text.new.items ≡ text.old.items ++ field_text h.now hops.now) }
+    ensures { OnOk result (text.new.items ≡ text.old.items ++ field_name_text h.now hops.now) }
 {
     match hops {
         [] => Ok(()),

@@ -7,8 +7,8 @@ ghost use Rattle.std.specs.Int.{w64, to_le_bytes};
 ghost use Rattle.byte_code.specs.Numbers.{word_of};
 ghost use Rattle.path_model.specs.declared.outs.DumpLeaf.{DumpLeaf};
 ghost use Rattle.abi_sound.specs.Places.{places_of};
-ghost use Rattle.abi_print.specs.TableTexts.{name_in};
-ghost use Rattle.text_told.specs.Dumps.{IsDumped, IsDumpedLeaf, NamesValue, byte_text, bytes_touched, held_text, hex_digit, items_of, kept_text, leaf_by_type, leaf_item, leaf_text, pointer_item, stored_text, table_text, unset_text};
+ghost use Rattle.abi_print.specs.TableTexts.{optional_class_name};
+ghost use Rattle.text_told.specs.Dumps.{AreDumpedLeaves, IsDumpedLeaf, NamesValue, byte_text, bytes_touched, held_text, hex_digit, dump_items, kept_text, leaf_by_type, leaf_item, leaf_text, pointer_item, stored_text, table_pointer_text, unset_text};
 
 use crate::fields::{append_field, type_behind};
 use crate::locations::{
@@ -212,7 +212,7 @@ fn leaf_item<L: SoundLayout>(
 
 /// Puts the name of a class at the end of a text, where there is one.
 fn append_name(text: &mut Vec<u8>, h: &Hierarchy, c: Option<ClassId>) -> Result<(), NoMemory>
-    ensures { OnOk result (text.new.items ≡ text.old.items ++ name_in h.now c) }
+    ensures { OnOk result (text.new.items ≡ text.old.items ++ optional_class_name h.now c) }
 {
     match c {
         None => Ok(()),
@@ -222,7 +222,7 @@ fn append_name(text: &mut Vec<u8>, h: &Hierarchy, c: Option<ClassId>) -> Result<
 
 /// The text of a virtual pointer behind its place: the table to which it points.
 fn pointer_text(alloc: Global, h: &Hierarchy, pointer: TablePointer) -> Result<Vec<u8>, NoMemory>
-    ensures { IfOk result (λ text. text.items ≡ table_text h.now pointer) }
+    ensures { IfOk result (λ text. text.items ≡ table_pointer_text h.now pointer) }
 {
     let mut text = Vec::new(alloc);
     append(&mut text, b"vptr ")?;
@@ -290,8 +290,8 @@ pub fn items_of<L: SoundLayout>(
     leaves: &[DumpLeaf],
 ) -> Result<Vec<Item>, NoMemory>
     requires layout { L.lays_out layout.now h.now }
-    requires dumped { IsDumped h.now c leaves.now }
-    ensures { IfOk result (λ items. items.items ≡ items_of h.now (places_of h.now (L.rows layout.now)) c leaves.now) }
+    requires dumped { AreDumpedLeaves h.now c leaves.now }
+    ensures { IfOk result (λ items. items.items ≡ dump_items h.now (places_of h.now (L.rows layout.now)) c leaves.now) }
 {
     let mut items = Vec::new(alloc);
     let pointers = pointers_of(alloc, h, layout, c)?;

@@ -8,10 +8,10 @@ ghost use Rattle.cxx_hierarchy.specs.declared.records.FieldType.TheVariants.{Obj
 ghost use Rattle.cxx_hierarchy.specs.Classes.{width_of_member};
 ghost use Rattle.cxx_hierarchy.specs.Scalars.{size_of};
 ghost use Rattle.abi_sound.specs.Places.{first_bit, places_of, size_of_value};
-ghost use Rattle.abi_sound.specs.Locations.{base_place_in, class_in, bits_of_value, element_class, element_place, last_member, place_behind, size_of_type, stride_in};
-ghost use Rattle.text_told.specs.Fields.{Names, NamesPart, first_of, member_at, part_text, place_in, width_of};
+ghost use Rattle.abi_sound.specs.Locations.{base_place_in, class_of_member, bits_of_value, element_class, element_place, last_member, place_behind, size_of_type, stride_in};
+ghost use Rattle.text_told.specs.Fields.{Names, NamesPart, first_value_bit, member_at, part_text, location_place, bit_field_width};
 ghost use Rattle.text_told.specs.Dumps.{bytes_touched};
-ghost use Rattle.text_told.specs.invariants.Leading.{GoAlong, IsBaseOf, IsKnown};
+ghost use Rattle.text_told.specs.invariants.Leading.{AreKnownHops, IsBaseOf, IsKnownClass};
 
 use abi_print::text::{append, append_number};
 use abi_sound::{SoundLayout, first_bit, member_place};
@@ -138,8 +138,8 @@ pub(crate) fn leaf_bits<L: SoundLayout>(
     member: Option<(ClassId, u32)>,
 ) -> LeafBits
     requires layout { L.lays_out layout.now h.now }
-    ensures first { result.first ≡ first_of (places_of h.now (L.rows layout.now)) member }
-    ensures width { result.width ≡ width_of h.now member }
+    ensures first { result.first ≡ first_value_bit (places_of h.now (L.rows layout.now)) member }
+    ensures width { result.width ≡ bit_field_width h.now member }
     ensures few { (n : ℕ) → result.width ≡ Some n → n ≤ 64 }
 {
     match member {
@@ -164,7 +164,7 @@ pub fn bytes_of(bits: LeafBits, ty: &ValueType<ClassId>) -> u32
 
 /// The class of which the elements of a member are objects, where they are.
 fn class_in(member: Option<&Member<ClassId>>) -> Option<ClassId>
-    ensures { result ≡ class_in (option_copied member.entry) }
+    ensures { result ≡ class_of_member (option_copied member.entry) }
 {
     match member {
         None => None,
@@ -204,7 +204,7 @@ fn element_place<L: SoundLayout>(
     i: u32,
 ) -> u32
     requires layout { L.lays_out layout.now h.now }
-    requires known { IsKnown h.now d }
+    requires known { IsKnownClass h.now d }
     requires small { element_place h.now (places_of h.now (L.rows layout.now)) d m i < 2 ^ 32 }
     ensures { result ≡ element_place h.now (places_of h.now (L.rows layout.now)) d m i }
 {
@@ -229,7 +229,7 @@ fn base_place<L: SoundLayout>(h: &Hierarchy, layout: &L, c: Option<ClassId>, s: 
 /// The place to which hops lead in what is of a class, in bytes.
 fn place_behind<L: SoundLayout>(h: &Hierarchy, layout: &L, c: Option<ClassId>, hops: &[Hop]) -> u32
     requires layout { L.lays_out layout.now h.now }
-    requires leads { GoAlong h.now c hops.now }
+    requires leads { AreKnownHops h.now c hops.now }
     requires small { place_behind h.now (places_of h.now (L.rows layout.now)) c hops.now < 2 ^ 32 }
     ensures { result ≡ place_behind h.now (places_of h.now (L.rows layout.now)) c hops.now }
 {
@@ -249,7 +249,7 @@ fn place_behind<L: SoundLayout>(h: &Hierarchy, layout: &L, c: Option<ClassId>, h
 pub(crate) fn place_in<L: SoundLayout>(h: &Hierarchy, layout: &L, at: &Location) -> u32
     requires layout { L.lays_out layout.now h.now }
     requires names { (type : FieldType ClassId) × Names h.now type at.now }
-    ensures { result ≡ place_in h.now (places_of h.now (L.rows layout.now)) at.now }
+    ensures { result ≡ location_place h.now (places_of h.now (L.rows layout.now)) at.now }
 {
     h.keeps();
     place_behind(h, layout, Some(at.class), at.hops.as_slice())

@@ -2,7 +2,7 @@
 
 ghost use Rattle.std.specs.Prelude.{◌≡◌, ◌++◌, ◌∷◌, [], IfOk, OnErr, OnOk, codes};
 ghost use Rattle.abi_sound.specs.Places.{places_of};
-ghost use Rattle.abi_print.specs.LayoutTexts.{name_of};
+ghost use Rattle.abi_print.specs.LayoutTexts.{declared_class_name};
 ghost use Rattle.abi_print.specs.TableTexts.{function_text};
 ghost use Rattle.text_told.specs.Fields.{NamesPart, part_text};
 ghost use Rattle.text_told.specs.OutTexts.{IsTold, NamesPartOrNull, line_text, out_text, pointer_text};
@@ -49,7 +49,7 @@ fn append_event<L: SoundLayout>(
 ) -> Result<(), NoMemory>
     requires layout { L.lays_out layout.now h.now }
     requires names { NamesPart h.now at.now }
-    ensures { OnOk result (text.new.items ≡ text.old.items ++ event.now ++ name_of h.now class ++ codes " " ++ part_text h.now (places_of h.now (L.rows layout.now)) at.now) }
+    ensures { OnOk result (text.new.items ≡ text.old.items ++ event.now ++ declared_class_name h.now class ++ codes " " ++ part_text h.now (places_of h.now (L.rows layout.now)) at.now) }
 {
     append(text, event)?;
     append_class(text, h, class)?;

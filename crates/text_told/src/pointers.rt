@@ -7,9 +7,9 @@ ghost use Rattle.cxx_subobject.specs.Subobjects.{IsSubobject, class_of, whole_of
 ghost use Rattle.cxx_hierarchy.specs.Classes.{members_of};
 ghost use Rattle.abi_sound.specs.Places.{places_of};
 ghost use Rattle.abi_slots.specs.Views.{heads};
-ghost use Rattle.abi_vtable.specs.invariants.Parts.{IsViewParts, numbered, view_in};
+ghost use Rattle.abi_vtable.specs.invariants.Parts.{IsViewParts, subobjects_numbered, view_of_parts};
 ghost use Rattle.text_told.specs.declared.pointers.TablePointer.{TablePointer};
-ghost use Rattle.text_told.specs.Pointers.{member_objects, moved, objects_by_member, objects_by_type, objects_in, own_pointers, pointer_at, pointers_in, pointers_within, whole_view};
+ghost use Rattle.text_told.specs.Pointers.{member_objects, moved_pointer, objects_by_member, objects_by_type, objects_in, own_pointers, table_pointer_at, pointers_in, pointers_within, whole_view};
 
 use abi_primary::is_dynamic;
 use abi_slots::GroupName;
@@ -59,7 +59,7 @@ fn pointer_at<L: SoundLayout>(h: &Hierarchy, layout: &L, c: ClassId, s: &Subobje
     requires layout { L.lays_out layout.now h.now }
     requires known { c.0 < length h.now }
     requires valid { IsSubobject h.now c s.now }
-    ensures { result ≡ pointer_at (places_of h.now (L.rows layout.now)) c s.now }
+    ensures { result ≡ table_pointer_at (places_of h.now (L.rows layout.now)) c s.now }
 {
     let place = layout.place(h, c, s);
     TablePointer {
@@ -89,8 +89,8 @@ fn head_pointers<L: SoundLayout>(
     requires layout { L.lays_out layout.now h.now }
     requires view { IsViewParts h.now (places_of h.now (L.rows layout.now)) x.now }
     requires whole { x.now.complete ≡ x.now.class }
-    requires heads { numbered (preorder h.now x.now.class) numbers.now ≡ map Some (heads h.now (places_of h.now (L.rows layout.now)) (view_in x.now)) }
-    ensures { IfOk result (λ list. list.items ≡ map (pointer_at (places_of h.now (L.rows layout.now)) x.now.class) (heads h.now (places_of h.now (L.rows layout.now)) (view_in x.now))) }
+    requires heads { subobjects_numbered (preorder h.now x.now.class) numbers.now ≡ map Some (heads h.now (places_of h.now (L.rows layout.now)) (view_of_parts x.now)) }
+    ensures { IfOk result (λ list. list.items ≡ map (table_pointer_at (places_of h.now (L.rows layout.now)) x.now.class) (heads h.now (places_of h.now (L.rows layout.now)) (view_of_parts x.now))) }
 {
     let mut list = Vec::new(alloc);
     for number in numbers {
@@ -192,7 +192,7 @@ fn member_objects<L: SoundLayout>(
 /// The same pointer, of an object that lies so much further.
 fn moved(by: u32, pointer: TablePointer) -> TablePointer
     requires { by + pointer.place < 2 ^ 32 }
-    ensures { result ≡ moved by pointer }
+    ensures { result ≡ moved_pointer by pointer }
 {
     TablePointer {
         place: by + pointer.place,
@@ -210,7 +210,7 @@ fn push_moved(
 ) -> Result<(), NoMemory>
     requires by { by < 2 ^ 31 }
     requires inside { (p : TablePointer) → Contains inside.now p → p.place < 2 ^ 31 }
-    ensures { OnOk result (list.new.items ≡ list.old.items ++ map (moved by) inside.now) }
+    ensures { OnOk result (list.new.items ≡ list.old.items ++ map (moved_pointer by) inside.now) }
 {
     for pointer in inside {
         list.push(moved(by, *pointer))?;
@@ -228,7 +228,7 @@ fn push_elements(
 ) -> Result<(), NoMemory>
     requires elements { (i : ℕ) → i < x.count → x.place + i * size < 2 ^ 31 }
     requires inside { (p : TablePointer) → Contains inside.now p → p.place < 2 ^ 31 }
-    ensures { OnOk result (list.new.items ≡ list.old.items ++ flat_map (λ i. map (moved (x.place + i * size)) inside.now) (range_with_len 0 x.count)) }
+    ensures { OnOk result (list.new.items ≡ list.old.items ++ flat_map (λ i. map (moved_pointer (x.place + i * size)) inside.now) (range_with_len 0 x.count)) }
 {
     for i in 0..x.count {
         push_moved(list, x.place + i * size, inside)?;

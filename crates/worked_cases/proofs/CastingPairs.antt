@@ -6,13 +6,13 @@ use Rattle.foundation.proofs.Members.{Has, contains_from_has, has_from_contains}
 use Rattle.byte_memory.specs.Store.{Store, load_of}
 use Rattle.byte_memory.specs.declared.memory.MemoryFault.{MemoryFault}
 use Rattle.byte_code.specs.Numbers.{word_of}
-use Rattle.byte_code.specs.Records.{IsInfoAt, IsBaseAt, IsClearOf, IsTableWord}
+use Rattle.byte_code.specs.Records.{IsInfoAt, HasBaseRecord, IsClearOf, IsTableWord}
 use Rattle.byte_code.specs.declared.image.InfoRecord.{InfoRecord}
 use Rattle.byte_code.specs.declared.image.BaseRecord.{BaseRecord}
 use Rattle.abi_dyncast.specs.declared.parts.Part.{Part}
 use Rattle.abi_dyncast.specs.declared.parts.Edge.{Edge}
-use Rattle.abi_dyncast.specs.Graph.{Graph, graph_of, word_in, loaded, pointer_at, moved, info_at, base_at, is_virtual, record_at, base_of, edge_by, any_edge, public_edge, Leads, stays, steps, LeadsToSome}
-use Rattle.abi_dyncast.specs.Casts.{CanStep, AreRead, AreParts, CanWalk, IsNamed, view_of, CanCast, IsTrueHint, CanCastHinted}
+use Rattle.abi_dyncast.specs.Graph.{Graph, graph_of, word_in, loaded_or_zero, pointer_at, moved_address, info_at, base_record_at, has_virtual_flag, record_at, base_record, edge_by, any_edge, public_edge, LeadsByEdges, stays, steps, LeadsToSome}
+use Rattle.abi_dyncast.specs.Casts.{CanStep, CanReadParts, AreClosedParts, CanWalk, IsPartAtAddress, view_at_address, CanCast, IsTrueHint, CanCastHinted}
 use Rattle.abi_dyncast.proofs.Keeping.{info_read, base_read}
 use Rattle.abi_dyncast.proofs.Distances.{moved_along}
 use Rattle.abi_dyncast.proofs.Ways.{leads_inside}
@@ -76,18 +76,18 @@ module _ (image : ℕ → Option ℕ) (memory : Store) (pair : Pair) (start poin
   first_place = omega arith
 
   -- the two edges
-  first_base : base_of image whole 0 ≡ pair.first
-  first_base = ap (λ (r : InfoRecord). base_at image (r.first + 16 * 0)) whole_is ∙ (ap (base_at image) first_place ∙ base_read image pair.whole.first pair.first is.first)
+  first_base : base_record image whole 0 ≡ pair.first
+  first_base = ap (λ (r : InfoRecord). base_record_at image (r.first + 16 * 0)) whole_is ∙ (ap (base_record_at image) first_place ∙ base_read image pair.whole.first pair.first is.first)
 
-  second_base : base_of image whole 1 ≡ pair.second
-  second_base = ap (λ (r : InfoRecord). base_at image (r.first + 16 * 1)) whole_is ∙ base_read image (pair.whole.first + 16) pair.second is.second
+  second_base : base_record image whole 1 ≡ pair.second
+  second_base = ap (λ (r : InfoRecord). base_record_at image (r.first + 16 * 1)) whole_is ∙ base_read image (pair.whole.first + 16) pair.second is.second
 
   first_edge : g.edge whole 0 ≡ record { part = first; is_public = true }
   first_edge =
       let low = start_low in
       let make : ℕ → Edge = λ n. record { part = record { at = n; info = pair.first.info }; is_public = true } in
       let sum : pos start +ℤ pos 0 ≡ pos start = omega (arith, ints) in
-      let written : edge_by image memory start pair.first ≡ make (moved start (word_of (pos 0))) = ap (λ (z : ℤ). edge_by image memory start (record { info = pair.first.info; offset_flags = z })) is.at_start in
+      let written : edge_by image memory start pair.first ≡ make (moved_address start (word_of (pos 0))) = ap (λ (z : ℤ). edge_by image memory start (record { info = pair.first.info; offset_flags = z })) is.at_start in
       ap (edge_by image memory start) first_base ∙ (written ∙ ap make (moved_along start start (pos 0) sum (omega arith) (omega arith)))
 
   second_edge : g.edge whole 1 ≡ record { part = second; is_public = true }
@@ -95,10 +95,10 @@ module _ (image : ℕ → Option ℕ) (memory : Store) (pair : Pair) (start poin
       let low = start_low in
       let make : ℕ → Edge = λ n. record { part = record { at = n; info = pair.second.info }; is_public = true } in
       let sum : pos start +ℤ pos 16 ≡ pos (start + 16) = omega (arith, ints) in
-      let written : edge_by image memory start pair.second ≡ make (moved start (word_of (pos 16))) = ap (λ (z : ℤ). edge_by image memory start (record { info = pair.second.info; offset_flags = z })) is.behind in
+      let written : edge_by image memory start pair.second ≡ make (moved_address start (word_of (pos 16))) = ap (λ (z : ℤ). edge_by image memory start (record { info = pair.second.info; offset_flags = z })) is.behind in
       ap (edge_by image memory start) second_base ∙ (written ∙ ap make (moved_along start (start + 16) (pos 16) sum (omega arith) (omega arith)))
 
-  are : AreParts g parts
+  are : AreClosedParts g parts
   are = record {
     inside = λ p i has. each (λ q. i < g.count q → Contains parts (g.edge q i).part)
         (λ less. two (λ n. Contains parts (g.edge whole n).part) i (subst (λ n. i < n) whole_count less)
@@ -113,17 +113,17 @@ module _ (image : ℕ → Option ℕ) (memory : Store) (pair : Pair) (start poin
   }
 
   -- a record that is not of a virtual base is read alone
-  plain_step : (i : ℕ) (base : BaseRecord) → record_at image whole i < 2 ^ 64 → IsBaseAt image (record_at image whole i) base → base_of image whole i ≡ base → is_virtual base ≡ false → CanStep image memory whole i
+  plain_step : (i : ℕ) (base : BaseRecord) → record_at image whole i < 2 ^ 64 → HasBaseRecord image (record_at image whole i) base → base_record image whole i ≡ base → has_virtual_flag base ≡ false → CanStep image memory whole i
   plain_step i base low there same plain = record {
     low = low;
-    base = subst (λ b. IsBaseAt image (record_at image whole i) b) (sym same) there;
+    base = subst (λ b. HasBaseRecord image (record_at image whole i) b) (sym same) there;
     pointer = λ way. absurd (never way);
     word = λ way. absurd (never way);
     table = λ way. absurd (never way);
   }
     where
-      never : is_virtual (base_of image whole i) ≡ true → ⊥
-      never way = let f : true ≡ false = sym way ∙ (ap is_virtual same ∙ plain) in cc
+      never : has_virtual_flag (base_record image whole i) ≡ true → ⊥
+      never way = let f : true ≡ false = sym way ∙ (ap has_virtual_flag same ∙ plain) in cc
 
   first_at : record_at image whole 0 ≡ pair.whole.first
   first_at = ap (λ (r : InfoRecord). r.first + 16 * 0) whole_is ∙ first_place
@@ -131,7 +131,7 @@ module _ (image : ℕ → Option ℕ) (memory : Store) (pair : Pair) (start poin
   second_at : record_at image whole 1 ≡ pair.whole.first + 16
   second_at = ap (λ (r : InfoRecord). r.first + 16 * 1) whole_is
 
-  read : AreRead image memory parts
+  read : CanReadParts image memory parts
   read = record {
     info = each (λ q. IsInfoAt image q.info (info_at image q.info))
         (subst (λ r. IsInfoAt image pair.info r) (sym whole_is) is.whole)
@@ -140,9 +140,9 @@ module _ (image : ℕ → Option ℕ) (memory : Store) (pair : Pair) (start poin
     steps = λ p i has. each (λ q. i < g.count q → CanStep image memory q i)
         (λ less. two (λ n. CanStep image memory whole n) i (subst (λ n. i < n) whole_count less)
         (let low = is.low in
-        plain_step 0 pair.first (subst (λ n. n < 18446744073709551616) (sym first_at) (omega arith)) (subst (λ n. IsBaseAt image n pair.first) (sym first_at) is.first) first_base (ap (λ (z : ℤ). is_virtual (record { info = pair.first.info; offset_flags = z })) is.at_start))
+        plain_step 0 pair.first (subst (λ n. n < 18446744073709551616) (sym first_at) (omega arith)) (subst (λ n. HasBaseRecord image n pair.first) (sym first_at) is.first) first_base (ap (λ (z : ℤ). has_virtual_flag (record { info = pair.first.info; offset_flags = z })) is.at_start))
         (let low = is.low in
-        plain_step 1 pair.second (subst (λ n. n < 18446744073709551616) (sym second_at) (omega arith)) (subst (λ n. IsBaseAt image n pair.second) (sym second_at) is.second) second_base (ap (λ (z : ℤ). is_virtual (record { info = pair.second.info; offset_flags = z })) is.behind)))
+        plain_step 1 pair.second (subst (λ n. n < 18446744073709551616) (sym second_at) (omega arith)) (subst (λ n. HasBaseRecord image n pair.second) (sym second_at) is.second) second_base (ap (λ (z : ℤ). has_virtual_flag (record { info = pair.second.info; offset_flags = z })) is.behind)))
         (λ less. absurd (none_first i less)) (λ less. absurd (none_second i less)) p has;
   }
 
@@ -161,8 +161,8 @@ module _ (image : ℕ → Option ℕ) (memory : Store) (pair : Pair) (start poin
       by_has there (inl same) = subst (λ n. IsClearOf image infos at n) same (record {
         info = pair.whole;
         there = is.whole;
-        bases = λ i less. two (λ n. (base : BaseRecord) × IsBaseAt image (pair.whole.first + 16 * n) base × Contains infos base.info) i (subst (λ n. i < n) is.bases less)
-            (pair.first, subst (λ n. IsBaseAt image n pair.first) (sym first_place) is.first, contains_from_has infos pair.first.info (inr (inl refl)))
+        bases = λ i less. two (λ n. (base : BaseRecord) × HasBaseRecord image (pair.whole.first + 16 * n) base × Contains infos base.info) i (subst (λ n. i < n) is.bases less)
+            (pair.first, subst (λ n. HasBaseRecord image n pair.first) (sym first_place) is.first, contains_from_has infos pair.first.info (inr (inl refl)))
             (pair.second, is.second, contains_from_has infos pair.second.info (inr (inr (inl refl))));
         apart = λ i less. inl (omega arith);
       })
@@ -171,16 +171,16 @@ module _ (image : ℕ → Option ℕ) (memory : Store) (pair : Pair) (start poin
       by_has there (inr (inr (inr none))) = absurd none
 
   pointer_is : pointer_at memory (start + 16) ≡ point
-  pointer_is = ap loaded load
+  pointer_is = ap loaded_or_zero load
 
-  view_is : view_of image memory (start + 16) ≡ whole
+  view_is : view_at_address image memory (start + 16) ≡ whole
   view_is =
       let low = start_low in
       let make : ℕ → ℕ → Part = λ i j. record { at = i; info = j } in
       let top : image (pointer_at memory (start + 16) - 16) ≡ Some 18446744073709551600 = ap (λ n. image (n - 16)) pointer_is ∙ table.top in
       let info : image (pointer_at memory (start + 16) - 8) ≡ Some pair.info = ap (λ n. image (n - 8)) pointer_is ∙ table.info in
-      let back : moved (start + 16) 18446744073709551600 ≡ start = omega arith in
-      ap (λ o. make (moved (start + 16) (word_in o)) (word_in (image (pointer_at memory (start + 16) - 8)))) top ∙ (ap (λ n. make n (word_in (image (pointer_at memory (start + 16) - 8)))) back ∙ ap (λ o. make start (word_in o)) info)
+      let back : moved_address (start + 16) 18446744073709551600 ≡ start = omega arith in
+      ap (λ o. make (moved_address (start + 16) (word_in o)) (word_in (image (pointer_at memory (start + 16) - 8)))) top ∙ (ap (λ n. make n (word_in (image (pointer_at memory (start + 16) - 8)))) back ∙ ap (λ o. make start (word_in o)) info)
 
   can : (room : ℕ) → 3 ≤ room → CanCast image memory room (start + 16)
   can room few =
@@ -197,10 +197,10 @@ module _ (image : ℕ → Option ℕ) (memory : Store) (pair : Pair) (start poin
 
   -- only the whole is of its class, and an edge leads from there to the second base
   truth : IsTrueHint g whole pair.second_class.class pair.whole.class (pos 16)
-  truth p target = each (λ q. g.class q ≡ pair.whole.class → LeadsToSome g public_edge (IsNamed g (q.at + 16) pair.second_class.class) q)
+  truth p target = each (λ q. g.class q ≡ pair.whole.class → LeadsToSome g public_edge (IsPartAtAddress g (q.at + 16) pair.second_class.class) q)
       (λ same. record {
         end = second;
-        leads = steps whole second 1 (subst (λ n. 1 < n) (sym whole_count) (omega arith)) (ap (λ (e : Edge). e.is_public) second_edge) (subst (λ (e : Edge). Leads g public_edge e.part second) (sym second_edge) (stays second));
+        leads = steps whole second 1 (subst (λ n. 1 < n) (sym whole_count) (omega arith)) (ap (λ (e : Edge). e.is_public) second_edge) (subst (λ (e : Edge). LeadsByEdges g public_edge e.part second) (sym second_edge) (stays second));
         is = record { same_place = refl; same_class = ap (λ (r : InfoRecord). r.class) second_is };
       })
       (λ same. let below = is.first_below in let class : pair.first_class.class ≡ pair.whole.class = sym (ap (λ (r : InfoRecord). r.class) first_is) ∙ same in absurd (omega arith))

@@ -1,6 +1,6 @@
 -- What is known of the type information of a class with two public bases (Itanium C++ ABI 2.9.5).
 use Rattle.std.specs.Prelude.{◌≡◌, ℕ, ◌+◌, ◌-◌, ◌≤◌, ◌<◌, ◌^◌, Option, Some, pos}
-use Rattle.byte_code.specs.Records.{IsInfoAt, IsBaseAt}
+use Rattle.byte_code.specs.Records.{IsInfoAt, HasBaseRecord}
 use Rattle.worked_cases.specs.declared.hinted_visits.Pair.{Pair}
 
 -- the record of the class, those of its bases, and those of their classes stand in the image; the bases are of smaller classes and have
@@ -9,8 +9,8 @@ pub record IsPair (image : ℕ → Option ℕ) (pair : Pair) : Type 0 where
   pub whole : IsInfoAt image pair.info pair.whole
   pub bases : pair.whole.bases ≡ 2
   pub low : pair.whole.first + 32 < 2 ^ 64
-  pub first : IsBaseAt image pair.whole.first pair.first
-  pub second : IsBaseAt image (pair.whole.first + 16) pair.second
+  pub first : HasBaseRecord image pair.whole.first pair.first
+  pub second : HasBaseRecord image (pair.whole.first + 16) pair.second
   pub at_start : pair.first.offset_flags ≡ pos 2
   pub behind : pair.second.offset_flags ≡ pos 4098
   pub first_class : IsInfoAt image pair.first.info pair.first_class

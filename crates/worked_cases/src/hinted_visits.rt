@@ -2,7 +2,7 @@
 
 ghost use Rattle.std.specs.Prelude.{◌≡◌, ◌<◌, ◌+◌, ◌^◌, Some, IfSome, IsTrue};
 ghost use Rattle.byte_code.specs.Images.{word_at};
-ghost use Rattle.byte_code.specs.Records.{IsInfoAt, IsBaseAt};
+ghost use Rattle.byte_code.specs.Records.{IsInfoAt, HasBaseRecord};
 ghost use Rattle.abi_dyncast.specs.Casts.{room};
 ghost use Rattle.worked_cases.specs.Pairs.{IsPair, IsSecondTable};
 
@@ -69,7 +69,7 @@ fn class_at(image: &ImageBytes, at: u64) -> Option<InfoRecord>
 
 // The record of a base at an address, where it has these flags and this place; none where no such record stands there.
 fn base_at(image: &ImageBytes, at: u64, offset_flags: i64) -> Option<BaseRecord>
-    ensures there { IfSome result (λ base. IsBaseAt (word_at image.now) at base) }
+    ensures there { IfSome result (λ base. HasBaseRecord (word_at image.now) at base) }
     ensures number { IfSome result (λ base. base.offset_flags ≡ offset_flags) }
 {
     if at > 1 << 62 {

@@ -4,16 +4,16 @@ use Rattle.abi_dyncast.specs.declared.parts.Part.{Part}
 use Rattle.abi_dyncast.specs.declared.work.Goal.{Goal}
 use Rattle.abi_dyncast.specs.declared.work.Found.{Found}
 use Rattle.abi_dyncast.specs.Graph.{Graph, any_edge, public_edge, LeadsToSome}
-use Rattle.abi_dyncast.specs.Casts.{IsNamed}
+use Rattle.abi_dyncast.specs.Casts.{IsPartAtAddress}
 
 -- a part of the target class
 abbrev pub IsOfTarget : Graph → Goal → Part → Type 0
 IsOfTarget g goal part = g.class part ≡ goal.target
 
 abbrev pub IsSource : Graph → Goal → Part → Type 0
-IsSource g goal part = IsNamed g goal.at goal.class part
+IsSource g goal part = IsPartAtAddress g goal.at goal.class part
 
-pub record Tells (g : Graph) (goal : Goal) (part : Part) (found : Found) : Type 0 where
+pub record TellsBelow (g : Graph) (goal : Goal) (part : Part) (found : Found) : Type 0 where
   pub source : (found.source ≡ true) ↔ LeadsToSome g any_edge (IsSource g goal) part
   pub public_source : (found.public_source ≡ true) ↔ LeadsToSome g public_edge (IsSource g goal) part
   pub public_target : (found.public_target ≡ true) ↔ LeadsToSome g public_edge (IsOfTarget g goal) part
@@ -22,9 +22,9 @@ pub record Tells (g : Graph) (goal : Goal) (part : Part) (found : Found) : Type 
 abbrev pub is_source : Goal → ℕ → ℕ → Bool
 is_source goal at class = nat_eq at goal.at && nat_eq class goal.class
 
-abbrev pub found_at : Goal → ℕ → ℕ → Found
-found_at goal at class = record { source = is_source goal at class; public_source = is_source goal at class; public_target = nat_eq class goal.target }
+abbrev pub found_itself : Goal → ℕ → ℕ → Found
+found_itself goal at class = record { source = is_source goal at class; public_source = is_source goal at class; public_target = nat_eq class goal.target }
 
 -- what it tells with what one of its bases tells
-abbrev pub joined : Found → Found → Bool → Found
-joined own below is_public = record { source = own.source || below.source; public_source = own.public_source || (is_public && below.public_source); public_target = own.public_target || (is_public && below.public_target) }
+abbrev pub found_with_base : Found → Found → Bool → Found
+found_with_base own below is_public = record { source = own.source || below.source; public_source = own.public_source || (is_public && below.public_source); public_target = own.public_target || (is_public && below.public_target) }

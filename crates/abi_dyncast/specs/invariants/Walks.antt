@@ -4,15 +4,15 @@ use Rattle.byte_memory.specs.Store.{Store}
 use Rattle.abi_dyncast.specs.declared.parts.Part.{Part}
 use Rattle.abi_dyncast.specs.declared.work.Goal.{Goal}
 use Rattle.abi_dyncast.specs.declared.work.Entry.{Entry}
-use Rattle.abi_dyncast.specs.Graph.{Graph, graph_of, any_edge, Leads}
-use Rattle.abi_dyncast.specs.Casts.{AreParts, AreRead, HasAllBelow, edges_of}
+use Rattle.abi_dyncast.specs.Graph.{Graph, graph_of, any_edge, LeadsByEdges}
+use Rattle.abi_dyncast.specs.Casts.{AreClosedParts, CanReadParts, HasAllBelow, edges_of}
 use Rattle.abi_dyncast.specs.invariants.Chain.{IsMet}
-use Rattle.abi_dyncast.specs.invariants.Finding.{Tells}
+use Rattle.abi_dyncast.specs.invariants.Finding.{TellsBelow}
 
 -- what is kept of each part is right, and with a part all parts below it are there
 pub record AreDone (g : Graph) (goal : Goal) (entries : List Entry) : Type 0 where
   pub class : (e : Entry) → Contains entries e → e.class ≡ g.class e.part
-  pub tells : (e : Entry) → Contains entries e → Tells g goal e.part e.found
+  pub tells : (e : Entry) → Contains entries e → TellsBelow g goal e.part e.found
   pub below : (part : Part) (i : ℕ) → IsMet entries part → i < g.count part → IsMet entries (g.edge part i).part
 
 -- how many edges leave the parts that were met
@@ -30,10 +30,10 @@ pub record ReadsAtMost (g : Graph) (view : Part) (before after : ℕ) : Type 0 w
   pub few : (parts : List Part) → HasAllBelow g view parts → after ≤ before + edges_of g parts
 
 -- a walk from a part can begin
-pub record IsReady (image : ℕ → Option ℕ) (memory : Store) (goal : Goal) (room : ℕ) (entries : List Entry) (part : Part) : Type 0 where
+pub record MayBeginWalk (image : ℕ → Option ℕ) (memory : Store) (goal : Goal) (room : ℕ) (entries : List Entry) (part : Part) : Type 0 where
   pub parts : List Part
-  pub are : AreParts (graph_of image memory) parts
-  pub read : AreRead image memory parts
+  pub are : AreClosedParts (graph_of image memory) parts
+  pub read : CanReadParts image memory parts
   pub has : Contains parts part
   pub few : length parts ≤ room
   pub inside : (other : Part) → IsMet entries other → Contains parts other
@@ -44,6 +44,6 @@ pub record Visited (g : Graph) (goal : Goal) (part : Part) (old new : List Entry
   pub more : List Entry
   pub is : new ≡ old ++ more
   pub low : (other : Part) → IsMet more other → g.class other ≤ g.class part
-  pub below : (other : Part) → IsMet more other → Leads g any_edge part other
+  pub below : (other : Part) → IsMet more other → LeadsByEdges g any_edge part other
   pub met : IsMet new part
   pub done : AreDone g goal new

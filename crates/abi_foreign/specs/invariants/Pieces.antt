@@ -24,21 +24,21 @@ read_on n [] = n
 read_on n (c ∷ digits) = read_on (10 * n + (c - 48)) digits
 
 -- the number that digits say, where it is small enough
-abbrev pub IsValue : List ℕ → Option ℕ → Type 0
-IsValue digits None = most_number < read_on 0 digits
-IsValue digits (Some n) = (n ≡ read_on 0 digits) × (n ≤ most_number)
+abbrev pub DigitsSay : List ℕ → Option ℕ → Type 0
+DigitsSay digits None = most_number < read_on 0 digits
+DigitsSay digits (Some n) = (n ≡ read_on 0 digits) × (n ≤ most_number)
 
 -- the text begins with a number, and the rest follows it
-pub record IsNumber (text : List ℕ) (n : ℕ) (rest : List ℕ) : Type 0 where
+pub record BeginsWithNumber (text : List ℕ) (n : ℕ) (rest : List ℕ) : Type 0 where
   pub is : text ≡ decimal n ++ rest
   pub small : n ≤ most_number
   pub ends : IsNoDigit rest
 
 abbrev pub HasNoNumber : List ℕ → Type 0
-HasNoNumber text = (n : ℕ) (rest : List ℕ) → IsNumber text n rest → ⊥
+HasNoNumber text = (n : ℕ) (rest : List ℕ) → BeginsWithNumber text n rest → ⊥
 
 -- the text begins with a number and the piece, in one way, and the rest follows
-pub record IsBefore (text piece : List ℕ) (n : ℕ) (rest : List ℕ) : Type 0 where
+pub record IsNumberBefore (text piece : List ℕ) (n : ℕ) (rest : List ℕ) : Type 0 where
   pub is : text ≡ decimal n ++ (piece ++ rest)
   pub small : n ≤ most_number
   pub only : (m : ℕ) (other : List ℕ) → m ≤ most_number → text ≡ decimal m ++ (piece ++ other) → (m ≡ n) × (other ≡ rest)

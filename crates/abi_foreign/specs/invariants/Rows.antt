@@ -21,16 +21,16 @@ use Rattle.abi_print.specs.LayoutTexts.{proper}
 use Rattle.abi_print.specs.Texts.{PlaceOf}
 use Rattle.abi_foreign.specs.declared.said.MemberPlace.{MemberPlace}
 use Rattle.abi_foreign.specs.declared.said.ClassSaid.{ClassSaid}
-use Rattle.abi_foreign.specs.Lines.{numbered}
+use Rattle.abi_foreign.specs.Lines.{class_by_number}
 use Rattle.abi_foreign.specs.Listings.{cut_bits}
 
 -- the place that the lines of a class say of a base subobject
-abbrev pub printed : ClassSaid → Subobject → ℕ
-printed said s = nth_place said.places (position (λ (t : Subobject). same_subobject t s) (proper said.list))
+abbrev pub said_base_place : ClassSaid → Subobject → ℕ
+said_base_place said s = nth_place said.places (position (λ (t : Subobject). same_subobject t s) (proper said.list))
 
 abbrev pub printed_in : Option ClassSaid → Subobject → ℕ
 printed_in None s = 0
-printed_in (Some said) s = printed said s
+printed_in (Some said) s = said_base_place said s
 
 -- the places that a listing says
 abbrev pub said_place : List ClassSaid → PlaceOf
@@ -57,8 +57,8 @@ said_width saids member = width_said member.width (elements_of member.count) (sa
 abbrev pub exact_at : List ClassSaid → Member ClassId → MemberPlace → Bits
 exact_at saids member at = record { first = at.first; width = said_width saids member }
 
-abbrev pub cut_at : List ClassSaid → Member ClassId → MemberPlace → Bits
-cut_at saids member at = cut_bits (exact_at saids member at)
+abbrev pub cut_bits_at : List ClassSaid → Member ClassId → MemberPlace → Bits
+cut_bits_at saids member at = cut_bits (exact_at saids member at)
 
 -- the bits of members, with the first bits that their lines say
 abbrev pub exact_bits : List ClassSaid → List (Member ClassId) → List MemberPlace → List Bits
@@ -79,9 +79,9 @@ exact_row h saids primaries c said = record {
   nvsize = said.sizes.nvsize;
   nvalign = said.sizes.nvalign;
   primary = said.primary;
-  base_places = map (λ (b : Base ClassId). printed said (direct_base c b.class)) (filter is_plain_base (bases_of h c));
+  base_places = map (λ (b : Base ClassId). said_base_place said (direct_base c b.class)) (filter is_plain_base (bases_of h c));
   virtual_bases = filter_map shared_class said.list;
-  virtual_places = map (λ (v : ClassId). printed said (shared_base v)) (filter_map shared_class said.list);
+  virtual_places = map (λ (v : ClassId). said_base_place said (shared_base v)) (filter_map shared_class said.list);
   holders = map (λ (v : ClassId). find (has_primary primaries v) said.list) (filter_map shared_class said.list);
   member_places = map (λ (at : MemberPlace). at.place) said.members;
   member_bits = exact_bits saids (members_of h c) said.members;
@@ -94,4 +94,4 @@ exact_row_in h saids c (Some said) = exact_row h saids (primaries_of saids) c sa
 -- the rows of the first classes, as many as are asked for
 abbrev pub exact_rows : Classes → List ClassSaid → ℕ → List ClassLayout
 exact_rows h saids zero = []
-exact_rows h saids (suc n) = exact_rows h saids n ++ exact_row_in h saids (numbered n) (slice_get saids n)
+exact_rows h saids (suc n) = exact_rows h saids n ++ exact_row_in h saids (class_by_number n) (slice_get saids n)

@@ -7,17 +7,17 @@ use Rattle.cxx_hierarchy.specs.Classes.{Classes, members_of}
 use Rattle.cxx_subobject.specs.declared.Subobject.{Subobject}
 use Rattle.cxx_subobject.specs.Preorder.{preorder, ListsSubobjects}
 use Rattle.abi_primary.specs.declared.Primary.{Primary}
-use Rattle.abi_print.specs.LayoutTexts.{name_of, primary_text, subobject_text, type_text, length_text, field_text, proper}
+use Rattle.abi_print.specs.LayoutTexts.{declared_class_name, primary_text, subobject_text, type_text, length_text, field_text, proper}
 use Rattle.abi_foreign.specs.declared.said.Sizes.{Sizes}
 use Rattle.abi_foreign.specs.declared.said.MemberPlace.{MemberPlace}
 use Rattle.abi_foreign.specs.declared.said.ClassSaid.{ClassSaid}
-use Rattle.abi_foreign.specs.Lines.{most_number, numbered, sizes_line, primary_line, base_line, member_line, class_lines, lines_before, first_line, IsWritable}
-use Rattle.abi_foreign.specs.invariants.Pieces.{HasNoneBefore, IsBefore}
+use Rattle.abi_foreign.specs.Lines.{most_number, class_by_number, sizes_line, primary_line, base_line, member_line, class_lines, lines_before, first_line, IsWritable}
+use Rattle.abi_foreign.specs.invariants.Pieces.{HasNoneBefore, IsNumberBefore}
 use Rattle.abi_foreign.specs.invariants.Reading.{IsRead, IsReadTo}
 
 -- the numbers are small enough for a listing
-abbrev pub AreSmall : Sizes → Type 0
-AreSmall sizes = (sizes.size ≤ most_number) × (sizes.align ≤ most_number) × (sizes.dsize ≤ most_number) × (sizes.nvsize ≤ most_number) × (sizes.nvalign ≤ most_number)
+abbrev pub FitListing : Sizes → Type 0
+FitListing sizes = (sizes.size ≤ most_number) × (sizes.align ≤ most_number) × (sizes.dsize ≤ most_number) × (sizes.nvsize ≤ most_number) × (sizes.nvalign ≤ most_number)
 
 -- what stands behind each number of a class's first line, and a text behind
 abbrev pub after_nvsize : Sizes → List ℕ → List ℕ
@@ -37,16 +37,16 @@ abbrev pub sizes_then : Sizes → List ℕ → List ℕ
 sizes_then sizes rest = decimal sizes.size ++ (codes " align " ++ after_size sizes rest)
 
 abbrev pub HasNoSizes : List ℕ → List ℕ → Type 0
-HasNoSizes text head = (sizes : Sizes) (rest : List ℕ) → AreSmall sizes → text ≡ head ++ sizes_then sizes rest → ⊥
+HasNoSizes text head = (sizes : Sizes) (rest : List ℕ) → FitListing sizes → text ≡ head ++ sizes_then sizes rest → ⊥
 
 -- the text begins with the head and these numbers, in one way
 pub record AreSizes (text head : List ℕ) (sizes : Sizes) (rest : List ℕ) : Type 0 where
   pub is : text ≡ head ++ sizes_then sizes rest
-  pub small : AreSmall sizes
-  pub only : (other : Sizes) (after : List ℕ) → AreSmall other → text ≡ head ++ sizes_then other after → after ≡ rest
+  pub small : FitListing sizes
+  pub only : (other : Sizes) (after : List ℕ) → FitListing other → text ≡ head ++ sizes_then other after → after ≡ rest
 
 abbrev pub sizes_head : Classes → ClassId → List ℕ
-sizes_head h c = codes "class " ++ name_of h c ++ codes " size "
+sizes_head h c = codes "class " ++ declared_class_name h c ++ codes " size "
 
 abbrev pub primary_line_text : Classes → Primary → List ℕ
 primary_line_text h primary = codes "primary " ++ primary_text h primary ++ codes "\n"
@@ -54,7 +54,7 @@ primary_line_text h primary = codes "primary " ++ primary_text h primary ++ code
 -- the first line of a class says these sizes
 pub record AreSizesRead (h : Classes) (c : ClassId) (text : List ℕ) (sizes : Sizes) (rest : List ℕ) : Type 0 where
   pub is : text ≡ sizes_head h c ++ sizes_then sizes rest
-  pub small : AreSmall sizes
+  pub small : FitListing sizes
   pub line : IsRead h (sizes_line c) text rest
 
 -- the second line says this primary base
@@ -77,10 +77,10 @@ abbrev pub base_tail : Classes → Subobject → List ℕ
 base_tail h s = codes " base " ++ subobject_text h s ++ codes "\n"
 
 -- the lines of base subobjects at these places
-abbrev pub bases_text : Classes → List Subobject → List ℕ → List ℕ
-bases_text h [] places = []
-bases_text h (s ∷ list) [] = []
-bases_text h (s ∷ list) (place ∷ places) = decimal place ++ base_tail h s ++ bases_text h list places
+abbrev pub base_lines : Classes → List Subobject → List ℕ → List ℕ
+base_lines h [] places = []
+base_lines h (s ∷ list) [] = []
+base_lines h (s ∷ list) (place ∷ places) = decimal place ++ base_tail h s ++ base_lines h list places
 
 abbrev pub AreSmallNumbers : List ℕ → Type 0
 AreSmallNumbers [] = Unit {0}
@@ -88,7 +88,7 @@ AreSmallNumbers (place ∷ places) = (place ≤ most_number) × AreSmallNumbers 
 
 -- the lines of these base subobjects say these places
 pub record AreBasesRead (h : Classes) (list : List Subobject) (text places rest : List ℕ) : Type 0 where
-  pub is : text ≡ bases_text h list places ++ rest
+  pub is : text ≡ base_lines h list places ++ rest
   pub each : length places ≡ length list
   pub small : AreSmallNumbers places
   pub lines : IsReadTo h (map base_line list) text rest
@@ -137,7 +137,7 @@ HasNoMember None text tail = HasNoneBefore text tail
 HasNoMember (Some width) text tail = HasNoBits text tail
 
 abbrev pub IsMember : Option ℕ → List ℕ → List ℕ → MemberPlace → List ℕ → Type 0
-IsMember None text tail at rest = IsBefore text tail at.place rest × (at.first ≡ 0)
+IsMember None text tail at rest = IsNumberBefore text tail at.place rest × (at.first ≡ 0)
 IsMember (Some width) text tail at rest = AreBits text tail at rest
 
 -- the line of the member says this place
@@ -163,12 +163,12 @@ pub record AreMembersRead (h : Classes) (members : List (Member ClassId)) (text 
 abbrev pub said_text : Classes → ClassId → ClassSaid → List ℕ
 said_text h c said =
     sizes_head h c ++ sizes_then said.sizes
-    (primary_line_text h said.primary ++ (bases_text h (proper said.list) said.places ++ members_text h (members_of h c) said.members))
+    (primary_line_text h said.primary ++ (base_lines h (proper said.list) said.places ++ members_text h (members_of h c) said.members))
 
 -- what is said of a class is what its lines may say, of which the first has this number
 pub record IsSaid (h : Classes) (c : ClassId) (number : ℕ) (said : ClassSaid) : Type 0 where
   pub first : said.line ≡ number
-  pub sizes : AreSmall said.sizes
+  pub sizes : FitListing said.sizes
   pub primary : IsWritable h said.primary
   pub in_preorder : said.list ≡ preorder h c
   pub lists : ListsSubobjects h c said.list
@@ -188,7 +188,7 @@ said_in h c (Some said) = said_text h c said
 
 abbrev pub said_before : Classes → List ClassSaid → ℕ → List ℕ
 said_before h saids zero = []
-said_before h saids (suc n) = said_before h saids n ++ said_in h (numbered n) (slice_get saids n)
+said_before h saids (suc n) = said_before h saids n ++ said_in h (class_by_number n) (slice_get saids n)
 
 -- the text is that of what is said of all classes
 pub record AreSaid (h : Classes) (text : List ℕ) (saids : List ClassSaid) : Type 0 where

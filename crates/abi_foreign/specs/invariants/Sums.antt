@@ -4,11 +4,11 @@ use Rattle.cxx_hierarchy.specs.declared.records.ClassId.{ClassId}
 use Rattle.cxx_hierarchy.specs.Classes.{Classes}
 use Rattle.cxx_subobject.specs.declared.Subobject.{Subobject}
 use Rattle.abi_sound.specs.declared.class_layout.ClassLayout.{ClassLayout}
-use Rattle.abi_sound.specs.Places.{place_of}
+use Rattle.abi_sound.specs.Places.{place_in_class}
 
 -- each place is that of its subobject
 pub record AreSumsOf (h : Classes) (rows : List ClassLayout) (c : ClassId) (list : List Subobject) (places : List ℕ) : Type 0 where
-  pub each : (i : ℕ) (s : Subobject) (place : ℕ) → slice_get list i ≡ Some s → slice_get places i ≡ Some place → place ≡ place_of h rows c s
+  pub each : (i : ℕ) (s : Subobject) (place : ℕ) → slice_get list i ≡ Some s → slice_get places i ≡ Some place → place ≡ place_in_class h rows c s
 
 -- one place is not that of its subobject
 pub record HasNoSum (h : Classes) (rows : List ClassLayout) (c : ClassId) (list : List Subobject) (places : List ℕ) : Type 0 where
@@ -17,4 +17,4 @@ pub record HasNoSum (h : Classes) (rows : List ClassLayout) (c : ClassId) (list 
   pub place : ℕ
   pub there : slice_get list number ≡ Some s
   pub said : slice_get places number ≡ Some place
-  pub other : place ≡ place_of h rows c s → ⊥
+  pub other : place ≡ place_in_class h rows c s → ⊥

@@ -9,7 +9,7 @@ use Rattle.abi_slots.specs.declared.words.TypeInfo.{TypeInfo}
 use Rattle.abi_slots.specs.declared.words.VttWord.{VttWord}
 use Rattle.abi_slots.specs.declared.words.Table.{Table}
 use Rattle.abi_slots.specs.declared.words.Group.{Group}
-use Rattle.abi_slots.specs.Images.{Image, this_constant, this_vcall, return_constant, return_vbase, info_bases, info_flags, HasBase, all_words, vtt_address}
+use Rattle.abi_slots.specs.Images.{Image, this_constant, this_vcall, return_constant, return_vbase, info_bases, info_flags, HasBaseWords, all_words, vtt_address}
 use Rattle.abi_image.specs.declared.TheConstants.{BASE}
 use Rattle.abi_image.specs.declared.draft.Draft.{Draft}
 
@@ -18,12 +18,12 @@ abbrev pub AllAt : {A : Type 0} → (ℕ → A → Type 0) → List A → ℕ �
 AllAt {A} P xs at = (i : ℕ) (x : A) → slice_get xs i ≡ Some x → P (at + 8 * i) x
 
 -- words stand in an image from an address on
-pub record Stands (image : Image) (at : ℕ) (words : List ℕ) : Type 0 where
+pub record WordsStandAt (image : Image) (at : ℕ) (words : List ℕ) : Type 0 where
   pub each : AllAt (λ a w. image a ≡ Some w) words at
 
-abbrev pub total : List ℕ → ℕ
-total [] = 0
-total (n ∷ ns) = n + total ns
+abbrev pub sum_of_sizes : List ℕ → ℕ
+sum_of_sizes [] = 0
+sum_of_sizes (n ∷ ns) = n + sum_of_sizes ns
 
 -- where the item of a number stands, of items that take so many words each and stand from an address on
 abbrev pub address_of : List ℕ → ℕ → ℕ → ℕ
@@ -39,13 +39,13 @@ AllBySize {A} size P xs at = (i : ℕ) (x : A) → slice_get xs i ≡ Some x →
 abbrev pub address_in : List ℕ → ℕ → ℕ
 address_in list i = slice_index_or list i BASE
 
-abbrev pub class_in : List ℕ → ClassId → ℕ
-class_in list c = address_in list c.0
+abbrev pub class_address : List ℕ → ClassId → ℕ
+class_address list c = address_in list c.0
 
 -- an image that has the words of a draft
-pub record IsIn (image : Image) (draft : Draft) : Type 0 where
-  pub words : Stands image BASE draft.words.items
-  pub records : Stands image draft.records_at draft.records.items
+pub record HasDraftWords (image : Image) (draft : Draft) : Type 0 where
+  pub words : WordsStandAt image BASE draft.words.items
+  pub records : WordsStandAt image draft.records_at draft.records.items
 
 -- so many words are put behind those of a draft, and records behind its records; what is said of the address of the words then
 -- holds of each image that has the new draft
@@ -56,7 +56,7 @@ pub record Puts (old new : Draft) (count : ℕ) (Says : Image → ℕ → Type 0
   pub records : List ℕ
   pub records_are : new.records.items ≡ old.records.items ++ records
   pub same_place : new.records_at ≡ old.records_at
-  pub says : (image : Image) → IsIn image new → Says image (BASE + 8 * length old.words.items)
+  pub says : (image : Image) → HasDraftWords image new → Says image (BASE + 8 * length old.words.items)
 
 -- the words of a thunk
 abbrev pub thunk_words : Option ThisAdjust → Option ReturnAdjust → List ℕ
@@ -70,19 +70,19 @@ record_words at code None (Some result) = code ∷ (at + 16) ∷ thunk_words Non
 
 -- the bases of a class, two words each
 abbrev pub HasBasesAt : Image → (info : ClassId → ℕ) → List InfoBase → ℕ → Type 0
-HasBasesAt image info bases at = (i : ℕ) (base : InfoBase) → slice_get bases i ≡ Some base → HasBase image info base (at + 16 * i)
+HasBasesAt image info bases at = (i : ℕ) (base : InfoBase) → slice_get bases i ≡ Some base → HasBaseWords image info base (at + 16 * i)
 
 -- where the first base stands behind a record at an address, 0 where there is none
-abbrev pub first_base : ℕ → ℕ → ℕ
-first_base at zero = 0
-first_base at (suc n) = at + 32
+abbrev pub first_base_address : ℕ → ℕ → ℕ
+first_base_address at zero = 0
+first_base_address at (suc n) = at + 32
 
 -- the four words of the record of a class
 pub record HasHead (image : Image) (c : ClassId) (info : TypeInfo) (at : ℕ) : Type 0 where
   pub class : image at ≡ Some c.0
   pub flags : image (at + 8) ≡ Some (info_flags info)
   pub count : image (at + 16) ≡ Some (length (info_bases info))
-  pub first : image (at + 24) ≡ Some (first_base at (length (info_bases info)))
+  pub first : image (at + 24) ≡ Some (first_base_address at (length (info_bases info)))
   pub class_fits : c.0 < 2 ^ 32
   pub flags_fit : info_flags info < 2 ^ 32
   pub count_fits : length (info_bases info) < 2 ^ 32
@@ -117,4 +117,4 @@ table_size table = length table.words
 
 -- the first n items were put behind the words of a draft, each with its number
 pub record Fills {A : Type 0} (size : A → ℕ) (P : Image → ℕ → A → ℕ → Type 0) (xs : List A) (n : ℕ) (old new : Draft) : Type 0 where
-  pub puts : Puts old new (total (map size (take n xs))) (λ image at. AllBySize size (P image) (take n xs) at)
+  pub puts : Puts old new (sum_of_sizes (map size (take n xs))) (λ image at. AllBySize size (P image) (take n xs) at)

@@ -9,7 +9,7 @@ use Rattle.abi_image.specs.declared.TheConstants.{BASE}
 use Rattle.abi_image.specs.declared.draft.Draft.{Draft}
 use Rattle.abi_image.specs.declared.parts.Parts.{Parts}
 use Rattle.abi_image.specs.declared.regions.Region.{Region}
-use Rattle.abi_image.specs.invariants.Drafts.{IsIn, address_in, address_of, class_in, group_size, info_size, total, vtt_size}
+use Rattle.abi_image.specs.invariants.Drafts.{HasDraftWords, address_in, address_of, class_address, group_size, info_size, sum_of_sizes, vtt_size}
 use Rattle.abi_image.specs.invariants.Points.{AreGroupPoints, AreFirstPoints}
 
 -- things that take so many words each stand at these addresses, one after the other
@@ -21,19 +21,19 @@ pub record AreAt (start : ℕ) (sizes at : List ℕ) : Type 0 where
 -- the same, and the address behind them
 pub record IsRegion (start : ℕ) (sizes : List ℕ) (region : Region) : Type 0 where
   pub each : AreAt start sizes region.at.items
-  pub end_is : region.end ≡ start + 8 * total sizes
+  pub end_is : region.end ≡ start + 8 * sum_of_sizes sizes
 
 abbrev pub groups_start : List (List VttWord) → ℕ
 groups_start vtts = BASE + 16 * length vtts
 
 abbrev pub vtts_start : List Group → List (List VttWord) → ℕ
-vtts_start groups vtts = groups_start vtts + 8 * total (map group_size groups)
+vtts_start groups vtts = groups_start vtts + 8 * sum_of_sizes (map group_size groups)
 
 abbrev pub infos_start : List Group → List (List VttWord) → ℕ
-infos_start groups vtts = vtts_start groups vtts + 8 * total (map vtt_size vtts)
+infos_start groups vtts = vtts_start groups vtts + 8 * sum_of_sizes (map vtt_size vtts)
 
 -- the directory, the groups, the VTTs and the records stand one after the other
-pub record AreParts (groups : List Group) (vtts : List (List VttWord)) (infos : List TypeInfo) (parts : Parts) : Type 0 where
+pub record AreImageParts (groups : List Group) (vtts : List (List VttWord)) (infos : List TypeInfo) (parts : Parts) : Type 0 where
   pub groups_at : AreAt (groups_start vtts) (map group_size groups) parts.groups.at.items
   pub vtts_at : IsRegion (vtts_start groups vtts) (map vtt_size vtts) parts.vtts
   pub infos_at : IsRegion (infos_start groups vtts) (map info_size infos) parts.infos
@@ -41,9 +41,9 @@ pub record AreParts (groups : List Group) (vtts : List (List VttWord)) (infos : 
   pub firsts : AreFirstPoints groups (address_in parts.groups.at.items) (length vtts) parts.firsts.items
 
 abbrev pub addresses_of : Parts → Addresses
-addresses_of parts = record { group = address_in parts.groups.at.items; vtt = class_in parts.vtts.at.items; info = class_in parts.infos.at.items; records = parts.vtts.end }
+addresses_of parts = record { group = address_in parts.groups.at.items; vtt = class_address parts.vtts.at.items; info = class_address parts.infos.at.items; records = parts.vtts.end }
 
 -- an image that has the words of the draft has all tables at the places of the parts
 pub record IsDraftOf (codes : List CodeRow) (groups : List Group) (vtts : List (List VttWord)) (infos : List TypeInfo) (parts : Parts) (draft : Draft) : Type 0 where
   pub place : draft.records_at ≡ BASE + 8 * length draft.words.items
-  pub says : (image : Image) → IsIn image draft → HasTables codes groups vtts infos (addresses_of parts) BASE image
+  pub says : (image : Image) → HasDraftWords image draft → HasTables codes groups vtts infos (addresses_of parts) BASE image

@@ -21,11 +21,11 @@ pub record AreGroupPoints (groups : List Group) (group_at : List ℕ) (points : 
   pub size : length points ≡ length groups
   pub each : (i : ℕ) (group : Group) (list : List ℕ) → slice_get groups i ≡ Some group → slice_get points i ≡ Some list → ArePointsOf (address_in group_at i) group.tables list
 
-abbrev pub same_name : GroupName → GroupName → Bool
-same_name a b = nat_eq a.complete.0 b.complete.0 && same_subobject a.view b.view
+abbrev pub same_group_name : GroupName → GroupName → Bool
+same_group_name a b = nat_eq a.complete.0 b.complete.0 && same_subobject a.view b.view
 
 -- the group of a number has a name
-pub record IsNumberOf (groups : List Group) (name : GroupName) (number : ℕ) : Type 0 where
+pub record NumbersGroup (groups : List Group) (name : GroupName) (number : ℕ) : Type 0 where
   pub group : Group
   pub there : slice_get groups number ≡ Some group
   pub named : group.name ≡ name

@@ -8,14 +8,14 @@ use Rattle.abi_inspect.specs.declared.seen.Seen.{Seen}
 use Rattle.abi_inspect.specs.declared.seen.InspectFault.{InspectFault}
 use Rattle.abi_inspect.specs.declared.seen.InspectFault.TheVariants.{UnknownClass, Form, NoMemory}
 use Rattle.abi_inspect.specs.Rows.{rows_of}
-use Rattle.abi_inspect.specs.Values.{most_number}
-use Rattle.abi_inspect.specs.invariants.RowReads.{AreRead, IsStopped}
+use Rattle.abi_inspect.specs.Values.{most_dumped_number}
+use Rattle.abi_inspect.specs.invariants.RowReads.{AreReadFrom, IsStopped}
 
 -- the lines behind the first are those of an object of this number and class
 pub record IsSeenBehind (h : Classes) (l : Places) (object : ℕ) (c : ClassId) (text : List ℕ) (seen : Seen) : Type 0 where
   pub object_is : seen.object ≡ object
   pub class_is : seen.class ≡ c
-  pub read : AreRead h (rows_of h l c) text seen.leaves
+  pub read : AreReadFrom h (rows_of h l c) text seen.leaves
 
 -- the fault is in the line behind so many lines of the rows
 pub record IsFaultBehind (h : Classes) (l : Places) (c : ClassId) (text : List ℕ) (line : ℕ) : Type 0 where
@@ -33,5 +33,5 @@ IsReadBehind h l object c text (Err NoMemory) = Unit {0}
 -- the number of an object that these digits are
 pub record IsObjectOf (digits : List ℕ) (object : ℕ) : Type 0 where
   pub low : 1 ≤ object
-  pub high : object ≤ most_number
-  pub one : (n : ℕ) → n ≤ most_number → digits ≡ decimal n → object ≡ n
+  pub high : object ≤ most_dumped_number
+  pub one : (n : ℕ) → n ≤ most_dumped_number → digits ≡ decimal n → object ≡ n

@@ -16,7 +16,7 @@ pub record BeginsRows (h : Classes) (rows : List Row) (text : List ℕ) (lines :
   pub is : text ≡ concat (take lines (row_lines h rows values)) ++ rest
 
 -- the text is that of the rows with these values, and with no others
-pub record AreRead (h : Classes) (rows : List Row) (text : List ℕ) (values : List SeenValue) : Type 0 where
+pub record AreReadFrom (h : Classes) (rows : List Row) (text : List ℕ) (values : List SeenValue) : Type 0 where
   pub fits : AreValuesOf rows values
   pub is : text ≡ concat (row_lines h rows values)
   pub one : (others : List SeenValue) → AreValuesOf rows others → text ≡ concat (row_lines h rows others) → others ≡ values
@@ -30,5 +30,5 @@ pub record IsStopped (h : Classes) (rows : List Row) (text : List ℕ) (lines : 
 
 -- what was read of the rows
 abbrev pub IsRowsRead : Classes → List Row → List ℕ → RowsRead → Type 0
-IsRowsRead h rows text (Values values) = AreRead h rows text values.items
+IsRowsRead h rows text (Values values) = AreReadFrom h rows text values.items
 IsRowsRead h rows text (Fault lines) = IsStopped h rows text lines

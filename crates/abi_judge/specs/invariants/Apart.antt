@@ -17,8 +17,8 @@ abbrev pub LieApart : BitSpan → BitSpan → Type 0
 LieApart a b = AreDisjoint (span_bits a) (span_bits b)
 
 -- each bit is of one span alone
-abbrev pub AreApart : List BitSpan → Type 0
-AreApart spans = EachTwo LieApart spans
+abbrev pub ShareNoBit : List BitSpan → Type 0
+ShareNoBit spans = EachTwo LieApart spans
 
 -- each span has a bit
 pub record AreLong (spans : List BitSpan) : Type 0 where

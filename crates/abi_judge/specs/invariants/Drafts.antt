@@ -7,10 +7,10 @@ use Rattle.abi_sound.specs.declared.class_layout.ClassLayout.{ClassLayout}
 use Rattle.abi_sound.specs.Places.{places_of}
 use Rattle.abi_sound.specs.Sound.{AreFullRows}
 use Rattle.abi_judge.specs.declared.draft.Draft.{Draft}
-use Rattle.abi_judge.specs.Rules.{IsSmallRow, AreHeld}
+use Rattle.abi_judge.specs.Rules.{IsSmallRow, HasFirstHolders}
 
 -- the rows tell of each class, in small numbers, and the flags which classes are dynamic
-pub record IsDraft (draft : Draft) : Type 0 where
+pub record AreDraftRows (draft : Draft) : Type 0 where
   pub keeps : IsHierarchy draft.h.now
   pub full : AreFullRows draft.h.now draft.rows.now
   pub small : (i : ℕ) (row : ClassLayout) → slice_get draft.rows.now i ≡ Some row → IsSmallRow row
@@ -18,6 +18,6 @@ pub record IsDraft (draft : Draft) : Type 0 where
 
 -- so it is known of a class, and of all up to it by what their virtual bases are held
 pub record IsDraftTo (draft : Draft) (c : ClassId) : Type 0 where
-  pub is : IsDraft draft
+  pub is : AreDraftRows draft
   pub known : c.0 < length draft.h.now
-  pub held : (d : ClassId) → d.0 ≤ c.0 → AreHeld draft.h.now (places_of draft.h.now draft.rows.now) d
+  pub held : (d : ClassId) → d.0 ≤ c.0 → HasFirstHolders draft.h.now (places_of draft.h.now draft.rows.now) d

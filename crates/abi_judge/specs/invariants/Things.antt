@@ -77,18 +77,18 @@ is_fit (Leaf leaf) = is_leaf_fit leaf leaf.width
 is_fit (Part part) = is_multiple part.align part.place
 
 -- the bits of a leaf
-abbrev pub bits_in : ℕ → Option ℕ → ℕ
-bits_in size None = 8 * size
-bits_in size (Some n) = n
+abbrev pub bits_of_leaf : ℕ → Option ℕ → ℕ
+bits_of_leaf size None = 8 * size
+bits_of_leaf size (Some n) = n
 
 -- it lies inside so many bytes
-abbrev pub is_inside : ℕ → Thing → Bool
-is_inside size (Leaf leaf) = nat_le (8 * leaf.place + leaf.first + bits_in leaf.size leaf.width) (8 * size)
-is_inside size (Part part) = nat_lt part.place size && (not part.is_dynamic || nat_le (part.place + 8) size)
+abbrev pub fits_in_size : ℕ → Thing → Bool
+fits_in_size size (Leaf leaf) = nat_le (8 * leaf.place + leaf.first + bits_of_leaf leaf.size leaf.width) (8 * size)
+fits_in_size size (Part part) = nat_lt part.place size && (not part.is_dynamic || nat_le (part.place + 8) size)
 
 -- the bits that no other thing may have: of a leaf all of its bits, and of a chain its virtual pointer, at the first of the chain
 abbrev pub span_in : Thing → Option BitSpan
-span_in (Leaf leaf) = Some (record { start = 8 * leaf.place + leaf.first; length = bits_in leaf.size leaf.width })
+span_in (Leaf leaf) = Some (record { start = 8 * leaf.place + leaf.first; length = bits_of_leaf leaf.size leaf.width })
 span_in (Part part) = if part.is_dynamic && part.is_top then Some (record { start = 8 * part.place; length = 64 }) else None
 
 -- the class and the place of a class subobject

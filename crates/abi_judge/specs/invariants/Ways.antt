@@ -28,13 +28,13 @@ abbrev pub way : List Hop → End → Way
 way hops end = record { hops = hops; end = end }
 
 -- the same way from one hop further outside
-abbrev pub behind : Hop → Way → Way
-behind hop w = way (hop ∷ w.hops) w.end
+abbrev pub behind_hop : Hop → Way → Way
+behind_hop hop w = way (hop ∷ w.hops) w.end
 
 -- from an object of class d into the elements of its member m
 abbrev pub typed_ways : (ClassId → List Way) → ClassId → ℕ → ℕ → FieldType ClassId → List Way
 typed_ways inside d m count (Value type) = map (λ i. way (MemberHop m i ∷ []) (to_leaf d m type)) (range_with_len 0 count)
-typed_ways inside d m count (Object b) = flat_map (λ i. map (behind (MemberHop m i)) (inside b)) (range_with_len 0 count)
+typed_ways inside d m count (Object b) = flat_map (λ i. map (behind_hop (MemberHop m i)) (inside b)) (range_with_len 0 count)
 
 abbrev pub member_ways : (ClassId → List Way) → ClassId → ℕ → Option (Member ClassId) → List Way
 member_ways inside d m None = []
@@ -47,7 +47,7 @@ own_ways h inside d = flat_map (λ m. member_ways inside d m (slice_get (members
 -- from a complete object of class e to its subobject s, and into the members of that
 abbrev pub base_ways : Classes → (ClassId → List Way) → ClassId → Subobject → Option ClassId → List Way
 base_ways h inside e s None = []
-base_ways h inside e s (Some d) = way (Inherit s ∷ []) (to_part e s d) ∷ map (behind (Inherit s)) (own_ways h inside d)
+base_ways h inside e s (Some d) = way (Inherit s ∷ []) (to_part e s d) ∷ map (behind_hop (Inherit s)) (own_ways h inside d)
 
 -- for member objects of classes of numbers below n
 abbrev pub ways_within : Classes → ℕ → ClassId → List Way

@@ -16,13 +16,13 @@ use Rattle.cxx_subobject.proofs.TreeLemmas.{preorder_lists}
 use Rattle.abi_primary.specs.declared.Primary.{Primary}
 use Rattle.abi_primary.proofs.HolderLemmas.{held}
 use Rattle.abi_sound.specs.declared.class_layout.ClassLayout.{ClassLayout}
-use Rattle.abi_sound.specs.Places.{base_place, place_along}
+use Rattle.abi_sound.specs.Places.{direct_base_place, place_along}
 use Rattle.cxx_subobject.proofs.PathLemmas.{last_below}
 use Rattle.abi_layout.specs.Limits.{size_limit}
 use Rattle.abi_layout.specs.Placements.{nvsize_in}
-use Rattle.abi_layout.specs.Holding.{virtual_primary, virtual_primary_of, AreHolders}
+use Rattle.abi_layout.specs.Holding.{virtual_primary_base, virtual_primary_of, AreHolders}
 use Rattle.abi_layout.specs.invariants.Scenes.{AreBefore, TellsHolders}
-use Rattle.abi_layout.specs.invariants.Settled.{place_by, IsPath, held_at, HasRoom, CanSettle}
+use Rattle.abi_layout.specs.invariants.Settled.{place_by, IsPathWithin, held_at, EndsWithinLimit, CanSettle}
 use Rattle.abi_layout.proofs.lists.Lists.{number}
 use Rattle.abi_layout.proofs.rules.HoldingLemmas.{is_class, test_is}
 use Rattle.abi_layout.proofs.algorithm.SceneLemmas.{holder_below, holder_is}
@@ -31,8 +31,8 @@ use Rattle.cxx_subobject.proofs.PathLemmas.{virtual_below}
 
 -- each of the first `count` classes ends, without its virtual bases, behind its non-virtual bases and its primary base
 pub record AreNested (h : Classes) (count : ℕ) (rows : List ClassLayout) (ps : List Primary) : Type 0 where
-  pub by_bases : (d : ClassId) (base : Base ClassId) → d.0 < count → Contains (bases_of h d) base → base.is_virtual ≡ false → base_place h rows d base.class + nvsize_in (slice_get rows base.class.0) ≤ nvsize_in (slice_get rows d.0)
-  pub by_primary : (d v : ClassId) → d.0 < count → virtual_primary ps d ≡ Some v → nvsize_in (slice_get rows v.0) ≤ nvsize_in (slice_get rows d.0)
+  pub by_bases : (d : ClassId) (base : Base ClassId) → d.0 < count → Contains (bases_of h d) base → base.is_virtual ≡ false → direct_base_place h rows d base.class + nvsize_in (slice_get rows base.class.0) ≤ nvsize_in (slice_get rows d.0)
+  pub by_primary : (d v : ClassId) → d.0 < count → virtual_primary_base ps d ≡ Some v → nvsize_in (slice_get rows v.0) ≤ nvsize_in (slice_get rows d.0)
   pub small : (d : ℕ) → nvsize_in (slice_get rows d) ≤ size_limit
 
 -- what a path leads to ends within the class where it begins
@@ -41,7 +41,7 @@ along_within h count rows ps keeps nested d [] lt leads = omega arith
 along_within h count rows ps keeps nested d (b ∷ path) lt leads =
     let edge = leads.0 in
     let f = base_below h d b keeps edge in
-    let here : base_place h rows d b + nvsize_in (slice_get rows b.0) ≤ nvsize_in (slice_get rows d.0) = subst (λ (x : ClassId). base_place h rows d x + nvsize_in (slice_get rows x.0) ≤ nvsize_in (slice_get rows d.0)) edge.class (nested.by_bases d edge.base lt edge.listed edge.way) in
+    let here : direct_base_place h rows d b + nvsize_in (slice_get rows b.0) ≤ nvsize_in (slice_get rows d.0) = subst (λ (x : ClassId). direct_base_place h rows d x + nvsize_in (slice_get rows x.0) ≤ nvsize_in (slice_get rows d.0)) edge.class (nested.by_bases d edge.base lt edge.listed edge.way) in
     let rest = along_within h count rows ps keeps nested b path (omega arith) leads.1 in
     omega arith
 
@@ -79,7 +79,7 @@ holding h ps c list holders keeps same are v t (Some n) e held_is =
         let past : get_or holders v None ≡ None = get_or_past holders v None (omega arith) in
         let f : None ≡ Some n = sym past ∙ e in cc
 
-room_of : (h : Classes) (rows : List ClassLayout) (ps : List Primary) (c : ClassId) (v : ℕ) (class : ClassId) (t : Subobject) (table : List ℕ) → IsHierarchy h → AreNested h (c.0 + 1) rows ps → IsSubobject h c t → virtual_primary_of ps t ≡ Some class → class.0 ≡ v → HasRoom rows table → place_by h rows table t + nvsize_in (slice_get rows v) ≤ size_limit
+room_of : (h : Classes) (rows : List ClassLayout) (ps : List Primary) (c : ClassId) (v : ℕ) (class : ClassId) (t : Subobject) (table : List ℕ) → IsHierarchy h → AreNested h (c.0 + 1) rows ps → IsSubobject h c t → virtual_primary_of ps t ≡ Some class → class.0 ≡ v → EndsWithinLimit rows table → place_by h rows table t + nvsize_in (slice_get rows v) ≤ size_limit
 room_of h rows ps c v class _ table keeps nested (whole path leads) primary same room =
     let along = along_within h (c.0 + 1) rows ps keeps nested c path (omega arith) leads in
     let below = last_below h keeps c path leads in
@@ -96,7 +96,7 @@ room_of h rows ps c v class _ table keeps nested (shared u path has leads) prima
     let e : nvsize_in (slice_get rows class.0) ≡ nvsize_in (slice_get rows v) = ap (λ n. nvsize_in (slice_get rows n)) same in
     omega arith
 
-pub path_of : (h : Classes) (c : ClassId) (t : Subobject) (count : ℕ) → IsHierarchy h → IsSubobject h c t → c.0 < count → IsPath h count t.path
+pub path_of : (h : Classes) (c : ClassId) (t : Subobject) (count : ℕ) → IsHierarchy h → IsSubobject h c t → c.0 < count → IsPathWithin h count t.path
 path_of h c _ count keeps (whole path leads) lt = (lt, leads)
 path_of h c _ count keeps (shared u path has leads) lt = let f = virtual_below h keeps c u has in (omega arith, leads)
 

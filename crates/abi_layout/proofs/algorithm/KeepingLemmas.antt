@@ -8,7 +8,7 @@ use Rattle.cxx_hierarchy.specs.declared.records.Member.{Member}
 use Rattle.cxx_hierarchy.specs.declared.records.FieldType.TheVariants.{Object}
 use Rattle.cxx_hierarchy.specs.Classes.{Class, Classes, class_at, members_of, members_in}
 use Rattle.abi_layout.specs.declared.known.Known.{Known}
-use Rattle.abi_layout.specs.invariants.Known.{is_object, IsMemberType, IsKept}
+use Rattle.abi_layout.specs.invariants.Known.{is_object, IsMemberType, KeepsEnough}
 use Rattle.abi_layout.proofs.lists.Each.{not_both}
 use Rattle.abi_layout.proofs.lists.Lists.{number}
 use Rattle.abi_layout.proofs.rules.Stages.{any_true}
@@ -45,8 +45,8 @@ never_member h c n le nobody is = by_owner (class_at h is.owner) refl
     by_owner (Some class) e = let lt = slice_get_within h is.owner.0 class e in nobody.each is.owner is.member (omega arith) is.listed is.type
 
 -- all is kept, or all but the class subobjects
-pub all_kept : (h : Classes) (c : ClassId) (known : Known) → IsKept h c known known
+pub all_kept : (h : Classes) (c : ClassId) (known : Known) → KeepsEnough h c known known
 all_kept h c known = record { is_empty = refl; is_pod = refl; parts = λ is. refl; less = inl refl }
 
-pub parts_dropped : (h : Classes) (c : ClassId) (known kept : Known) → kept.is_empty ≡ known.is_empty → kept.is_pod ≡ known.is_pod → kept.parts ≡ [] → (IsMemberType h c → ⊥) → IsKept h c known kept
+pub parts_dropped : (h : Classes) (c : ClassId) (known kept : Known) → kept.is_empty ≡ known.is_empty → kept.is_pod ≡ known.is_pod → kept.parts ≡ [] → (IsMemberType h c → ⊥) → KeepsEnough h c known kept
 parts_dropped h c known kept e p none never = record { is_empty = e; is_pod = p; parts = λ is. absurd (never is); less = inr none }

@@ -16,8 +16,8 @@ use Rattle.abi_layout.specs.declared.known.Known.{Known}
 use Rattle.abi_sound.specs.declared.class_layout.ClassLayout.{ClassLayout}
 use Rattle.abi_layout.specs.declared.placed_bases.PlacedBase.{PlacedBase}
 use Rattle.abi_sound.specs.Places.{align_in, nvalign_in}
-use Rattle.abi_layout.specs.Placements.{after_all, bits_at, align_of_type, member_component}
-use Rattle.abi_layout.specs.invariants.Known.{parts_in, AreAllSized}
+use Rattle.abi_layout.specs.Placements.{stage_after_all, bits_at, align_of_type, member_component}
+use Rattle.abi_layout.specs.invariants.Known.{known_parts_of, AreAllSized}
 use Rattle.abi_layout.specs.PlacedBases.{class_of_placed}
 use Rattle.abi_layout.specs.Layouts.{IsLayoutBy}
 use Rattle.abi_layout.specs.invariants.Arrangements.{components_by}
@@ -49,10 +49,10 @@ pub bases_positive : (h : Classes) (c : ClassId) (rows : List ClassLayout) (know
 bases_positive h c rows known ps sized same [] = tt
 bases_positive h c rows known ps sized same (base ∷ bases) = (record { align = nvalign_positive rows known sized same (class_of_placed base).0 (slice_get rows (class_of_placed base).0) refl; width = λ n e. cc }, bases_positive h c rows known ps sized same bases)
 
-pub members_positive : (rows : List ClassLayout) (known : List Known) → AreAllSized rows known → length known ≡ length rows → (members : List (Member ClassId)) → AreBitFields members → ArePositive (map (member_component rows (parts_in known)) members)
+pub members_positive : (rows : List ClassLayout) (known : List Known) → AreAllSized rows known → length known ≡ length rows → (members : List (Member ClassId)) → AreBitFields members → ArePositive (map (member_component rows (known_parts_of known)) members)
 members_positive rows known sized same [] bits = tt
 members_positive rows known sized same (member ∷ members) bits = (
-  record { align = type_positive rows known sized same member.ty; width = λ n e. (bit_field_fits rows (parts_in known) member n (bits member n (has_here member members) e)).most },
+  record { align = type_positive rows known sized same member.ty; width = λ n e. (bit_field_fits rows (known_parts_of known) member n (bits member n (has_here member members) e)).most },
   members_positive rows known sized same members (λ x n h e. bits x n (has_later member members x h) e),
 )
 
@@ -67,11 +67,11 @@ pub record HasArranged (first : Stage) (fs ms vs : List Component) (pod : Bool) 
 pub arranged_exists : (first : Stage) (fs ms vs : List Component) (pod : Bool) → 1 ≤ first.align → ArePositive fs → ArePositive ms → ArePositive vs → HasArranged first fs ms vs pod
 arranged_exists first fs ms vs pod positive f m v =
     let front = places_exist first fs f in
-    let behind = after_all first fs front.places in
+    let behind = stage_after_all first fs front.places in
     let member = places_exist behind ms m in
-    let middle = after_all behind ms member.places in
+    let middle = stage_after_all behind ms member.places in
     let free = places_exist middle vs v in
-    let last = after_all middle vs free.places in
+    let last = stage_after_all middle vs free.places in
     let above : 1 ≤ last.align =
     let x = align_grows first fs front.places in
     let y = align_grows behind ms member.places in

@@ -17,14 +17,14 @@ use Rattle.abi_layout.specs.declared.known.Known.{Known}
 use Rattle.abi_sound.specs.declared.class_layout.ClassLayout.{ClassLayout}
 use Rattle.abi_layout.specs.declared.placed_bases.PlacedBase.{PlacedBase}
 use Rattle.abi_layout.specs.Kinds.{pod_kind, is_empty, is_pod}
-use Rattle.abi_sound.specs.Places.{size_in, nvalign_in}
+use Rattle.abi_sound.specs.Places.{size_in_row, nvalign_in}
 use Rattle.abi_layout.specs.Placements.{nvsize_in, member_component}
-use Rattle.abi_layout.specs.invariants.Known.{empties_in, pods_in, parts_in, members_by}
+use Rattle.abi_layout.specs.invariants.Known.{empties_in, pods_in, known_parts_of, members_by}
 use Rattle.abi_layout.specs.Brought.{brought_by}
 use Rattle.abi_layout.specs.PlacedBases.{class_of_placed, subobject_of, free_bases, placed_component, IsPossible}
 use Rattle.abi_layout.specs.Layouts.{primary_of, fronts, object_parts, IsLaidBy}
 use Rattle.abi_layout.specs.invariants.Arrangements.{components_by}
-use Rattle.abi_layout.specs.Refusals.{IsNextClass}
+use Rattle.abi_layout.specs.Refusals.{IsNextToLayOut}
 use Rattle.abi_layout.specs.invariants.LaidSoFar.{IsLaidSoFar}
 use Rattle.abi_layout.proofs.lists.LastItems.{longer}
 use Rattle.abi_layout.proofs.rules.PartLemmas.{Agree}
@@ -55,7 +55,7 @@ pub primaries_alike : (c : ClassId) (ps : List Primary) (primary : Primary) → 
 primaries_alike c ps primary count = agree_push c.0 ps primary (omega arith)
 
 -- the next class, as the rules see it
-abbrev pub next_class : (h : Classes) (c : ClassId) (class : Class) (rows : List ClassLayout) (known : List Known) (members : List (List Part)) (nearly : List Bool) (ps : List Primary) (primary : Primary) (has_pointer : Bool) → IsNextKnown h c class rows known members nearly ps primary has_pointer → IsNextClass h c
+abbrev pub next_class : (h : Classes) (c : ClassId) (class : Class) (rows : List ClassLayout) (known : List Known) (members : List (List Part)) (nearly : List Bool) (ps : List Primary) (primary : Primary) (has_pointer : Bool) → IsNextKnown h c class rows known members nearly ps primary has_pointer → IsNextToLayOut h c
 next_class h c class rows known members nearly ps primary has_pointer next =
     let count = next.so_far.by.primary_each in
     let front : take c.0 (ps ++ primary ∷ []) ≡ ps = take_front c.0 ps (primary ∷ []) (sym count) in
@@ -90,7 +90,7 @@ kinds_same f g h rows ps parts c [] same all = refl
 kinds_same f g h rows ps parts c (base ∷ bases) same all =
     let d = class_of_placed base in
     let here : placed_component f h rows ps parts c base ≡ placed_component g h rows ps parts c base =
-    ap (λ b. component_made b (nvalign_in (slice_get rows d.0)) (size_in (slice_get rows d.0)) (nvsize_in (slice_get rows d.0)) (brought_by h rows ps parts c (subobject_of c base) d)) (same d (All-head (λ (x : PlacedBase). (class_of_placed x).0 < c.0) base bases all)) in
+    ap (λ b. component_made b (nvalign_in (slice_get rows d.0)) (size_in_row (slice_get rows d.0)) (nvsize_in (slice_get rows d.0)) (brought_by h rows ps parts c (subobject_of c base) d)) (same d (All-head (λ (x : PlacedBase). (class_of_placed x).0 < c.0) base bases all)) in
     let rest = kinds_same f g h rows ps parts c bases same (All-tail (λ (x : PlacedBase). (class_of_placed x).0 < c.0) base bases all) in
     cc
 
@@ -102,7 +102,7 @@ pub record IsNextSame (h : Classes) (c : ClassId) (class : Class) (rows : List C
   pub pod : pod_kind (pods_in known) class ≡ is_pod h c
 
 -- what is known of the parts of the classes before c
-pub next_agree : (h : Classes) (c : ClassId) (class : Class) (rows : List ClassLayout) (known : List Known) (members : List (List Part)) (nearly : List Bool) (ps : List Primary) (primary : Primary) (has_pointer : Bool) → IsNextKnown h c class rows known members nearly ps primary has_pointer → Agree h c.0 rows rows (parts_in known) (object_parts h rows (ps ++ primary ∷ []))
+pub next_agree : (h : Classes) (c : ClassId) (class : Class) (rows : List ClassLayout) (known : List Known) (members : List (List Part)) (nearly : List Bool) (ps : List Primary) (primary : Primary) (has_pointer : Bool) → IsNextKnown h c class rows known members nearly ps primary has_pointer → Agree h c.0 rows rows (known_parts_of known) (object_parts h rows (ps ++ primary ∷ []))
 next_agree h c class rows known members nearly ps primary has_pointer next = record {
   row = λ d lt. refl;
   of_class = λ d lt is.
@@ -116,7 +116,7 @@ next_agree h c class rows known members nearly ps primary has_pointer next = rec
 pub next_same : (h : Classes) (c : ClassId) (class : Class) (rows : List ClassLayout) (known : List Known) (members : List (List Part)) (nearly : List Bool) (ps : List Primary) (primary : Primary) (has_pointer : Bool) → IsNextKnown h c class rows known members nearly ps primary has_pointer → IsNextSame h c class rows known (ps ++ primary ∷ [])
 next_same h c class rows known members nearly ps primary has_pointer next = record {
   fronts_are = bases_are (fronts qs c class) (fronts_below h c class (primary_of qs c) next.keeps next.there (possible.each c (omega arith)));
-  members_are = members_same h rows rows (parts_in known) (object_parts h rows qs) c class next.keeps next.there agree;
+  members_are = members_same h rows rows (known_parts_of known) (object_parts h rows qs) c class next.keeps next.there agree;
   frees_are = bases_are (free_bases h qs c) (frees_below h qs c next.keeps);
   pod = next_pod h next.keeps c class (pods_in known) next.there next.so_far.pods;
 }
@@ -127,10 +127,10 @@ next_same h c class rows known members nearly ps primary has_pointer next = reco
     possible : ArePossible h (c.0 + 1) qs
     possible = next_are_bases h c class rows known members nearly ps primary has_pointer next
 
-    agree : Agree h c.0 rows rows (parts_in known) (object_parts h rows qs)
+    agree : Agree h c.0 rows rows (known_parts_of known) (object_parts h rows qs)
     agree = next_agree h c class rows known members nearly ps primary has_pointer next
 
     bases_are : (bases : List PlacedBase) → All (λ (base : PlacedBase). (class_of_placed base).0 < c.0) bases → components_by h rows known qs c bases ≡ map (placed_component (is_empty h) h rows qs (object_parts h rows qs) c) bases
     bases_are bases below =
-        all_placed_agree (empties_in known) h c.0 rows rows qs qs (parts_in known) (object_parts h rows qs) c bases next.keeps agree (record { each = λ i lt. refl }) (possible_less h c.0 (c.0 + 1) qs (omega arith) possible) (omega arith) below
+        all_placed_agree (empties_in known) h c.0 rows rows qs qs (known_parts_of known) (object_parts h rows qs) c bases next.keeps agree (record { each = λ i lt. refl }) (possible_less h c.0 (c.0 + 1) qs (omega arith) possible) (omega arith) below
         ∙ kinds_same (empties_in known) (is_empty h) h rows qs (object_parts h rows qs) c bases next.so_far.empties below

@@ -23,7 +23,7 @@ use Rattle.abi_layout.specs.PlacedBases.{free_bases, placed_component}
 use Rattle.abi_layout.specs.Repeats.{HasRepeat, SomeRepeats}
 use Rattle.abi_layout.specs.Layouts.{fronts, object_parts, start_stage, front_components, free_components, IsLayoutBy, IsArrangedBy, BringsTwice}
 use Rattle.abi_layout.specs.invariants.Arrangements.{row_from, IsTooLargeBy, LeavesNoPlace, components_by}
-use Rattle.abi_layout.specs.Refusals.{IsLargeClass, StopsAt, by_size, by_place}
+use Rattle.abi_layout.specs.Refusals.{IsLargeClass, StopsLayout, by_size, by_place}
 use Rattle.abi_layout.proofs.lists.Lists.{has_at}
 use Rattle.abi_layout.proofs.rules.KindLemmas.{contains_of, has_of}
 use Rattle.abi_layout.proofs.rules.Stages.{has_left, has_right}
@@ -116,15 +116,15 @@ pub stops_by : (h : Classes) (c : ClassId) (class : Class) (rows : List ClassLay
     → ((stop ≡ NoMemory)
     ⊎ (((stop ≡ Limit L6) × IsTooLargeBy (start_stage c has_pointer) (components_by h rows known (ps ++ primary ∷ []) c (fronts (ps ++ primary ∷ []) c class)) (members_by rows known class) (components_by h rows known (ps ++ primary ∷ []) c (free_bases h (ps ++ primary ∷ []) c)) (pod_kind (pods_in known) class))
     ⊎ ((stop ≡ Refused SharedPlace class.at) × LeavesNoPlace (start_stage c has_pointer) (components_by h rows known (ps ++ primary ∷ []) c (fronts (ps ++ primary ∷ []) c class)) (members_by rows known class) (components_by h rows known (ps ++ primary ∷ []) c (free_bases h (ps ++ primary ∷ []) c)) (pod_kind (pods_in known) class))))
-    → (stop ≡ NoMemory) ⊎ StopsAt h c stop
+    → (stop ≡ NoMemory) ⊎ StopsLayout h c stop
 stops_by h c class rows known members nearly ps primary has_pointer stop next refused =
     ⊎_elim (λ e. inl e)
     (λ r. inr (⊎_elim
-    (λ large. subst (StopsAt h c) (sym large.0) (by_size (large_class h c class rows known members nearly ps primary has_pointer next large.1)))
+    (λ large. subst (StopsLayout h c) (sym large.0) (by_size (large_class h c class rows known members nearly ps primary has_pointer next large.1)))
     (λ twice.
     let a = twice.1.arrangement in
     let laid = twice.1.arranged.laid primary [] [] [] [] in
-    subst (StopsAt h c) (sym twice.0)
+    subst (StopsLayout h c) (sym twice.0)
     (by_place class a.size next.there
     (record {
       next = next_class h c class rows known members nearly ps primary has_pointer next;

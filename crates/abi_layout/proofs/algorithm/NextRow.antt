@@ -16,14 +16,14 @@ use Rattle.abi_layout.specs.declared.known.Known.{Known}
 use Rattle.abi_sound.specs.declared.class_layout.ClassLayout.{ClassLayout}
 use Rattle.abi_layout.specs.declared.placed_bases.PlacedBase.{PlacedBase}
 use Rattle.abi_layout.specs.Kinds.{is_empty}
-use Rattle.abi_sound.specs.Places.{members_in}
-use Rattle.abi_layout.specs.Placements.{part_at, parts_at, member_component}
+use Rattle.abi_sound.specs.Places.{member_places_in}
+use Rattle.abi_layout.specs.Placements.{placed_part, parts_at, member_component}
 use Rattle.abi_layout.specs.invariants.Known.{members_by}
 use Rattle.abi_layout.specs.PlacedBases.{free_bases, placed_component}
 use Rattle.abi_layout.specs.Repeats.{SomeRepeats}
 use Rattle.abi_layout.specs.Layouts.{primary_of, placed_place, fronts, front_components, free_components, object_parts, is_shifted, IsLaidRow, IsLaidBy, BringsTwice}
 use Rattle.abi_layout.specs.invariants.Arrangements.{components_by}
-use Rattle.abi_layout.specs.Refusals.{AreApart}
+use Rattle.abi_layout.specs.Refusals.{AreBroughtOnce}
 use Rattle.abi_layout.specs.invariants.ClassRows.{IsClassRow, row_parts}
 use Rattle.abi_layout.proofs.lists.Lists.{number}
 use Rattle.abi_layout.proofs.lists.LastItems.{last_one}
@@ -82,7 +82,7 @@ laid_more h c class rows known members nearly ps primary has_pointer next row is
     (λ t. nearly_empty_agrees h nearly (nearly ++ is ∷ []) shifted c next.keeps near (told.0 t), λ e. told.1 (nearly_empty_agrees h (nearly ++ is ∷ []) nearly shifted c next.keeps (agree_turned c.0 nearly (nearly ++ is ∷ []) near) e))
 
 abbrev parts_made : ClassId → (fs ms vs : List Component) (ps qs rs : List ℕ) → List Part
-parts_made c fs ms vs ps qs rs = part_at c 0 ∷ (parts_at fs ps ++ (parts_at ms qs ++ parts_at vs rs))
+parts_made c fs ms vs ps qs rs = placed_part c 0 ∷ (parts_at fs ps ++ (parts_at ms qs ++ parts_at vs rs))
 
 -- the class subobjects of an object of it
 pub row_parts_are : (h : Classes) (c : ClassId) (class : Class) (rows : List ClassLayout) (known : List Known) (members : List (List Part)) (nearly : List Bool) (ps : List Primary) (primary : Primary) (has_pointer : Bool) → IsNextKnown h c class rows known members nearly ps primary has_pointer
@@ -102,7 +102,7 @@ row_parts_are h c class rows known members nearly ps primary has_pointer next ro
     ap (λ (xs : List Component). parts_made c xs (members_by rows known class) (components_by h rows known qs c (free_bases h qs c)) front_places row.member_places free_places) (known_same.fronts_are ∙ same.fronts)
     ∙ (ap (λ (xs : List Component). parts_made c fs xs (components_by h rows known qs c (free_bases h qs c)) front_places row.member_places free_places) (known_same.members_are ∙ same.members)
     ∙ (ap (λ (xs : List Component). parts_made c fs ms xs front_places row.member_places free_places) (known_same.frees_are ∙ same.frees)
-    ∙ (ap (λ (o : Option ClassLayout). parts_made c fs ms vs front_places (members_in o) free_places) (sym (last_row rows row c.0 row_each))
+    ∙ (ap (λ (o : Option ClassLayout). parts_made c fs ms vs front_places (member_places_in o) free_places) (sym (last_row rows row c.0 row_each))
     ∙ sym (object_parts_is h all qs c class next.keeps next.there possible))))
 
 -- a base that brings a pair twice is a component that repeats
@@ -123,7 +123,7 @@ repeats_of h c class rows qs twice =
 
 -- no base of a class up to the next one brings a pair twice
 pub apart_more : (h : Classes) (c : ClassId) (class : Class) (rows : List ClassLayout) (known : List Known) (members : List (List Part)) (nearly : List Bool) (ps : List Primary) (primary : Primary) (has_pointer : Bool) → IsNextKnown h c class rows known members nearly ps primary has_pointer
-    → (row : ClassLayout) → (SomeRepeats (components_by h rows known (ps ++ primary ∷ []) c (fronts (ps ++ primary ∷ []) c class)) → ⊥) → (SomeRepeats (components_by h rows known (ps ++ primary ∷ []) c (free_bases h (ps ++ primary ∷ []) c)) → ⊥) → AreApart h (c.0 + 1) (rows ++ row ∷ []) (ps ++ primary ∷ [])
+    → (row : ClassLayout) → (SomeRepeats (components_by h rows known (ps ++ primary ∷ []) c (fronts (ps ++ primary ∷ []) c class)) → ⊥) → (SomeRepeats (components_by h rows known (ps ++ primary ∷ []) c (free_bases h (ps ++ primary ∷ []) c)) → ⊥) → AreBroughtOnce h (c.0 + 1) (rows ++ row ∷ []) (ps ++ primary ∷ [])
 apart_more h c class rows known members nearly ps primary has_pointer next row fronts_apart frees_apart = record {
   each = λ d k lt e twice. ⊎_elim
       (λ same. let id : d ≡ c = ap number same in

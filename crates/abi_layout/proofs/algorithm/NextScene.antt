@@ -26,7 +26,7 @@ use Rattle.abi_sound.specs.declared.class_layout.ClassLayout.{ClassLayout}
 use Rattle.cxx_subobject.specs.VirtualBases.{virtual_bases}
 use Rattle.abi_layout.specs.Holding.{AreHolders}
 use Rattle.abi_layout.specs.PlacedBases.{IsPossible}
-use Rattle.abi_layout.specs.invariants.Scenes.{AreBefore, TellsHolders, IsScene}
+use Rattle.abi_layout.specs.invariants.Scenes.{AreBefore, TellsHolders, IsLayoutScene}
 use Rattle.abi_layout.specs.Layouts.{primary_of, placed_place, fronts, start_stage}
 use Rattle.abi_layout.specs.invariants.ClassRows.{IsClassRow}
 use Rattle.abi_layout.proofs.lists.Lists.{number}
@@ -76,7 +76,7 @@ listed_tells h ps c list keeps possible (left_out never e) = subst (TellsHolders
 
 -- the scene of the next class
 pub next_scene : (h : Classes) (c : ClassId) (class : Class) (rows : List ClassLayout) (known : List Known) (members : List (List Part)) (nearly : List Bool) (ps : List Primary) (primary : Primary) (has_pointer : Bool) → IsNextKnown h c class rows known members nearly ps primary has_pointer
-    → (list : List Subobject) (holders : List (Option ℕ)) → TellsHolders h (ps ++ primary ∷ []) c list → AreHolders (ps ++ primary ∷ []) list c.0 holders → IsScene h c rows known members (ps ++ primary ∷ []) list holders
+    → (list : List Subobject) (holders : List (Option ℕ)) → TellsHolders h (ps ++ primary ∷ []) c list → AreHolders (ps ++ primary ∷ []) list c.0 holders → IsLayoutScene h c rows known members (ps ++ primary ∷ []) list holders
 next_scene h c class rows known members nearly ps primary has_pointer next list holders is are = record {
   class = slice_get_within h c.0 class next.there;
   row_each = next.so_far.by.one_each;

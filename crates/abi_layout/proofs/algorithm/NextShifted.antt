@@ -15,10 +15,10 @@ use Rattle.cxx_subobject.proofs.TreeLemmas.{preorder_lists, has_preorder}
 use Rattle.foundation.proofs.Truth.{or_parts}
 use Rattle.abi_layout.specs.declared.known.Known.{Known}
 use Rattle.abi_sound.specs.declared.class_layout.ClassLayout.{ClassLayout}
-use Rattle.abi_sound.specs.Places.{base_place, place_along}
+use Rattle.abi_sound.specs.Places.{direct_base_place, place_along}
 use Rattle.abi_layout.specs.Kinds.{is_empty}
 use Rattle.abi_layout.specs.invariants.Known.{empties_in}
-use Rattle.abi_layout.specs.Layouts.{place_of, is_whole, is_empty_in, is_shifted}
+use Rattle.abi_layout.specs.Layouts.{place_in_class, is_whole, is_empty_in, is_shifted}
 use Rattle.abi_layout.specs.invariants.LaidSoFar.{is_shifted_base, is_moved_base, HasShifted, by_itself, by_inner, BaseShifted, itself, inner}
 use Rattle.abi_layout.proofs.lists.Each.{not_both}
 use Rattle.abi_layout.proofs.rules.Stages.{split}
@@ -29,7 +29,7 @@ use Rattle.abi_layout.proofs.rules.AgreeingRows.{any_same}
 
 -- what is known of the classes tells of each subobject whether it is shifted
 shifted_is : (h : Classes) (rows : List ClassLayout) (known : List Known) (c : ClassId) (s : Subobject) → IsHierarchy h → ((d : ClassId) → d.0 < c.0 + 1 → empties_in known d ≡ is_empty h d) → IsSubobject h c s
-    → is_shifted_base h rows known s ≡ (is_whole s.root && (is_empty_in h (class_of s) && not (place_of h rows c s == 0)))
+    → is_shifted_base h rows known s ≡ (is_whole s.root && (is_empty_in h (class_of s) && not (place_in_class h rows c s == 0)))
 shifted_is h rows known c _ keeps tells (whole path leads) =
     let below = last_below h keeps c path leads in
     let sum : place_along h rows c path ≡ 0 + place_along h rows c path = omega arith in
@@ -39,7 +39,7 @@ shifted_is h rows known c _ keeps tells (shared v path has leads) = refl
 -- so the test over all subobjects is the one of the rules
 pub shifted_same : (h : Classes) (rows : List ClassLayout) (known : List Known) (c : ClassId) → IsHierarchy h → ((d : ClassId) → d.0 < c.0 + 1 → empties_in known d ≡ is_empty h d) → list_any (is_shifted_base h rows known) (preorder h c) ≡ is_shifted h rows c
 shifted_same h rows known c keeps tells =
-    any_same (is_shifted_base h rows known) (λ (s : Subobject). is_whole s.root && (is_empty_in h (class_of s) && not (place_of h rows c s == 0))) (preorder h c)
+    any_same (is_shifted_base h rows known) (λ (s : Subobject). is_whole s.root && (is_empty_in h (class_of s) && not (place_in_class h rows c s == 0))) (preorder h c)
     (λ s has. shifted_is h rows known c s keeps tells (has_preorder h c s has))
 
 -- a base that is shifted makes its class have one, and each one comes from a base
@@ -75,7 +75,7 @@ path_to h rows known _ _ (by_itself d is_moved base has way e) =
       path = base.class ∷ [];
       leads = (record { base = base; listed = has; class = refl; way = way }, tt);
       is_empty = parts.1;
-      elsewhere = λ stays sum. let z : base_place h rows d base.class ≡ 0 = omega arith in not_both parts.0 (or_false is_moved (base_place h rows d base.class) stays z);
+      elsewhere = λ stays sum. let z : direct_base_place h rows d base.class ≡ 0 = omega arith in not_both parts.0 (or_false is_moved (direct_base_place h rows d base.class) stays z);
     }
 path_to h rows known _ _ (by_inner d is_moved base has way below) =
     let next = path_to h rows known base.class (is_moved_base h rows d is_moved base) below in
@@ -84,9 +84,9 @@ path_to h rows known _ _ (by_inner d is_moved base has way below) =
       leads = (record { base = base; listed = has; class = refl; way = way }, next.leads);
       is_empty = next.is_empty;
       elsewhere = λ stays sum.
-          let z : base_place h rows d base.class ≡ 0 = omega arith in
+          let z : direct_base_place h rows d base.class ≡ 0 = omega arith in
           let rest : place_along h rows base.class next.path ≡ 0 = omega arith in
-          next.elsewhere (or_false is_moved (base_place h rows d base.class) stays z) rest;
+          next.elsewhere (or_false is_moved (direct_base_place h rows d base.class) stays z) rest;
     }
 
 not_elsewhere : (n : ℕ) → not (n == 0) ≡ false → n ≡ 0
@@ -98,18 +98,18 @@ from_path h rows known d is_moved b [] leads e elsewhere =
     let named : empties_in known edge.base.class ≡ true = ap (empties_in known) edge.class ∙ e in
     let moves : is_moved_base h rows d is_moved edge.base ≡ true = split (is_moved_base h rows d is_moved edge.base) (λ x. is_moved_base h rows d is_moved edge.base ≡ x → x ≡ true) (λ _ _. refl)
     (λ _ f.
-    let two = or_parts is_moved (not (base_place h rows d edge.base.class == 0)) f in
-    let z = not_elsewhere (base_place h rows d edge.base.class) two.1 in
-    let same : base_place h rows d edge.base.class ≡ base_place h rows d b = ap (base_place h rows d) edge.class in
+    let two = or_parts is_moved (not (direct_base_place h rows d edge.base.class == 0)) f in
+    let z = not_elsewhere (direct_base_place h rows d edge.base.class) two.1 in
+    let same : direct_base_place h rows d edge.base.class ≡ direct_base_place h rows d b = ap (direct_base_place h rows d) edge.class in
     absurd (elsewhere two.0 (omega arith))) refl in
     by_itself d is_moved edge.base edge.listed edge.way (and_from (is_moved_base h rows d is_moved edge.base) (empties_in known edge.base.class) moves named)
 from_path h rows known d is_moved b (e ∷ path) leads empty elsewhere =
     let edge = leads.0 in
     let below = from_path h rows known b (is_moved_base h rows d is_moved edge.base) e path leads.1 empty
     (λ stays sum.
-    let two = or_parts is_moved (not (base_place h rows d edge.base.class == 0)) stays in
-    let z = not_elsewhere (base_place h rows d edge.base.class) two.1 in
-    let same : base_place h rows d edge.base.class ≡ base_place h rows d b = ap (base_place h rows d) edge.class in
+    let two = or_parts is_moved (not (direct_base_place h rows d edge.base.class == 0)) stays in
+    let z = not_elsewhere (direct_base_place h rows d edge.base.class) two.1 in
+    let same : direct_base_place h rows d edge.base.class ≡ direct_base_place h rows d b = ap (direct_base_place h rows d) edge.class in
     elsewhere two.0 (omega arith)) in
     by_inner d is_moved edge.base edge.listed edge.way (subst (λ (x : ClassId). HasShifted h rows known x (is_moved_base h rows d is_moved edge.base)) (sym edge.class) below)
 

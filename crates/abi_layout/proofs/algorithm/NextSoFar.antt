@@ -16,11 +16,11 @@ use Rattle.abi_layout.specs.declared.laid_row.ClassFacts.{ClassFacts}
 use Rattle.abi_sound.specs.declared.class_layout.ClassLayout.{ClassLayout}
 use Rattle.abi_layout.specs.declared.placed_bases.PlacedBase.{PlacedBase}
 use Rattle.abi_layout.specs.Kinds.{is_empty, is_pod}
-use Rattle.abi_sound.specs.Places.{members_in}
-use Rattle.abi_layout.specs.Placements.{nvsize_in, part_at, parts_at, member_component}
-use Rattle.abi_layout.specs.invariants.Alignments.{AreWithin}
-use Rattle.abi_layout.specs.invariants.Known.{is_empty_in, is_pod_in, parts_known, empties_in, pods_in, parts_in, members_by, IsSized, AreAllSized, IsMemberType, IsKept}
-use Rattle.abi_layout.specs.Brought.{member_parts, brought_by}
+use Rattle.abi_sound.specs.Places.{member_places_in}
+use Rattle.abi_layout.specs.Placements.{nvsize_in, placed_part, parts_at, member_component}
+use Rattle.abi_layout.specs.invariants.Alignments.{LieUpTo}
+use Rattle.abi_layout.specs.invariants.Known.{is_empty_in, is_pod_in, parts_known, empties_in, pods_in, known_parts_of, members_by, IsSized, AreAllSized, IsMemberType, KeepsEnough}
+use Rattle.abi_layout.specs.Brought.{parts_in_members, brought_by}
 use Rattle.abi_layout.specs.PlacedBases.{class_of_placed, subobject_of, free_bases}
 use Rattle.abi_layout.specs.Layouts.{primary_of, placed_place, fronts, object_parts, is_shifted}
 use Rattle.abi_layout.specs.invariants.Arrangements.{components_by}
@@ -63,13 +63,13 @@ sized_more rows known row k count all here = record { each = λ i r q e f. at i 
     at i r q (inr e) (inr f) = subst (λ (z : ClassLayout). IsSized z q.parts) e.1 (subst (λ (z : Known). IsSized row z.parts) f.1 here)
 
 -- where components of classes before lie, these are
-of_placed : (h : Classes) (c : ClassId) (rows : List ClassLayout) (known : List Known) (qs : List Primary) → ((base : PlacedBase) → (class_of_placed base).0 < c.0 → AreOf c.0 (brought_by h rows qs (parts_in known) c (subobject_of c base) (class_of_placed base)))
+of_placed : (h : Classes) (c : ClassId) (rows : List ClassLayout) (known : List Known) (qs : List Primary) → ((base : PlacedBase) → (class_of_placed base).0 < c.0 → AreOf c.0 (brought_by h rows qs (known_parts_of known) c (subobject_of c base) (class_of_placed base)))
     → (bases : List PlacedBase) (places : List ℕ) → All (λ (base : PlacedBase). (class_of_placed base).0 < c.0) bases → AreOf c.0 (parts_at (components_by h rows known qs c bases) places)
 of_placed h c rows known qs each [] places all = tt
 of_placed h c rows known qs each (base ∷ bases) [] all = tt
 of_placed h c rows known qs each (base ∷ bases) (place ∷ places) all =
-    let parts = brought_by h rows qs (parts_in known) c (subobject_of c base) (class_of_placed base) in
-    of_both c.0 (map (Rattle.abi_emptybase.specs.Table.moved place) parts) (parts_at (components_by h rows known qs c bases) places)
+    let parts = brought_by h rows qs (known_parts_of known) c (subobject_of c base) (class_of_placed base) in
+    of_both c.0 (map (Rattle.abi_emptybase.specs.Table.moved_part place) parts) (parts_at (components_by h rows known qs c bases) places)
     (of_moved c.0 place parts (each base (All-head (λ (x : PlacedBase). (class_of_placed x).0 < c.0) base bases all)))
     (of_placed h c rows known qs each bases places (All-tail (λ (x : PlacedBase). (class_of_placed x).0 < c.0) base bases all))
 
@@ -83,7 +83,7 @@ row_parts_of : (h : Classes) (c : ClassId) (class : Class) (rows : List ClassLay
 row_parts_of h c class rows known members nearly ps primary has_pointer next row part has = ⊎_elim
     (λ e. let same : c.0 ≡ part.class = ap (λ (x : Part). x.class) e in omega arith)
     (λ r. let lt = part_of c.0 below part (of_both c.0 front (own ++ free) (at_bases (fronts qs c class) front_places (fronts_below h c class (primary_of qs c) next.keeps next.there (possible.each c (omega arith)))) (of_both c.0 own free at_members (at_bases (free_bases h qs c) free_places (frees_below h qs c next.keeps)))) r in omega arith)
-    (has_of (part_at c 0 ∷ below) part has)
+    (has_of (placed_part c 0 ∷ below) part has)
   where
     qs : List Primary
     qs = ps ++ primary ∷ []
@@ -113,12 +113,12 @@ row_parts_of h c class rows known members nearly ps primary has_pointer next row
     at_bases bases places all = of_placed h c rows known qs (λ base lt. brought_of h c rows known qs next.keeps (next_before h c class rows known members nearly ps primary has_pointer next) next.so_far.smaller ((class_of_placed base).0 + 1) (subobject_of c base) (class_of_placed base) lt) bases places all
 
     at_members : AreOf c.0 own
-    at_members = of_members c.0 rows (parts_in known) class.members row.member_places
-        (λ m d in_class object. let falls = next.keeps.objects c d m (subst (λ (o : Option Class). Contains (members_named o) m) (sym next.there) in_class) object in of_each c.0 (parts_in known d) (λ x in_it. next.so_far.smaller.smaller d x falls in_it))
+    at_members = of_members c.0 rows (known_parts_of known) class.members row.member_places
+        (λ m d in_class object. let falls = next.keeps.objects c d m (subst (λ (o : Option Class). Contains (members_named o) m) (sym next.there) in_class) object in of_each c.0 (known_parts_of known d) (λ x in_it. next.so_far.smaller.smaller d x falls in_it))
 
 -- with the next class one class more is known
 pub so_far_more : (h : Classes) (c : ClassId) (class : Class) (rows : List ClassLayout) (known : List Known) (members : List (List Part)) (nearly : List Bool) (ps : List Primary) (primary : Primary) (has_pointer : Bool) → IsNextKnown h c class rows known members nearly ps primary has_pointer
-    → (rows_new : List ClassLayout) (facts : ClassFacts) (kept : Known) (is : Bool) → IsRowAdded h c rows known (ps ++ primary ∷ []) class has_pointer rows_new facts → IsKept h c facts.known kept → (IsTrue is ↔ IsNearlyEmpty h nearly (is_shifted h rows_new c) c)
+    → (rows_new : List ClassLayout) (facts : ClassFacts) (kept : Known) (is : Bool) → IsRowAdded h c rows known (ps ++ primary ∷ []) class has_pointer rows_new facts → KeepsEnough h c facts.known kept → (IsTrue is ↔ IsNearlyEmpty h nearly (is_shifted h rows_new c) c)
     → IsLaidSoFar h (c.0 + 1) rows_new (known ++ kept ∷ []) (members ++ facts.members ∷ []) (nearly ++ is ∷ []) (ps ++ primary ∷ [])
 so_far_more h c class rows known members nearly ps primary has_pointer next rows_new facts kept is added keeping told =
     subst (λ (xs : List ClassLayout). IsLaidSoFar h (c.0 + 1) xs (known ++ kept ∷ []) (members ++ facts.members ∷ []) (nearly ++ is ∷ []) (ps ++ primary ∷ [])) (sym added.rows_are)
@@ -145,13 +145,13 @@ so_far_more h c class rows known members nearly ps primary has_pointer next rows
     row_old : (d : ClassId) → d.0 < c.0 → slice_get rows d.0 ≡ slice_get all d.0
     row_old d lt = let count = next.so_far.by.one_each in same_before rows row d.0 (omega arith)
 
-    agree : Agree h c.0 rows all (parts_in known) (parts_in after)
+    agree : Agree h c.0 rows all (known_parts_of known) (known_parts_of after)
     agree = record { row = row_old; of_class = λ d lt is. ap parts_known (known_old d lt) }
 
     kept_there : (d : ClassId) → d.0 ≡ c.0 → slice_get after d.0 ≡ Some kept
     kept_there d same = let count = next.so_far.known_each in ap (slice_get after) (same ∙ sym count) ∙ last_one known kept
 
-    parts_old : (d : ClassId) → d.0 < c.0 → IsMemberType h d → parts_in known d ≡ object_parts h all qs d
+    parts_old : (d : ClassId) → d.0 < c.0 → IsMemberType h d → known_parts_of known d ≡ object_parts h all qs d
     parts_old d lt is =
         let row_each = next.so_far.by.one_each in
         let within = slice_get_within h c.0 class next.there in
@@ -159,7 +159,7 @@ so_far_more h c class rows known members nearly ps primary has_pointer next rows
         ∙ object_parts_agree h rows all ps qs d next.keeps (agree_less (d.0 + 1) c.0 rows all (omega arith) (agree_push c.0 rows row (omega arith))) (agree_less (d.0 + 1) c.0 ps qs (omega arith) (primaries_alike c ps primary next.so_far.by.primary_each))
         (laid_possible h c.0 (d.0 + 1) rows nearly ps (omega arith) (omega arith) next.so_far.by)
 
-    parts_are : (d : ClassId) → d.0 < c.0 + 1 → IsMemberType h d → parts_in after d ≡ object_parts h all qs d
+    parts_are : (d : ClassId) → d.0 < c.0 + 1 → IsMemberType h d → known_parts_of after d ≡ object_parts h all qs d
     parts_are d lt is = ⊎_elim
         (λ same.
         let id : d ≡ c = ap number same in
@@ -169,38 +169,38 @@ so_far_more h c class rows known members nearly ps primary has_pointer next rows
         (λ o. ⊎_elim (λ l. sym (ap parts_known (known_old d l)) ∙ parts_old d l is) (λ g. absurd (omega arith)) o)
         (cases_order d.0 c.0)
 
-    members_are : facts.members ≡ member_parts h all (parts_in after) c
+    members_are : facts.members ≡ parts_in_members h all (known_parts_of after) c
     members_are =
         added.members
-        ∙ (ap (λ (xs : List Component). parts_at xs row.member_places) (members_same h rows all (parts_in known) (parts_in after) c class next.keeps next.there agree)
-        ∙ (ap (λ (o : Option ClassLayout). parts_at (map (member_component all (parts_in after)) class.members) (members_in o)) (sym row_there)
-        ∙ ap (λ (o : Option Class). parts_at (map (member_component all (parts_in after)) (members_named o)) (members_in (slice_get all c.0))) (sym next.there)))
+        ∙ (ap (λ (xs : List Component). parts_at xs row.member_places) (members_same h rows all (known_parts_of known) (known_parts_of after) c class next.keeps next.there agree)
+        ∙ (ap (λ (o : Option ClassLayout). parts_at (map (member_component all (known_parts_of after)) class.members) (member_places_in o)) (sym row_there)
+        ∙ ap (λ (o : Option Class). parts_at (map (member_component all (known_parts_of after)) (members_named o)) (member_places_in (slice_get all c.0))) (sym next.there)))
 
-    brings : (d : ClassId) (parts : List Part) → slice_get (members ++ facts.members ∷ []) d.0 ≡ Some parts → parts ≡ member_parts h all (parts_in after) d
+    brings : (d : ClassId) (parts : List Part) → slice_get (members ++ facts.members ∷ []) d.0 ≡ Some parts → parts ≡ parts_in_members h all (known_parts_of after) d
     brings d parts e = ⊎_elim
         (λ old.
         let lt = slice_get_within members d.0 parts old in
         let count = next.so_far.member_each in
-        next.so_far.brings d parts old ∙ member_parts_agree h c.0 rows all (parts_in known) (parts_in after) d next.keeps agree (omega arith))
+        next.so_far.brings d parts old ∙ member_parts_agree h c.0 rows all (known_parts_of known) (known_parts_of after) d next.keeps agree (omega arith))
         (λ new.
         let count = next.so_far.member_each in
         let id : c ≡ d = ap number (let same : c.0 ≡ d.0 = sym (new.0 ∙ count) in same) in
-        sym new.1 ∙ (members_are ∙ ap (member_parts h all (parts_in after)) id))
+        sym new.1 ∙ (members_are ∙ ap (parts_in_members h all (known_parts_of after)) id))
         (old_or_last members facts.members d.0 parts e)
 
     nested : AreNested h (c.0 + 1) all qs
     nested = next_nested h c class rows known members nearly ps primary has_pointer next row added.is (let a = added.sized.nvsize in let b = added.sized.size in omega arith)
 
-    by_members : (d : ClassId) (parts : List Part) → slice_get (members ++ facts.members ∷ []) d.0 ≡ Some parts → AreWithin (nvsize_in (slice_get all d.0)) parts
+    by_members : (d : ClassId) (parts : List Part) → slice_get (members ++ facts.members ∷ []) d.0 ≡ Some parts → LieUpTo (nvsize_in (slice_get all d.0)) parts
     by_members d parts e = ⊎_elim
         (λ old.
         let lt = slice_get_within members d.0 parts old in
         let count = next.so_far.member_each in
-        subst (λ (o : Option ClassLayout). AreWithin (nvsize_in o) parts) (row_old d (omega arith)) (next.so_far.inside.by_members d parts old))
+        subst (λ (o : Option ClassLayout). LieUpTo (nvsize_in o) parts) (row_old d (omega arith)) (next.so_far.inside.by_members d parts old))
         (λ new.
         let count = next.so_far.member_each in
         let there : Some row ≡ slice_get all d.0 = sym row_there ∙ ap (slice_get all) (sym (new.0 ∙ count)) in
-        subst (λ (o : Option ClassLayout). AreWithin (nvsize_in o) parts) there (subst (λ (xs : List Part). AreWithin row.nvsize xs) new.1 added.within))
+        subst (λ (o : Option ClassLayout). LieUpTo (nvsize_in o) parts) there (subst (λ (xs : List Part). LieUpTo row.nvsize xs) new.1 added.within))
         (old_or_last members facts.members d.0 parts e)
 
     kept_of : (part : Part) → Contains kept.parts part → part.class < c.0 + 1
@@ -215,7 +215,7 @@ so_far_more h c class rows known members nearly ps primary has_pointer next rows
         (λ e. subst (λ (xs : List Part). IsSized row xs) (sym e) (record { align = added.sized.align; nvalign = added.sized.nvalign; nvsize = added.sized.nvsize; size = added.sized.size; parts = tt }))
         keeping.less
 
-    smaller : (d : ClassId) (part : Part) → d.0 < c.0 + 1 → Contains (parts_in after d) part → part.class < c.0 + 1
+    smaller : (d : ClassId) (part : Part) → d.0 < c.0 + 1 → Contains (known_parts_of after d) part → part.class < c.0 + 1
     smaller d part lt has = ⊎_elim
         (λ same. kept_of part (subst (λ (xs : List Part). Contains xs part) (ap parts_known (kept_there d same)) has))
         (λ o. ⊎_elim

@@ -21,11 +21,11 @@ use Rattle.abi_layout.specs.declared.known.Known.{Known}
 use Rattle.abi_layout.specs.declared.laid_row.ClassFacts.{ClassFacts}
 use Rattle.abi_sound.specs.declared.class_layout.ClassLayout.{ClassLayout}
 use Rattle.abi_layout.specs.Kinds.{is_empty}
-use Rattle.abi_layout.specs.invariants.Known.{is_empty_in, empties_in, IsKept}
+use Rattle.abi_layout.specs.invariants.Known.{is_empty_in, empties_in, KeepsEnough}
 use Rattle.abi_layout.specs.Holding.{AreHolders}
 use Rattle.abi_layout.specs.Layouts.{is_shifted}
-use Rattle.abi_layout.specs.invariants.Scenes.{IsScene}
-use Rattle.abi_layout.specs.Refusals.{StopsAt, IsWellLaid, IsFirstStop}
+use Rattle.abi_layout.specs.invariants.Scenes.{IsLayoutScene}
+use Rattle.abi_layout.specs.Refusals.{StopsLayout, IsWellLaid, IsFirstStop}
 use Rattle.abi_layout.specs.invariants.ClassRows.{IsRefusedBy, IsRowAdded}
 use Rattle.abi_layout.specs.invariants.LaidSoFar.{IsLaidSoFar, is_shifted_base}
 use Rattle.abi_layout.proofs.lists.Lists.{number, get_within}
@@ -50,16 +50,16 @@ next_by h c class rows known members nearly ps primary has_pointer near earlier 
 
 -- the scene, by lists that are those of the classes so far
 pub scene_by : (h : Classes) (c : ClassId) (class : Class) (rows : List ClassLayout) (known : List Known) (members : List (List Part)) (nearly : List Bool) (ps : List Primary) (primary : Primary) (has_pointer : Bool) → IsNextKnown h c class rows known members nearly ps primary has_pointer
-    → (ks : List Known) (ms : List (List Part)) (qs : List Primary) (list : List Subobject) → ks ≡ known → ms ≡ members → qs ≡ ps ++ primary ∷ [] → ListsVirtual h c list → (holders : List (Option ℕ)) → AreHolders qs list c.0 holders → IsScene h c rows ks ms qs list holders
+    → (ks : List Known) (ms : List (List Part)) (qs : List Primary) (list : List Subobject) → ks ≡ known → ms ≡ members → qs ≡ ps ++ primary ∷ [] → ListsVirtual h c list → (holders : List (Option ℕ)) → AreHolders qs list c.0 holders → IsLayoutScene h c rows ks ms qs list holders
 scene_by h c class rows known members nearly ps primary has_pointer next ks ms qs list k m q l holders are =
-    subst (λ (xs : List Known). IsScene h c rows xs ms qs list holders) (sym k)
-    (subst (λ (xs : List (List Part)). IsScene h c rows known xs qs list holders) (sym m)
-    (subst (λ (xs : List Primary). IsScene h c rows known members xs list holders) (sym q)
+    subst (λ (xs : List Known). IsLayoutScene h c rows xs ms qs list holders) (sym k)
+    (subst (λ (xs : List (List Part)). IsLayoutScene h c rows known xs qs list holders) (sym m)
+    (subst (λ (xs : List Primary). IsLayoutScene h c rows known members xs list holders) (sym q)
     (next_scene h c class rows known members nearly ps primary has_pointer next list holders (listed_tells h (ps ++ primary ∷ []) c list next.keeps (next_are_bases h c class rows known members nearly ps primary has_pointer next) l) (subst (λ (xs : List Primary). AreHolders xs list c.0 holders) q are))))
 
 -- the error of the class, by lists that are those of the classes so far
 pub refused_by : (h : Classes) (c : ClassId) (class : Class) (rows : List ClassLayout) (known : List Known) (members : List (List Part)) (nearly : List Bool) (ps : List Primary) (primary : Primary) (has_pointer : Bool) → IsNextKnown h c class rows known members nearly ps primary has_pointer
-    → (ks : List Known) (qs : List Primary) (stop : Stop) → ks ≡ known → qs ≡ ps ++ primary ∷ [] → IsRefusedBy h c rows ks qs class has_pointer stop → (stop ≡ NoMemory) ⊎ StopsAt h c stop
+    → (ks : List Known) (qs : List Primary) (stop : Stop) → ks ≡ known → qs ≡ ps ++ primary ∷ [] → IsRefusedBy h c rows ks qs class has_pointer stop → (stop ≡ NoMemory) ⊎ StopsLayout h c stop
 refused_by h c class rows known members nearly ps primary has_pointer next ks qs stop k q refused =
     stops_by h c class rows known members nearly ps primary has_pointer stop next
     (subst (λ (xs : List Primary). IsRefusedBy h c rows known xs class has_pointer stop) q (subst (λ (xs : List Known). IsRefusedBy h c rows xs qs class has_pointer stop) k refused))
@@ -79,7 +79,7 @@ row_by h c class rows known members nearly ps primary has_pointer next ks qs mor
 -- one class more is known
 pub known_by : (h : Classes) (c : ClassId) (class : Class) (rows : List ClassLayout) (known : List Known) (members : List (List Part)) (nearly : List Bool) (ps : List Primary) (primary : Primary) (has_pointer : Bool) → IsNextKnown h c class rows known members nearly ps primary has_pointer
     → (ks : List Known) (qs : List Primary) (more all : List ClassLayout) (facts : ClassFacts) → ks ≡ known → qs ≡ ps ++ primary ∷ [] → all ≡ more → IsRowAdded h c rows ks qs class has_pointer more facts
-    → (kept : Known) → IsKept h c facts.known kept → (near : List Bool) (told : List Known) (is shifted : Bool) → near ≡ nearly → told ≡ known ++ kept ∷ [] → shifted ≡ list_any (is_shifted_base h all told) (preorder h c) → (IsTrue is ↔ IsNearlyEmpty h near shifted c)
+    → (kept : Known) → KeepsEnough h c facts.known kept → (near : List Bool) (told : List Known) (is shifted : Bool) → near ≡ nearly → told ≡ known ++ kept ∷ [] → shifted ≡ list_any (is_shifted_base h all told) (preorder h c) → (IsTrue is ↔ IsNearlyEmpty h near shifted c)
     → IsLaidSoFar h (c.0 + 1) more (known ++ kept ∷ []) (members ++ facts.members ∷ []) (nearly ++ is ∷ []) (ps ++ primary ∷ [])
 known_by h c class rows known members nearly ps primary has_pointer next ks qs more all facts k q a added kept keeping near told is shifted n t s nearly_is =
     let here = added_by h c class rows known ks (ps ++ primary ∷ []) qs has_pointer more facts k q added in
@@ -111,7 +111,7 @@ well_laid h n rows known members nearly ps so_far = record {
 }
 
 -- the first class that is refused
-pub first_stop : (h : Classes) (n count : ℕ) (rows : List ClassLayout) (known : List Known) (members : List (List Part)) (nearly : List Bool) (ps : List Primary) (stop : Stop) → n < count → IsLaidSoFar h n rows known members nearly ps → (stop ≡ NoMemory) ⊎ StopsAt h (number n) stop → (stop ≡ NoMemory) ⊎ IsFirstStop h count stop
+pub first_stop : (h : Classes) (n count : ℕ) (rows : List ClassLayout) (known : List Known) (members : List (List Part)) (nearly : List Bool) (ps : List Primary) (stop : Stop) → n < count → IsLaidSoFar h n rows known members nearly ps → (stop ≡ NoMemory) ⊎ StopsLayout h (number n) stop → (stop ≡ NoMemory) ⊎ IsFirstStop h count stop
 first_stop h n count rows known members nearly ps stop lt so_far refused = ⊎_elim (λ e. inl e)
     (λ stops. inr (record { class = number n; known = lt; rows = rows; before = well_laid h n rows known members nearly ps so_far; stops = stops }))
     refused

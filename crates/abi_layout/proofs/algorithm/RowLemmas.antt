@@ -16,16 +16,16 @@ use Rattle.cxx_hierarchy.specs.declared.records.ValueType.TheVariants.{Number, P
 use Rattle.cxx_hierarchy.specs.Scalars.{size_of, most_bits}
 use Rattle.cxx_hierarchy.specs.Hierarchies.{IsBitField}
 use Rattle.abi_emptybase.specs.declared.Part.{Part}
-use Rattle.abi_emptybase.specs.Table.{moved}
+use Rattle.abi_emptybase.specs.Table.{moved_part}
 use Rattle.abi_layout.specs.Limits.{size_limit}
 use Rattle.abi_layout.specs.declared.component.Component.{Component}
 use Rattle.abi_layout.specs.declared.component.Stage.{Stage}
 use Rattle.abi_layout.specs.declared.known.Known.{Known}
 use Rattle.abi_sound.specs.declared.class_layout.ClassLayout.{ClassLayout}
 use Rattle.abi_sound.specs.Places.{size_of_value}
-use Rattle.abi_layout.specs.Placements.{ArePlaced, end_by, after, after_all, copies, elements_of, size_of_type, align_of_type, parts_of_type, member_component}
-use Rattle.abi_layout.specs.invariants.Alignments.{IsAlignment, byte, two_bytes, four_bytes, eight_bytes, AreWithin, IsFitWidth, IsFit, AreFit, AreLittle}
-use Rattle.abi_layout.specs.invariants.Known.{parts_in, IsSized, AreAllSized, IsEarlierType}
+use Rattle.abi_layout.specs.Placements.{ArePlaced, end_by, stage_after, stage_after_all, copies, elements_of, size_of_member_type, align_of_type, parts_of_type, member_component}
+use Rattle.abi_layout.specs.invariants.Alignments.{IsAlignment, byte, two_bytes, four_bytes, eight_bytes, LieUpTo, IsFitWidth, IsFit, AreFit, AreLittle}
+use Rattle.abi_layout.specs.invariants.Known.{known_parts_of, IsSized, AreAllSized, IsEarlierType}
 use Rattle.abi_layout.proofs.lists.Lists.{get_within, has_here, has_later}
 use Rattle.abi_layout.proofs.rules.Parts.{within_further, within_moved, within_both}
 use Rattle.abi_layout.proofs.rules.PlacingLemmas.{size_grows}
@@ -34,13 +34,13 @@ pub copies_more : (n stride : ℕ) → suc n * stride ≡ n * stride + stride
 copies_more n stride = grind arith
 
 -- copies of parts that lie within the stride
-pub copies_within : (n stride : ℕ) (parts : List Part) → AreWithin stride parts → AreWithin (n * stride) (copies n stride parts)
+pub copies_within : (n stride : ℕ) (parts : List Part) → LieUpTo stride parts → LieUpTo (n * stride) (copies n stride parts)
 copies_within zero stride parts w = tt
 copies_within (suc n) stride parts w =
     let e = copies_more n stride in
-    within_both (suc n * stride) (copies n stride parts) (map (moved (n * stride)) parts)
+    within_both (suc n * stride) (copies n stride parts) (map (moved_part (n * stride)) parts)
     (within_further (n * stride) (suc n * stride) (copies n stride parts) (omega arith) (copies_within n stride parts w))
-    (within_further (n * stride + stride) (suc n * stride) (map (moved (n * stride)) parts) (omega arith) (within_moved stride (n * stride) parts w))
+    (within_further (n * stride + stride) (suc n * stride) (map (moved_part (n * stride)) parts) (omega arith) (within_moved stride (n * stride) parts w))
 
 -- of a copy before the last
 pub copy_fits : (e n stride limit : ℕ) → e < n → n * stride ≤ limit → e * stride + stride ≤ limit
@@ -81,7 +81,7 @@ sized_of rows known c all lt_rows lt_known =
     record { row = r.0; k = k.0; row_is = r.1; known_is = k.1; sized = all.each c.0 r.0 k.0 r.1 k.1 }
 
 -- the parts of a member or element lie within its size
-pub type_within : (rows : List ClassLayout) (known : List Known) (type : FieldType ClassId) → AreAllSized rows known → IsEarlierType (length rows) type → length known ≡ length rows → AreWithin (size_of_type rows type) (parts_of_type (parts_in known) type)
+pub type_within : (rows : List ClassLayout) (known : List Known) (type : FieldType ClassId) → AreAllSized rows known → IsEarlierType (length rows) type → length known ≡ length rows → LieUpTo (size_of_member_type rows type) (parts_of_type (known_parts_of known) type)
 type_within rows known (Value type) all earlier same = tt
 type_within rows known (Object d) all earlier same =
     let lt : d.0 < length rows = earlier in
@@ -117,8 +117,8 @@ no_more_bits ULongLong = omega arith
 pub bit_field_fits : (rows : List ClassLayout) (parts : ClassId → List Part) (member : Member ClassId) (n : ℕ) → IsBitField member n → IsFitWidth (member_component rows parts member) n
 bit_field_fits rows parts member n is = record {
   has_data = refl;
-  parts = ap (λ count. copies (elements_of count) (size_of_type rows member.ty) (parts_of_type parts member.ty)) is.single
-      ∙ ap (λ (type : FieldType ClassId). copies 1 (size_of_type rows member.ty) (parts_of_type parts type)) is.is;
+  parts = ap (λ count. copies (elements_of count) (size_of_member_type rows member.ty) (parts_of_type parts member.ty)) is.single
+      ∙ ap (λ (type : FieldType ClassId). copies 1 (size_of_member_type rows member.ty) (parts_of_type parts type)) is.is;
   most = let a = no_more_bits is.type in let b = is.high in let e : align_of_type rows member.ty ≡ size_of is.type = ap (align_of_type rows) is.is in omega arith;
 }
 
@@ -127,7 +127,7 @@ pub bit_field_small : (rows : List ClassLayout) (parts : ClassId → List Part) 
 bit_field_small rows parts member n is =
     let a = size_below is.type in
     let e : elements_of member.count ≡ 1 = ap elements_of is.single in
-    let f : size_of_type rows member.ty ≡ size_of is.type = ap (size_of_type rows) is.is in
+    let f : size_of_member_type rows member.ty ≡ size_of is.type = ap (size_of_member_type rows) is.is in
     rw (e, f) (omega (arith, a))
   where
     size_below : (t : Scalar) → size_of t ≤ 8
@@ -139,12 +139,12 @@ bit_field_small rows parts member n is =
         of _ four_bytes = omega arith
         of _ eight_bytes = omega arith
 
-pub member_fit : (rows : List ClassLayout) (known : List Known) (member : Member ClassId) → AreAllSized rows known → IsEarlierType (length rows) member.ty → length known ≡ length rows → elements_of member.count * size_of_type rows member.ty ≤ size_limit → ((n : ℕ) → member.width ≡ Some n → IsBitField member n) → IsFit (member_component rows (parts_in known) member)
+pub member_fit : (rows : List ClassLayout) (known : List Known) (member : Member ClassId) → AreAllSized rows known → IsEarlierType (length rows) member.ty → length known ≡ length rows → elements_of member.count * size_of_member_type rows member.ty ≤ size_limit → ((n : ℕ) → member.width ≡ Some n → IsBitField member n) → IsFit (member_component rows (known_parts_of known) member)
 member_fit rows known member all earlier same le bits = record {
   align = type_alignment rows known member.ty all earlier same;
   takes = le;
-  parts = copies_within (elements_of member.count) (size_of_type rows member.ty) (parts_of_type (parts_in known) member.ty) (type_within rows known member.ty all earlier same);
-  width = λ n e. bit_field_fits rows (parts_in known) member n (bits n e);
+  parts = copies_within (elements_of member.count) (size_of_member_type rows member.ty) (parts_of_type (known_parts_of known) member.ty) (type_within rows known member.ty all earlier same);
+  width = λ n e. bit_field_fits rows (known_parts_of known) member n (bits n e);
 }
 
 pub little_more : (cs : List Component) (c : Component) → AreLittle cs → c.takes ≤ size_limit → AreLittle (cs ++ c ∷ [])
@@ -152,7 +152,7 @@ little_more [] c little one = (one, tt)
 little_more (x ∷ cs) c little one = (little.0, little_more cs c little.1 one)
 
 pub members_fit : (rows : List ClassLayout) (known : List Known) (members : List (Member ClassId)) → AreAllSized rows known → length known ≡ length rows → ((member : Member ClassId) → Contains members member → IsEarlierType (length rows) member.ty)
-    → AreBitFields members → AreLittle (map (member_component rows (parts_in known)) members) → AreFit (map (member_component rows (parts_in known)) members)
+    → AreBitFields members → AreLittle (map (member_component rows (known_parts_of known)) members) → AreFit (map (member_component rows (known_parts_of known)) members)
 members_fit rows known [] all same earlier bits little = tt
 members_fit rows known (member ∷ members) all same earlier bits little = (
   member_fit rows known member all (earlier member (has_here member members)) same little.0 (λ n e. bits member n (has_here member members) e),
@@ -167,16 +167,16 @@ pub get_map : {X Y : Type 0} (f : X → Y) (xs : List X) (i : ℕ) (item : X) �
 get_map f xs i item lt is = slice_get-map f xs i ∙ ap (option_map f) (slice_get_read xs (length xs) i item refl lt is)
 
 -- a component that takes more than the limit makes the size pass it
-pub large_passes : (stage : Stage) (cs : List Component) (ps : List ℕ) (i : ℕ) (c : Component) (limit : ℕ) → ArePlaced stage cs ps → slice_get cs i ≡ Some c → ((n : ℕ) → c.width ≡ Some n → c.takes ≤ limit) → limit < c.takes → limit < (after_all stage cs ps).size
+pub large_passes : (stage : Stage) (cs : List Component) (ps : List ℕ) (i : ℕ) (c : Component) (limit : ℕ) → ArePlaced stage cs ps → slice_get cs i ≡ Some c → ((n : ℕ) → c.width ≡ Some n → c.takes ≤ limit) → limit < c.takes → limit < (stage_after_all stage cs ps).size
 large_passes stage [] ps i c limit a e small lt = cc
 large_passes stage (x ∷ cs) [] i c limit a e small lt = absurd a
 large_passes stage (x ∷ cs) (p ∷ ps) zero c limit a e small lt =
     let same : x ≡ c = cc in
     let takes : x.takes ≡ c.takes = ap (λ (z : Component). z.takes) same in
-    let g = size_grows (after stage x p) cs ps in
+    let g = size_grows (stage_after stage x p) cs ps in
     let end = by_width x.width (ap (λ (z : Component). z.width) same) takes in omega (arith, g, takes, end)
   where
     by_width : (w : Option ℕ) → w ≡ c.width → x.takes ≡ c.takes → limit < end_by w stage x p
     by_width None e same = omega arith
     by_width (Some n) e same = let s = small n (sym e) in absurd (omega arith)
-large_passes stage (x ∷ cs) (p ∷ ps) (suc i) c limit a e small lt = large_passes (after stage x p) cs ps i c limit a.1 e small lt
+large_passes stage (x ∷ cs) (p ∷ ps) (suc i) c limit a e small lt = large_passes (stage_after stage x p) cs ps i c limit a.1 e small lt

@@ -17,7 +17,7 @@ use Rattle.cxx_hierarchy.specs.Hierarchies.{IsHierarchy}
 use Rattle.cxx_subobject.specs.declared.Subobject.{Subobject}
 use Rattle.cxx_subobject.specs.Subobjects.{base_subobject, shared_base}
 use Rattle.abi_emptybase.specs.declared.Part.{Part}
-use Rattle.abi_emptybase.specs.Table.{moved}
+use Rattle.abi_emptybase.specs.Table.{moved_part}
 use Rattle.abi_primary.specs.declared.Primary.{Primary}
 use Rattle.abi_layout.specs.Limits.{size_limit}
 use Rattle.abi_layout.specs.declared.component.Component.{Component}
@@ -25,14 +25,14 @@ use Rattle.abi_layout.specs.declared.component.Stage.{Stage}
 use Rattle.abi_layout.specs.declared.known.Known.{Known}
 use Rattle.abi_sound.specs.declared.class_layout.ClassLayout.{ClassLayout}
 use Rattle.abi_layout.specs.declared.placed_bases.PlacedBase.{PlacedBase}
-use Rattle.abi_sound.specs.Places.{base_place}
-use Rattle.abi_layout.specs.Placements.{part_at, nvsize_in, after_all, member_component}
-use Rattle.abi_layout.specs.invariants.Alignments.{AreWithin, IsFit, AreFit}
-use Rattle.abi_layout.specs.invariants.Known.{empties_in, parts_in, IsSized, AreAllSized, IsEarlierType, HasLarge}
+use Rattle.abi_sound.specs.Places.{direct_base_place}
+use Rattle.abi_layout.specs.Placements.{placed_part, nvsize_in, stage_after_all, member_component}
+use Rattle.abi_layout.specs.invariants.Alignments.{LieUpTo, IsFit, AreFit}
+use Rattle.abi_layout.specs.invariants.Known.{empties_in, known_parts_of, IsSized, AreAllSized, IsEarlierType, HasLarge}
 use Rattle.abi_layout.specs.Holding.{held_base}
-use Rattle.abi_layout.specs.Brought.{member_parts, base_brings, virtual_brings, brought, brought_by}
+use Rattle.abi_layout.specs.Brought.{parts_in_members, base_brings, virtual_brings, brought, brought_by}
 use Rattle.abi_layout.specs.PlacedBases.{class_of_placed, subobject_of, placed_component}
-use Rattle.abi_layout.specs.invariants.Scenes.{IsScene}
+use Rattle.abi_layout.specs.invariants.Scenes.{IsLayoutScene}
 use Rattle.abi_layout.specs.Repeats.{SomeRepeats}
 use Rattle.abi_layout.specs.declared.arrangement.Arrangement.{Arrangement}
 use Rattle.abi_layout.specs.invariants.Arrangements.{IsArranged, IsWithinLimit, IsTooLargeBy, LeavesNoPlace, IsRefusal, components_by}
@@ -43,62 +43,62 @@ use Rattle.abi_layout.proofs.algorithm.RowLemmas.{sized_of, AreBitFields, bit_fi
 use Rattle.abi_layout.proofs.rules.BroughtLemmas.{held_is_primary}
 use Rattle.abi_layout.proofs.rules.PlacedLemmas.{component_at}
 
-within_flat : {X : Type 0} (end : ℕ) (f : X → List Part) (xs : List X) → ((x : X) → Contains xs x → AreWithin end (f x)) → AreWithin end (flat_map f xs)
+within_flat : {X : Type 0} (end : ℕ) (f : X → List Part) (xs : List X) → ((x : X) → Contains xs x → LieUpTo end (f x)) → LieUpTo end (flat_map f xs)
 within_flat end f [] each = tt
 within_flat end f (x ∷ xs) each = within_both end (f x) (flat_map f xs) (each x (has_here x xs)) (within_flat end f xs (λ y has. each y (has_later x xs y has)))
 
-base_within : (h : Classes) (rows : List ClassLayout) (f : Subobject → ClassId → List Part) (s : Subobject) (d : ClassId) (base : Base ClassId) (end : ℕ) → (base.is_virtual ≡ false → (t : Subobject) → AreWithin end (map (moved (base_place h rows d base.class)) (f t base.class))) → AreWithin end (base_brings h rows f s d base)
-base_within h rows f s d base end each = split base.is_virtual (λ b. (b ≡ false → (t : Subobject) → AreWithin end (map (moved (base_place h rows d base.class)) (f t base.class))) → AreWithin end (if b then [] else map (moved (base_place h rows d base.class)) (f (base_subobject s base) base.class)))
+base_within : (h : Classes) (rows : List ClassLayout) (f : Subobject → ClassId → List Part) (s : Subobject) (d : ClassId) (base : Base ClassId) (end : ℕ) → (base.is_virtual ≡ false → (t : Subobject) → LieUpTo end (map (moved_part (direct_base_place h rows d base.class)) (f t base.class))) → LieUpTo end (base_brings h rows f s d base)
+base_within h rows f s d base end each = split base.is_virtual (λ b. (b ≡ false → (t : Subobject) → LieUpTo end (map (moved_part (direct_base_place h rows d base.class)) (f t base.class))) → LieUpTo end (if b then [] else map (moved_part (direct_base_place h rows d base.class)) (f (base_subobject s base) base.class)))
     (λ t inner. tt)
     (λ e inner. inner refl (base_subobject s base)) each
 
-virtual_within : (f : Subobject → ClassId → List Part) (o : Option ClassId) (end : ℕ) → ((v : ClassId) → o ≡ Some v → (t : Subobject) → AreWithin end (f t v)) → AreWithin end (virtual_brings f o)
+virtual_within : (f : Subobject → ClassId → List Part) (o : Option ClassId) (end : ℕ) → ((v : ClassId) → o ≡ Some v → (t : Subobject) → LieUpTo end (f t v)) → LieUpTo end (virtual_brings f o)
 virtual_within f None end each = tt
 virtual_within f (Some v) end each = each v refl (shared_base v)
 
 -- what a subobject of a class before brings lies within that class
-pub brought_within : (h : Classes) (c : ClassId) (rows : List ClassLayout) (known : List Known) (members : List (List Part)) (ps : List Primary) (list : List Subobject) (holders : List (Option ℕ)) → IsHierarchy h → IsScene h c rows known members ps list holders
-    → (n : ℕ) (s : Subobject) (d : ClassId) → d.0 < c.0 → AreWithin (nvsize_in (slice_get rows d.0)) (brought h rows ps (parts_in known) c n s d)
+pub brought_within : (h : Classes) (c : ClassId) (rows : List ClassLayout) (known : List Known) (members : List (List Part)) (ps : List Primary) (list : List Subobject) (holders : List (Option ℕ)) → IsHierarchy h → IsLayoutScene h c rows known members ps list holders
+    → (n : ℕ) (s : Subobject) (d : ClassId) → d.0 < c.0 → LieUpTo (nvsize_in (slice_get rows d.0)) (brought h rows ps (known_parts_of known) c n s d)
 brought_within h c rows known members ps list holders keeps scene zero s d lt = tt
 brought_within h c rows known members ps list holders keeps scene (suc n) s d lt =
-    let by = brought h rows ps (parts_in known) c n in
+    let by = brought h rows ps (known_parts_of known) c n in
     let end = nvsize_in (slice_get rows d.0) in
     let each = scene.member_each in
     let own = get_within members d.0 (omega arith) in
-    let mine : AreWithin end (member_parts h rows (parts_in known) d) = subst (λ (xs : List Part). AreWithin end xs) (scene.brings d own.0 own.1) (scene.inside.by_members d own.0 own.1) in
-    within_both end (part_at d 0 ∷ member_parts h rows (parts_in known) d) (flat_map (base_brings h rows by s d) (bases_of h d) ++ virtual_brings by (held_base h ps c s d))
+    let mine : LieUpTo end (parts_in_members h rows (known_parts_of known) d) = subst (λ (xs : List Part). LieUpTo end xs) (scene.brings d own.0 own.1) (scene.inside.by_members d own.0 own.1) in
+    within_both end (placed_part d 0 ∷ parts_in_members h rows (known_parts_of known) d) (flat_map (base_brings h rows by s d) (bases_of h d) ++ virtual_brings by (held_base h ps c s d))
     (omega arith, mine)
     (within_both end (flat_map (base_brings h rows by s d) (bases_of h d)) (virtual_brings by (held_base h ps c s d))
     (within_flat end (base_brings h rows by s d) (bases_of h d) (λ base has. base_within h rows by s d base end (λ way t.
     let falls = keeps.bases d base has in
     let inner = brought_within h c rows known members ps list holders keeps scene n t base.class (omega arith) in
-    within_further (base_place h rows d base.class + nvsize_in (slice_get rows base.class.0)) end (map (moved (base_place h rows d base.class)) (by t base.class)) (scene.inside.by_bases d base lt has way) (within_moved (nvsize_in (slice_get rows base.class.0)) (base_place h rows d base.class) (by t base.class) inner))))
+    within_further (direct_base_place h rows d base.class + nvsize_in (slice_get rows base.class.0)) end (map (moved_part (direct_base_place h rows d base.class)) (by t base.class)) (scene.inside.by_bases d base lt has way) (within_moved (nvsize_in (slice_get rows base.class.0)) (direct_base_place h rows d base.class) (by t base.class) inner))))
     (virtual_within by (held_base h ps c s d) end (λ v e t.
     let is = held_is_primary h ps c s d v e in
     let falls = scene.before.falls d v is in
     within_further (nvsize_in (slice_get rows v.0)) end (by t v) (scene.inside.by_primary d v lt is) (brought_within h c rows known members ps list holders keeps scene n t v (omega arith)))))
 
-fit_by : (x : Option ClassLayout) (y : Option Known) (row : ClassLayout) (k : Known) (parts : List Part) → x ≡ Some row → y ≡ Some k → IsSized row k.parts → AreWithin (nvsize_in x) parts → IsFit (component_at y x parts)
+fit_by : (x : Option ClassLayout) (y : Option Known) (row : ClassLayout) (k : Known) (parts : List Part) → x ≡ Some row → y ≡ Some k → IsSized row k.parts → LieUpTo (nvsize_in x) parts → IsFit (component_at y x parts)
 fit_by x y row k parts r q sized within =
-    let inner : AreWithin row.nvsize parts = subst (λ (o : Option ClassLayout). AreWithin (nvsize_in o) parts) r within in
+    let inner : LieUpTo row.nvsize parts = subst (λ (o : Option ClassLayout). LieUpTo (nvsize_in o) parts) r within in
     subst (λ (o : Option ClassLayout). IsFit (component_at y o parts)) (sym r) (subst (λ (o : Option Known). IsFit (component_at o (Some row) parts)) (sym q) (made k.is_empty inner))
   where
-    made : (b : Bool) → AreWithin row.nvsize parts → IsFit (record { is_empty = b; align = row.nvalign; takes = if b then row.size else row.nvsize; width = None; parts = parts })
+    made : (b : Bool) → LieUpTo row.nvsize parts → IsFit (record { is_empty = b; align = row.nvalign; takes = if b then row.size else row.nvsize; width = None; parts = parts })
     made true w = record { align = sized.nvalign; takes = sized.size; parts = within_further row.nvsize row.size parts sized.nvsize w; width = λ n e. cc }
     made false w = record { align = sized.nvalign; takes = let a = sized.nvsize in let b = sized.size in omega arith; parts = w; width = λ n e. cc }
 
-placed_fit : (h : Classes) (c : ClassId) (rows : List ClassLayout) (known : List Known) (members : List (List Part)) (ps : List Primary) (list : List Subobject) (holders : List (Option ℕ)) → IsHierarchy h → IsScene h c rows known members ps list holders → AreAllSized rows known
-    → (base : PlacedBase) → (class_of_placed base).0 < c.0 → IsFit (placed_component (empties_in known) h rows ps (parts_in known) c base)
+placed_fit : (h : Classes) (c : ClassId) (rows : List ClassLayout) (known : List Known) (members : List (List Part)) (ps : List Primary) (list : List Subobject) (holders : List (Option ℕ)) → IsHierarchy h → IsLayoutScene h c rows known members ps list holders → AreAllSized rows known
+    → (base : PlacedBase) → (class_of_placed base).0 < c.0 → IsFit (placed_component (empties_in known) h rows ps (known_parts_of known) c base)
 placed_fit h c rows known members ps list holders keeps scene sized base lt =
     let b = class_of_placed base in
     let row_each = scene.row_each in
     let known_each = scene.known_each in
     let e = sized_of rows known b sized (omega arith) (omega arith) in
-    fit_by (slice_get rows b.0) (slice_get known b.0) e.row e.k (brought_by h rows ps (parts_in known) c (subobject_of c base) b) e.row_is e.known_is e.sized
+    fit_by (slice_get rows b.0) (slice_get known b.0) e.row e.k (brought_by h rows ps (known_parts_of known) c (subobject_of c base) b) e.row_is e.known_is e.sized
     (brought_within h c rows known members ps list holders keeps scene (b.0 + 1) (subobject_of c base) b lt)
 
 -- the bases that are placed fit
-pub placed_all_fit : (h : Classes) (c : ClassId) (rows : List ClassLayout) (known : List Known) (members : List (List Part)) (ps : List Primary) (list : List Subobject) (holders : List (Option ℕ)) → IsHierarchy h → IsScene h c rows known members ps list holders → AreAllSized rows known
+pub placed_all_fit : (h : Classes) (c : ClassId) (rows : List ClassLayout) (known : List Known) (members : List (List Part)) (ps : List Primary) (list : List Subobject) (holders : List (Option ℕ)) → IsHierarchy h → IsLayoutScene h c rows known members ps list holders → AreAllSized rows known
     → (bases : List PlacedBase) → All (λ (base : PlacedBase). (class_of_placed base).0 < c.0) bases → AreFit (components_by h rows known ps c bases)
 placed_all_fit h c rows known members ps list holders keeps scene sized [] all = tt
 placed_all_fit h c rows known members ps list holders keeps scene sized (base ∷ bases) all = (
@@ -143,8 +143,8 @@ fields_small rows parts (m ∷ members) bits (suc i) c e n w = fields_small rows
 pub large_member : (first : Stage) (fs ms vs : List Component) (pod : Bool) → HasSmallFields ms → HasLarge ms → IsTooLargeBy first fs ms vs pod
 large_member first fs ms vs pod small has = record {
   large = λ ps rs row l.
-      let p = large_passes (after_all first fs ps) ms row.member_places has.number has.component size_limit l.members_placed has.there (small has.number has.component has.there) has.large in
-      let k = size_grows (after_all (after_all first fs ps) ms row.member_places) vs rs in
+      let p = large_passes (stage_after_all first fs ps) ms row.member_places has.number has.component size_limit l.members_placed has.there (small has.number has.component has.there) has.large in
+      let k = size_grows (stage_after_all (stage_after_all first fs ps) ms row.member_places) vs rs in
       let b = l.size.behind in omega arith;
 }
 
@@ -178,7 +178,7 @@ pub fit_places : (cs : List Component) (i : ℕ) (component : Component) → Are
 fit_places [] i component fit e = cc
 fit_places (x ∷ cs) zero component fit e = let same : x ≡ component = cc in let f = subst IsFit same fit.0 in let t = f.takes in all_small component.takes component.parts (omega arith) f.parts
   where
-    all_small : (end : ℕ) (parts : List Part) → end < 2 ^ 32 → AreWithin end parts → All (λ (part : Part). part.place < 2 ^ 32) parts
+    all_small : (end : ℕ) (parts : List Part) → end < 2 ^ 32 → LieUpTo end parts → All (λ (part : Part). part.place < 2 ^ 32) parts
     all_small end [] lt w = All-nil (λ (part : Part). part.place < 2 ^ 32)
     all_small end (part ∷ parts) lt w = All-cons (λ (part : Part). part.place < 2 ^ 32) part parts (let h = w.0 in omega arith) (all_small end parts lt w.1)
 fit_places (x ∷ cs) (suc i) component fit e = fit_places cs i component fit.1 e

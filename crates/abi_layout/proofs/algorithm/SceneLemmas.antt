@@ -11,7 +11,7 @@ use Rattle.abi_primary.specs.declared.Primary.{Primary}
 use Rattle.abi_primary.specs.PrimaryBase.{has_primary}
 use Rattle.abi_primary.specs.Holder.{holder_of}
 use Rattle.abi_primary.proofs.PrimaryLemmas.{found, not_found}
-use Rattle.abi_layout.specs.Holding.{is_holder, kept_if, holds_base, held_base, virtual_primary, AreHolders}
+use Rattle.abi_layout.specs.Holding.{is_holder, kept_if, holds_base, held_base, virtual_primary_base, AreHolders}
 use Rattle.abi_layout.specs.invariants.Scenes.{TellsHolders}
 use Rattle.abi_layout.proofs.rules.Parts.{split}
 
@@ -35,7 +35,7 @@ holder_is_none h ps c list count holders v same are lt e = sym (same.holder v) �
 
 -- where no subobject is listed, nothing is held
 pub none_held : (h : Classes) (ps : List Primary) (c : ClassId) (list : List Subobject) → TellsHolders h ps c list → list ≡ [] → (s : Subobject) (d : ClassId) → held_base h ps c s d ≡ None
-none_held h ps c list tells e s d = by_primary (virtual_primary ps d)
+none_held h ps c list tells e s d = by_primary (virtual_primary_base ps d)
   where
     by_primary : (o : Option ClassId) → kept_if (holds_base h ps c s) o ≡ None
     by_primary None = refl

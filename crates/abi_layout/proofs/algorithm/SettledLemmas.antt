@@ -13,7 +13,7 @@ use Rattle.cxx_subobject.specs.declared.Subobject.{Subobject}
 use Rattle.abi_sound.specs.declared.class_layout.ClassLayout.{ClassLayout}
 use Rattle.abi_layout.specs.Limits.{size_limit}
 use Rattle.abi_layout.specs.Placements.{nvsize_in}
-use Rattle.abi_layout.specs.invariants.Settled.{place_by, held_at, with_place, HasRoom, CanSettle, AreSettled}
+use Rattle.abi_layout.specs.invariants.Settled.{place_by, held_at, with_place, EndsWithinLimit, CanSettle, AreSettled}
 use Rattle.abi_layout.proofs.rules.TableLemmas.{IsTableFrom, table_more}
 
 -- a direct base stands before its class
@@ -33,9 +33,9 @@ pub record SettledFrom (h : Classes) (rows : List ClassLayout) (list : List Subo
   pub one_each : length new ≡ count
   pub held : (v : ℕ) (t : Subobject) → v < count → count ≤ v + i → held_at list (get_or holders v None) ≡ Some t → get_or new v 0 ≡ place_by h rows new t
   pub kept : (v : ℕ) → held_at list (get_or holders v None) ≡ None → get_or new v 0 ≡ get_or old v 0
-  pub room : HasRoom rows new
+  pub room : EndsWithinLimit rows new
 
-pub settled_none : (h : Classes) (rows : List ClassLayout) (list : List Subobject) (holders : List (Option ℕ)) (count : ℕ) (table : List ℕ) → length table ≡ count → HasRoom rows table → SettledFrom h rows list holders count 0 table table
+pub settled_none : (h : Classes) (rows : List ClassLayout) (list : List Subobject) (holders : List (Option ℕ)) (count : ℕ) (table : List ℕ) → length table ≡ count → EndsWithinLimit rows table → SettledFrom h rows list holders count 0 table table
 settled_none h rows list holders count table e room = record { one_each = e; held = λ v t lt le held. absurd (omega arith); kept = λ v free. refl; room = room }
 
 pub settled_more : (h : Classes) (rows : List ClassLayout) (list : List Subobject) (holders : List (Option ℕ)) (count i u : ℕ) (old new : List ℕ) → CanSettle h rows list holders → i < count → u ≡ count - 1 - i → SettledFrom h rows list holders count i old new
@@ -50,7 +50,7 @@ settled_more h rows list holders count i u old new can lt u_is before = record {
     more : IsTableFrom h rows (λ v. held_at list (get_or holders v None)) count (i + 1) old (with_place h rows new u (held_at list (get_or holders u None)))
     more = table_more h rows (λ v. held_at list (get_or holders v None)) count i u old new (record { rises = can.rises }) lt u_is (record { one_each = before.one_each; held = before.held; kept = before.kept })
 
-    room : (o : Option Subobject) → held_at list (get_or holders u None) ≡ o → HasRoom rows (with_place h rows new u o)
+    room : (o : Option Subobject) → held_at list (get_or holders u None) ≡ o → EndsWithinLimit rows (with_place h rows new u o)
     room None free = before.room
     room (Some s) here = record {
       each = λ v. ⊎_elim

@@ -12,7 +12,7 @@ use Rattle.cxx_hierarchy.specs.Scalars.{size_of}
 use Rattle.abi_layout.specs.declared.component.Component.{Component}
 use Rattle.abi_layout.specs.declared.component.Stage.{Stage}
 use Rattle.abi_sound.specs.Places.{size_of_value}
-use Rattle.abi_layout.specs.Placements.{elements_of, after, after_all}
+use Rattle.abi_layout.specs.Placements.{elements_of, stage_after, stage_after_all}
 use Rattle.abi_layout.specs.invariants.Alignments.{IsAlignment, byte, two_bytes, four_bytes, eight_bytes}
 use Rattle.abi_layout.proofs.rules.Stages.{Has}
 
@@ -43,10 +43,10 @@ align_positive _ eight_bytes = omega arith
 pub greater_align : (x y : ℕ) → IsAlignment x → IsAlignment y → IsAlignment (max x y)
 greater_align x y a b = ⊎_elim (λ e. subst IsAlignment (sym (max-eq_left (omega arith))) a) (λ o. ⊎_elim (λ l. subst IsAlignment (sym (max-eq_right (omega arith))) b) (λ g. subst IsAlignment (sym (max-eq_left (omega arith))) a) o) (cases_order x y)
 
-pub last_align : (st : Stage) (cs : List Component) (ps : List ℕ) → IsAlignment st.align → ((c : Component) → Has cs c → IsAlignment c.align) → IsAlignment (after_all st cs ps).align
+pub last_align : (st : Stage) (cs : List Component) (ps : List ℕ) → IsAlignment st.align → ((c : Component) → Has cs c → IsAlignment c.align) → IsAlignment (stage_after_all st cs ps).align
 last_align st [] ps a each = a
 last_align st (c ∷ cs) [] a each = a
-last_align st (c ∷ cs) (p ∷ ps) a each = last_align (after st c p) cs ps (greater_align st.align c.align a (each c (inl refl))) (λ d h. each d (inr h))
+last_align st (c ∷ cs) (p ∷ ps) a each = last_align (stage_after st c p) cs ps (greater_align st.align c.align a (each c (inl refl))) (λ d h. each d (inr h))
 
 pub count_positive : (n : Option ℕ) → ((m : ℕ) → n ≡ Some m → 1 ≤ m) → 1 ≤ elements_of n
 count_positive None some = omega arith

@@ -30,7 +30,7 @@ use Rattle.abi_layout.specs.Placements.{member_component}
 use Rattle.cxx_subobject.specs.VirtualBases.{virtual_bases}
 use Rattle.abi_layout.specs.Repeats.{HasRepeat}
 use Rattle.abi_layout.specs.PlacedBases.{class_of_placed, subobject_of, free_bases, IsPossible}
-use Rattle.abi_layout.specs.Layouts.{place_of, placed_place, primary_of, fronts, front_components, free_components, object_parts, start_stage, IsLayoutBy, IsArrangedBy, HasPointer, IsLaidRow, is_whole, is_empty_in, is_shifted, IsLaidBy, BringsTwice}
+use Rattle.abi_layout.specs.Layouts.{place_in_class, placed_place, primary_of, fronts, front_components, free_components, object_parts, start_stage, IsLayoutBy, IsArrangedBy, HasPointer, IsLaidRow, is_whole, is_empty_in, is_shifted, IsLaidBy, BringsTwice}
 use Rattle.abi_layout.proofs.lists.Lists.{has_at, get_within}
 use Rattle.abi_layout.proofs.rules.PartLemmas.{Agree}
 use Rattle.cxx_subobject.proofs.PathLemmas.{virtual_below}
@@ -116,7 +116,7 @@ nearly_empty_agrees h near other shifted c keeps agree is = record {
 -- whether an empty base lies elsewhere than at the start
 pub shifted_agrees : (h : Classes) (rows others : List ClassLayout) (c : ClassId) → IsHierarchy h → AgreeTo (c.0 + 1) rows others → is_shifted h rows c ≡ is_shifted h others c
 shifted_agrees h rows others c keeps agree =
-    any_same (λ (s : Subobject). is_whole s.root && (is_empty_in h (class_of s) && not (place_of h rows c s == 0))) (λ (s : Subobject). is_whole s.root && (is_empty_in h (class_of s) && not (place_of h others c s == 0))) (preorder h c)
+    any_same (λ (s : Subobject). is_whole s.root && (is_empty_in h (class_of s) && not (place_in_class h rows c s == 0))) (λ (s : Subobject). is_whole s.root && (is_empty_in h (class_of s) && not (place_in_class h others c s == 0))) (preorder h c)
     (λ s has. ap (λ n. is_whole s.root && (is_empty_in h (class_of s) && not (n == 0))) (place_agrees h (c.0 + 1) rows others c s keeps agree (omega arith) (has_preorder h c s has)))
 
 -- a layout by components and places that are the same

@@ -13,7 +13,7 @@ use Rattle.abi_primary.specs.NearlyEmpty.{IsNearlyEmpty}
 use Rattle.abi_primary.specs.PrimaryBase.{IsPrimary}
 use Rattle.abi_sound.specs.declared.class_layout.ClassLayout.{ClassLayout}
 use Rattle.abi_layout.specs.Layouts.{primary_of, IsLaidRow, is_shifted, IsLaidBy}
-use Rattle.abi_layout.specs.Refusals.{IsNextClass}
+use Rattle.abi_layout.specs.Refusals.{IsNextToLayOut}
 use Rattle.abi_layout.proofs.lists.Lists.{number, get_within}
 use Rattle.abi_layout.proofs.lists.LastItems.{longer, last_one, old_or_last}
 use Rattle.abi_layout.proofs.rules.AgreeingRows.{AgreeTo, agree_less, agree_turned, agree_item, agree_push, agree_take, primary_agrees, take_agrees}
@@ -104,7 +104,7 @@ taken h count n rows nearly ps keeps laid le = record {
 
 -- what a layout says of one of its classes, as the next one of those before it
 pub record IsOneOf (h : Classes) (rows : List ClassLayout) (ps : List Primary) (c : ClassId) : Type 0 where
-  pub next : IsNextClass h c
+  pub next : IsNextToLayOut h c
   pub row : ClassLayout
   pub there : slice_get rows c.0 ≡ Some row
   pub rows_are : next.rows ≡ take c.0 rows

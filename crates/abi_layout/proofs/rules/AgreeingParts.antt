@@ -15,20 +15,20 @@ use Rattle.cxx_subobject.specs.declared.Subobject.{Subobject}
 use Rattle.cxx_subobject.specs.Subobjects.{base_subobject}
 use Rattle.cxx_subobject.proofs.ListLemmas.{mapped_same, contains_from_has}
 use Rattle.abi_emptybase.specs.declared.Part.{Part}
-use Rattle.abi_emptybase.specs.Table.{moved}
+use Rattle.abi_emptybase.specs.Table.{moved_part}
 use Rattle.abi_primary.specs.declared.Primary.{Primary}
 use Rattle.abi_primary.specs.declared.Primary.TheVariants.{None as NoPrimary, Direct, Virtual}
 use Rattle.abi_layout.proofs.rules.BroughtLemmas.{same_virtual}
 use Rattle.abi_layout.specs.declared.component.Component.{Component}
 use Rattle.abi_sound.specs.declared.class_layout.ClassLayout.{ClassLayout}
 use Rattle.abi_layout.specs.declared.placed_bases.PlacedBase.{PlacedBase}
-use Rattle.abi_sound.specs.Places.{members_in, base_place}
+use Rattle.abi_sound.specs.Places.{member_places_in, direct_base_place}
 use Rattle.abi_layout.specs.Kinds.{is_empty}
-use Rattle.abi_layout.specs.Placements.{part_at, parts_at, member_component}
+use Rattle.abi_layout.specs.Placements.{placed_part, parts_at, member_component}
 use Rattle.abi_layout.specs.invariants.Known.{IsEarlierType, AreEarlier}
-use Rattle.abi_layout.specs.Holding.{virtual_in, virtual_primary, held_base}
+use Rattle.abi_layout.specs.Holding.{virtual_in, virtual_primary_base, held_base}
 use Rattle.abi_layout.specs.invariants.Scenes.{AreBefore}
-use Rattle.abi_layout.specs.Brought.{member_parts, base_brings, virtual_brings, brought, brought_by}
+use Rattle.abi_layout.specs.Brought.{parts_in_members, base_brings, virtual_brings, brought, brought_by}
 use Rattle.abi_layout.specs.PlacedBases.{class_of_placed, subobject_of, free_bases, placed_component, IsPossible}
 use Rattle.abi_layout.specs.Layouts.{placed_place, primary_of, fronts, front_components, free_components, object_parts_in, object_parts_within, object_parts}
 use Rattle.abi_layout.proofs.rules.PartLemmas.{Agree, base_made, members_agree}
@@ -66,11 +66,11 @@ virtual_there (x ∷ xs) zero d o e some = sym e
 virtual_there (x ∷ xs) (suc i) d o e some = virtual_there xs i d o e some
 
 -- a virtual primary base, by the list
-pub primary_is_virtual : (ps : List Primary) (d v : ClassId) → virtual_primary ps d ≡ Some v → primary_of ps d ≡ Virtual v
+pub primary_is_virtual : (ps : List Primary) (d v : ClassId) → virtual_primary_base ps d ≡ Some v → primary_of ps d ≡ Virtual v
 primary_is_virtual ps d v e = in_some (slice_get ps d.0) (primary_of ps d) v e (virtual_there ps d.0 NoPrimary (slice_get ps d.0) refl (λ missed. let f : None ≡ Some v = sym (ap virtual_in missed) ∙ e in cc))
 
 -- stands before its class
-pub virtual_falls : (h : Classes) (n : ℕ) (ps : List Primary) (d v : ClassId) → IsHierarchy h → ArePossible h n ps → d.0 < n → virtual_primary ps d ≡ Some v → v.0 < d.0
+pub virtual_falls : (h : Classes) (n : ℕ) (ps : List Primary) (d v : ClassId) → IsHierarchy h → ArePossible h n ps → d.0 < n → virtual_primary_base ps d ≡ Some v → v.0 < d.0
 virtual_falls h n ps d v keeps possible lt e = virtual_below h keeps d v (subst (IsPossible h d) (primary_is_virtual ps d v e) (possible.each d lt))
 
 -- virtual primary bases stand before their classes
@@ -82,7 +82,7 @@ before_by h n ps keeps size possible = record {
       (cases_order d.0 n);
 }
   where
-    past : (d v : ClassId) → virtual_primary ps d ≡ Some v → n ≤ d.0 → v.0 < d.0
+    past : (d v : ClassId) → virtual_primary_base ps d ≡ Some v → n ≤ d.0 → v.0 < d.0
     past d v e le = let f : None ≡ Some v = sym (ap virtual_in (slice_get_past ps d.0 (omega arith))) ∙ e in cc
 
 -- the classes that a class names are of smaller numbers
@@ -103,19 +103,19 @@ rows_agree : (h : Classes) (n : ℕ) (rows others : List ClassLayout) (parts see
 rows_agree h n rows others parts seen same = record { each = λ i lt. same.row (let x : ClassId = record { 0 = i } in x) lt }
 
 -- what the members of a class bring
-pub member_parts_agree : (h : Classes) (n : ℕ) (rows others : List ClassLayout) (parts seen : ClassId → List Part) (d : ClassId) → IsHierarchy h → Agree h n rows others parts seen → d.0 < n → member_parts h rows parts d ≡ member_parts h others seen d
+pub member_parts_agree : (h : Classes) (n : ℕ) (rows others : List ClassLayout) (parts seen : ClassId → List Part) (d : ClassId) → IsHierarchy h → Agree h n rows others parts seen → d.0 < n → parts_in_members h rows parts d ≡ parts_in_members h others seen d
 member_parts_agree h n rows others parts seen d keeps same lt =
-    at (class_at h d) refl ∙ ap (λ (o : Option ClassLayout). parts_at (map (member_component others seen) (named_members (class_at h d))) (members_in o)) (same.row d lt)
+    at (class_at h d) refl ∙ ap (λ (o : Option ClassLayout). parts_at (map (member_component others seen) (named_members (class_at h d))) (member_places_in o)) (same.row d lt)
   where
-    at : (o : Option Class) → class_at h d ≡ o → parts_at (map (member_component rows parts) (named_members o)) (members_in (slice_get rows d.0)) ≡ parts_at (map (member_component others seen) (named_members o)) (members_in (slice_get rows d.0))
+    at : (o : Option Class) → class_at h d ≡ o → parts_at (map (member_component rows parts) (named_members o)) (member_places_in (slice_get rows d.0)) ≡ parts_at (map (member_component others seen) (named_members o)) (member_places_in (slice_get rows d.0))
     at None e = refl
-    at (Some class) e = ap (λ (cs : List Component). parts_at cs (members_in (slice_get rows d.0))) (members_agree h d.0 rows others parts seen d class e (earlier_by h d class keeps e) (both_less h d.0 n rows others parts seen (omega arith) same))
+    at (Some class) e = ap (λ (cs : List Component). parts_at cs (member_places_in (slice_get rows d.0))) (members_agree h d.0 rows others parts seen d class e (earlier_by h d class keeps e) (both_less h d.0 n rows others parts seen (omega arith) same))
 
 abbrev base_gives : Bool → ℕ → List Part → List Part
-base_gives is_virtual place parts = if is_virtual then [] else map (moved place) parts
+base_gives is_virtual place parts = if is_virtual then [] else map (moved_part place) parts
 
 abbrev all_given : ClassId → List Part → List Part → List Part → List Part
-all_given d mine flat held = (part_at d 0 ∷ mine) ++ (flat ++ held)
+all_given d mine flat held = (placed_part d 0 ∷ mine) ++ (flat ++ held)
 
 given_same : (d : ClassId) (a b x y s t : List Part) → a ≡ b → x ≡ y → s ≡ t → all_given d a x s ≡ all_given d b y t
 given_same d a b x y s t e f g = ap (λ z. all_given d z x s) e ∙ (ap (λ z. all_given d b z s) f ∙ ap (all_given d b y) g)
@@ -125,7 +125,7 @@ pub brought_agrees : (h : Classes) (n : ℕ) (rows others : List ClassLayout) (p
     → (steps : ℕ) (s : Subobject) (d : ClassId) → d.0 < n → brought h rows ps parts c steps s d ≡ brought h others qs seen c steps s d
 brought_agrees h n rows others ps qs parts seen c keeps same agree possible within zero s d lt = refl
 brought_agrees h n rows others ps qs parts seen c keeps same agree possible within (suc k) s d lt =
-    given_same d (member_parts h rows parts d) (member_parts h others seen d)
+    given_same d (parts_in_members h rows parts d) (parts_in_members h others seen d)
     (flat_map (base_brings h rows (brought h rows ps parts c k) s d) (bases_of h d)) (flat_map (base_brings h others (brought h others qs seen c k) s d) (bases_of h d))
     (virtual_brings (brought h rows ps parts c k) (held_base h ps c s d)) (virtual_brings (brought h others qs seen c k) (held_base h qs c s d))
     (member_parts_agree h n rows others parts seen d keeps same lt)
@@ -133,7 +133,7 @@ brought_agrees h n rows others ps qs parts seen c keeps same agree possible with
     (λ base has.
     let falls = keeps.bases d base (contains_from_has (bases_of h d) base has) in
     ap (λ p. base_gives base.is_virtual p (brought h rows ps parts c k (base_subobject s base) base.class)) (base_place_agrees h n rows others d base.class (rows_agree h n rows others parts seen same) lt)
-    ∙ ap (base_gives base.is_virtual (base_place h others d base.class)) (brought_agrees h n rows others ps qs parts seen c keeps same agree possible within k (base_subobject s base) base.class (omega arith))))
+    ∙ ap (base_gives base.is_virtual (direct_base_place h others d base.class)) (brought_agrees h n rows others ps qs parts seen c keeps same agree possible within k (base_subobject s base) base.class (omega arith))))
     (same_virtual (brought h rows ps parts c k) (brought h others qs seen c k) (held_base h ps c s d)
     (λ v e t. let falls = virtual_falls h n ps d v keeps possible lt (held_is_primary h ps c s d v e) in brought_agrees h n rows others ps qs parts seen c keeps same agree possible within k t v (omega arith))
     ∙ ap (virtual_brings (brought h others qs seen c k)) (held_agrees h ps qs c s d keeps agree (omega arith)))
@@ -181,7 +181,7 @@ free_places_agree h rows others ps qs c keeps agree alike =
     ∙ ap (map (placed_place h others c)) (free_agree h ps qs c keeps alike)
 
 abbrev whole_parts : ClassId → (fc : List Component) (fp : List ℕ) (mc : List Component) (mp : List ℕ) (vc : List Component) (vp : List ℕ) → List Part
-whole_parts c fc fp mc mp vc vp = part_at c 0 ∷ (parts_at fc fp ++ (parts_at mc mp ++ parts_at vc vp))
+whole_parts c fc fp mc mp vc vp = placed_part c 0 ∷ (parts_at fc fp ++ (parts_at mc mp ++ parts_at vc vp))
 
 whole_same : (c : ClassId) (fc gc mc nc vc wc : List Component) (fp gp mp np vp wp : List ℕ) → fc ≡ gc → fp ≡ gp → mc ≡ nc → mp ≡ np → vc ≡ wc → vp ≡ wp → whole_parts c fc fp mc mp vc vp ≡ whole_parts c gc gp nc np wc wp
 whole_same c fc gc mc nc vc wc fp gp mp np vp wp a b d e f g =
@@ -199,11 +199,11 @@ parts_in_agree h rows others ps qs parts seen c class keeps e agree alike possib
     let same : Agree h c.0 rows others parts seen = record { row = λ d lt. agree.each d.0 (omega arith); of_class = λ d lt is. low d lt } in
     whole_same c
     (front_components h rows ps parts c class) (front_components h others qs seen c class) (map (member_component rows parts) class.members) (map (member_component others seen) class.members) (free_components h rows ps parts c) (free_components h others qs seen c)
-    (map (placed_place h rows c) (fronts ps c class)) (map (placed_place h others c) (fronts qs c class)) (members_in (slice_get rows c.0)) (members_in (slice_get others c.0)) (map (placed_place h rows c) (free_bases h ps c)) (map (placed_place h others c) (free_bases h qs c))
+    (map (placed_place h rows c) (fronts ps c class)) (map (placed_place h others c) (fronts qs c class)) (member_places_in (slice_get rows c.0)) (member_places_in (slice_get others c.0)) (map (placed_place h rows c) (free_bases h ps c)) (map (placed_place h others c) (free_bases h qs c))
     (front_agree h rows others ps qs parts seen c class keeps e same alike possible)
     (front_places_agree h rows others ps qs c class agree alike)
     (members_same h rows others parts seen c class keeps e same)
-    (ap members_in (agree.each c.0 (omega arith)))
+    (ap member_places_in (agree.each c.0 (omega arith)))
     (frees_agree h rows others ps qs parts seen c keeps same alike possible)
     (free_places_agree h rows others ps qs c keeps agree alike)
 

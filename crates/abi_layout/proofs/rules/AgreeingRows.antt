@@ -24,11 +24,11 @@ use Rattle.abi_layout.proofs.lists.LastItems.{same_before}
 use Rattle.abi_layout.specs.declared.placed_bases.PlacedBase.{PlacedBase}
 use Rattle.abi_layout.specs.declared.placed_bases.PlacedBase.TheVariants.{Own, VirtualBase}
 use Rattle.cxx_hierarchy.specs.Declarations.{is_plain_base}
-use Rattle.abi_sound.specs.Places.{nth_place, bases_in, base_place, place_along}
+use Rattle.abi_sound.specs.Places.{nth_place, base_places_in, direct_base_place, place_along}
 use Rattle.cxx_subobject.specs.VirtualBases.{virtual_bases}
-use Rattle.abi_layout.specs.Holding.{virtual_in, virtual_primary, is_holder, holds_base, kept_if, held_base}
+use Rattle.abi_layout.specs.Holding.{virtual_in, virtual_primary_base, is_holder, holds_base, kept_if, held_base}
 use Rattle.abi_layout.specs.PlacedBases.{front_bases, is_free, free_bases}
-use Rattle.abi_layout.specs.Layouts.{virtual_places_in, virtual_bases_in, virtual_place, place_of, placed_place, primary_of, fronts}
+use Rattle.abi_layout.specs.Layouts.{virtual_places_in, virtual_bases_in, virtual_place, place_in_class, placed_place, primary_of, fronts}
 use Rattle.abi_layout.proofs.algorithm.SettledLemmas.{base_below}
 use Rattle.cxx_subobject.proofs.PathLemmas.{virtual_below}
 pub use Rattle.foundation.proofs.Chosen.{any_same}
@@ -92,7 +92,7 @@ class_low h c _ d keeps (shared v path has leads) e =
 pub primary_agrees : (n : ℕ) (ps qs : List Primary) (c : ClassId) → AgreeTo n ps qs → c.0 < n → primary_of ps c ≡ primary_of qs c
 primary_agrees n ps qs c agree lt = agree_item n ps qs c.0 NoPrimary agree lt
 
-pub virtual_primary_agrees : (n : ℕ) (ps qs : List Primary) (d : ClassId) → AgreeTo n ps qs → d.0 < n → virtual_primary ps d ≡ virtual_primary qs d
+pub virtual_primary_agrees : (n : ℕ) (ps qs : List Primary) (d : ClassId) → AgreeTo n ps qs → d.0 < n → virtual_primary_base ps d ≡ virtual_primary_base qs d
 virtual_primary_agrees n ps qs d agree lt = ap virtual_in (agree.each d.0 lt)
 
 pub fronts_agree : (n : ℕ) (ps qs : List Primary) (c : ClassId) (class : Class) → AgreeTo n ps qs → c.0 < n → fronts ps c class ≡ fronts qs c class
@@ -121,7 +121,7 @@ kept_same f g (Some v) same = ap (λ b. if b then Some v else None) (same v)
 pub held_agrees : (h : Classes) (ps qs : List Primary) (c : ClassId) (s : Subobject) (d : ClassId) → IsHierarchy h → AgreeTo (c.0 + 1) ps qs → d.0 ≤ c.0 → held_base h ps c s d ≡ held_base h qs c s d
 held_agrees h ps qs c s d keeps agree le =
     ap (kept_if (holds_base h ps c s)) (virtual_primary_agrees (c.0 + 1) ps qs d agree (omega arith))
-    ∙ kept_same (holds_base h ps c s) (holds_base h qs c s) (virtual_primary qs d) (λ v. holds_agrees h ps qs c s v keeps agree)
+    ∙ kept_same (holds_base h ps c s) (holds_base h qs c s) (virtual_primary_base qs d) (λ v. holds_agrees h ps qs c s v keeps agree)
 
 -- the virtual bases that no subobject holds
 pub free_agree : (h : Classes) (ps qs : List Primary) (c : ClassId) → IsHierarchy h → AgreeTo (c.0 + 1) ps qs → free_bases h ps c ≡ free_bases h qs c
@@ -130,8 +130,8 @@ free_agree h ps qs c keeps agree =
     (λ v has. ap is_free (holder_agrees h ps qs c v keeps agree)))
 
 -- the place of a direct base
-pub base_place_agrees : (h : Classes) (n : ℕ) (rows others : List ClassLayout) (d b : ClassId) → AgreeTo n rows others → d.0 < n → base_place h rows d b ≡ base_place h others d b
-base_place_agrees h n rows others d b agree lt = ap (λ (o : Option ClassLayout). nth_place (bases_in o) (position (λ (base : Base ClassId). nat_eq base.class.0 b.0) (filter is_plain_base (bases_of h d)))) (agree.each d.0 lt)
+pub base_place_agrees : (h : Classes) (n : ℕ) (rows others : List ClassLayout) (d b : ClassId) → AgreeTo n rows others → d.0 < n → direct_base_place h rows d b ≡ direct_base_place h others d b
+base_place_agrees h n rows others d b agree lt = ap (λ (o : Option ClassLayout). nth_place (base_places_in o) (position (λ (base : Base ClassId). nat_eq base.class.0 b.0) (filter is_plain_base (bases_of h d)))) (agree.each d.0 lt)
 
 -- the places along a path
 pub along_agrees : (h : Classes) (n : ℕ) (rows others : List ClassLayout) (d : ClassId) (path : List ClassId) → IsHierarchy h → AgreeTo n rows others → d.0 < n → Leads h d path → place_along h rows d path ≡ place_along h others d path
@@ -139,14 +139,14 @@ along_agrees h n rows others d [] keeps agree lt leads = refl
 along_agrees h n rows others d (b ∷ path) keeps agree lt leads =
     let f = base_below h d b keeps leads.0 in
     ap (λ k. k + place_along h rows b path) (base_place_agrees h n rows others d b agree lt)
-    ∙ ap (λ k. base_place h others d b + k) (along_agrees h n rows others b path keeps agree (omega arith) leads.1)
+    ∙ ap (λ k. direct_base_place h others d b + k) (along_agrees h n rows others b path keeps agree (omega arith) leads.1)
 
 -- the place of a virtual base
 pub virtual_place_agrees : (h : Classes) (n : ℕ) (rows others : List ClassLayout) (c v : ClassId) → AgreeTo n rows others → c.0 < n → virtual_place rows c v ≡ virtual_place others c v
 virtual_place_agrees h n rows others c v agree lt = ap (λ (o : Option ClassLayout). nth_place (virtual_places_in o) (position (λ (w : ClassId). nat_eq w.0 v.0) (virtual_bases_in o))) (agree.each c.0 lt)
 
 -- the place of a subobject
-pub place_agrees : (h : Classes) (n : ℕ) (rows others : List ClassLayout) (c : ClassId) (s : Subobject) → IsHierarchy h → AgreeTo n rows others → c.0 < n → IsSubobject h c s → place_of h rows c s ≡ place_of h others c s
+pub place_agrees : (h : Classes) (n : ℕ) (rows others : List ClassLayout) (c : ClassId) (s : Subobject) → IsHierarchy h → AgreeTo n rows others → c.0 < n → IsSubobject h c s → place_in_class h rows c s ≡ place_in_class h others c s
 place_agrees h n rows others c _ keeps agree lt (whole path leads) = ap (λ k. 0 + k) (along_agrees h n rows others c path keeps agree lt leads)
 place_agrees h n rows others c _ keeps agree lt (shared v path has leads) =
     let f = virtual_below h keeps c v has in

@@ -21,7 +21,7 @@ use Rattle.abi_layout.specs.declared.placed_bases.PlacedBase.{PlacedBase}
 use Rattle.abi_layout.specs.Limits.{IsAlignment, byte, eight_bytes}
 use Rattle.abi_layout.specs.AbiLayouts.{IsAlignedRow}
 use Rattle.abi_layout.specs.Kinds.{is_empty}
-use Rattle.abi_layout.specs.Placements.{after, after_all, align_of_type, member_component}
+use Rattle.abi_layout.specs.Placements.{stage_after, stage_after_all, align_of_type, member_component}
 use Rattle.abi_layout.specs.PlacedBases.{class_of_placed, free_bases, placed_component, IsPossible}
 use Rattle.abi_layout.specs.Layouts.{primary_of, placed_place, fronts, front_components, free_components, object_parts, start_stage, IsLaidRow, IsLaidBy}
 use Rattle.abi_layout.proofs.lists.Lists.{number, get_within, has_here, has_later}
@@ -39,10 +39,10 @@ AllAligned [] = Unit {0}
 AllAligned (c ∷ cs) = IsAlignment c.align × AllAligned cs
 
 -- the alignment of a stage behind components
-stage_aligned : (stage : Stage) (cs : List Component) (ps : List ℕ) → IsAlignment stage.align → AllAligned cs → IsAlignment (after_all stage cs ps).align
+stage_aligned : (stage : Stage) (cs : List Component) (ps : List ℕ) → IsAlignment stage.align → AllAligned cs → IsAlignment (stage_after_all stage cs ps).align
 stage_aligned stage [] ps start all = start
 stage_aligned stage (c ∷ cs) [] start all = start
-stage_aligned stage (c ∷ cs) (p ∷ ps) start all = stage_aligned (after stage c p) cs ps (greater_align stage.align c.align start all.0) all.1
+stage_aligned stage (c ∷ cs) (p ∷ ps) start all = stage_aligned (stage_after stage c p) cs ps (greater_align stage.align c.align start all.0) all.1
 
 bases_aligned : (h : Classes) (rows : List ClassLayout) (ps : List Primary) (parts : ClassId → List Part) (c : ClassId) → AreAlignedTo rows c.0 → (bases : List PlacedBase) → All (λ (base : PlacedBase). (class_of_placed base).0 < c.0) bases
     → AllAligned (map (placed_component (is_empty h) h rows ps parts c) bases)
@@ -98,10 +98,10 @@ row_aligned h rows nearly ps c class row keeps there possible before is = record
     first = start_stage c is.has_pointer
 
     inner : Stage
-    inner = after_all (after_all first fs front_places) ms row.member_places
+    inner = stage_after_all (stage_after_all first fs front_places) ms row.member_places
 
     inner_is : IsAlignment inner.align
-    inner_is = stage_aligned (after_all first fs front_places) ms row.member_places
+    inner_is = stage_aligned (stage_after_all first fs front_places) ms row.member_places
         (stage_aligned first fs front_places (start_aligned c is.has_pointer) (bases_aligned h rows ps parts c before (fronts ps c class) (fronts_below h c class (primary_of ps c) keeps there possible)))
         (members_aligned rows parts c.0 class.members before (λ m d has e. keeps.objects c d m (subst (λ (o : Option Class). Contains (members_in o) m) (sym there) has) e))
 

@@ -6,18 +6,18 @@ use Rattle.std.proofs.lemmas.Bool.Decides.{nat_tests}
 use Rattle.std.proofs.lemmas.Nat.{div-add-mod'}
 use Rattle.std.proofs.Math.Nat.{mul-le-mul_right}
 use Rattle.abi_emptybase.specs.declared.Part.{Part}
-use Rattle.abi_emptybase.specs.Table.{same_part, holds, moved, has_conflict}
+use Rattle.abi_emptybase.specs.Table.{same_placed_part, holds, moved_part, has_conflict}
 use Rattle.abi_layout.specs.declared.component.Component.{Component}
 use Rattle.abi_layout.specs.declared.component.Stage.{Stage}
 use Rattle.abi_sound.specs.Sound.{Divides}
-use Rattle.abi_layout.specs.Placements.{IsNext, IsCandidate, IsPlace, IsBitPlace, IsPlacedBy, IsPlaced, ArePlaced, after, after_all}
+use Rattle.abi_layout.specs.Placements.{IsNextMultiple, IsCandidatePlace, IsLeastFreePlace, IsBitPlace, IsPlacedBy, IsComponentAt, ArePlaced, stage_after, stage_after_all}
 use Rattle.abi_layout.proofs.rules.Parts.{split, opposed}
 use Rattle.abi_layout.proofs.rules.PlacingLemmas.{place_at_start, first_least, place_behind, next_least, multiple_more, bit_place_here, bit_place_next}
 
 abbrev pub rounded : ℕ → ℕ → ℕ
 rounded start align = (start + (align - 1)) / align * align
 
-pub rounded_is_next : (start align : ℕ) → 1 ≤ align → IsNext start align (rounded start align)
+pub rounded_is_next : (start align : ℕ) → 1 ≤ align → IsNextMultiple start align (rounded start align)
 rounded_is_next start align positive =
     let h = div-add-mod' (start + (align - 1)) align in
     let lt : (start + (align - 1)) / align * align ≤ start + (align - 1) = omega (arith, h) in
@@ -43,7 +43,7 @@ none_holds [] q le = refl
 none_holds (x ∷ table) q le =
     let rest = none_holds table q (omega arith) in
     let other : nat_eq q.place x.place ≡ false = split (nat_eq q.place x.place) (λ b. b ≡ false) (λ t. let e = eqb-true q.place x.place t in absurd (omega arith)) (λ f. refl) in
-    let e : same_part q x ≡ false = never (nat_eq q.class x.class) (nat_eq q.place x.place) other in
+    let e : same_placed_part q x ≡ false = never (nat_eq q.class x.class) (nat_eq q.place x.place) other in
     cc
   where
     never : (a b : Bool) → b ≡ false → (a && b) ≡ false
@@ -53,17 +53,17 @@ none_holds (x ∷ table) q le =
 free_behind : (table parts : List Part) (at : ℕ) → top_of table ≤ at → has_conflict table parts at ≡ false
 free_behind table [] at le = refl
 free_behind table (x ∷ parts) at le =
-    let here = none_holds table (moved at x) (omega arith) in
+    let here = none_holds table (moved_part at x) (omega arith) in
     let rest = free_behind table parts at le in
     cc
 
 pub record HasPlace (stage : Stage) (c : Component) : Type 0 where
   pub place : ℕ
-  pub is : IsPlace stage c place
+  pub is : IsLeastFreePlace stage c place
 
 -- a search from a multiple on, which ends behind all parts
 search_from : (stage : Stage) (c : Component) (fuel at : ℕ) → 1 ≤ c.align → stage.dsize ≤ at → Divides c.align at
-    → ((other : ℕ) → IsCandidate stage c other → has_conflict stage.parts c.parts other ≡ false → at ≤ other) → top_of stage.parts ≤ at + fuel → HasPlace stage c
+    → ((other : ℕ) → IsCandidatePlace stage c other → has_conflict stage.parts c.parts other ≡ false → at ≤ other) → top_of stage.parts ≤ at + fuel → HasPlace stage c
 search_from stage c zero at positive behind multiple least top = record { place = at; is = place_behind stage c at behind multiple least (free_behind stage.parts c.parts at (omega arith)) }
 search_from stage c (suc fuel) at positive behind multiple least top = split (has_conflict stage.parts c.parts at) (λ b. HasPlace stage c)
     (λ taken. search_from stage c fuel (at + c.align) positive (omega arith) (multiple_more c.align at multiple) (next_least stage c at multiple least taken) (omega arith))
@@ -103,7 +103,7 @@ ArePositive (c ∷ cs) = CanLie c × ArePositive cs
 -- a place for a component
 record IsSomewhere (stage : Stage) (c : Component) : Type 0 where
   place : ℕ
-  is : IsPlaced stage c place
+  is : IsComponentAt stage c place
 
 somewhere : (stage : Stage) (c : Component) → CanLie c → IsSomewhere stage c
 somewhere stage c can = by c.width refl
@@ -120,10 +120,10 @@ pub places_exist : (stage : Stage) (cs : List Component) → ArePositive cs → 
 places_exist stage [] positive = record { places = []; placed = tt }
 places_exist stage (c ∷ cs) positive =
     let here = somewhere stage c positive.0 in
-    let rest = places_exist (after stage c here.place) cs positive.1 in
+    let rest = places_exist (stage_after stage c here.place) cs positive.1 in
     record { places = here.place ∷ rest.places; placed = (here.is, rest.placed) }
 
-pub align_grows : (stage : Stage) (cs : List Component) (ps : List ℕ) → stage.align ≤ (after_all stage cs ps).align
+pub align_grows : (stage : Stage) (cs : List Component) (ps : List ℕ) → stage.align ≤ (stage_after_all stage cs ps).align
 align_grows stage [] ps = omega arith
 align_grows stage (c ∷ cs) [] = omega arith
-align_grows stage (c ∷ cs) (p ∷ ps) = let r = align_grows (after stage c p) cs ps in omega arith
+align_grows stage (c ∷ cs) (p ∷ ps) = let r = align_grows (stage_after stage c p) cs ps in omega arith

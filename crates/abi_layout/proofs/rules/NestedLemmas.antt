@@ -20,16 +20,16 @@ use Rattle.abi_sound.specs.declared.class_layout.ClassLayout.{ClassLayout}
 use Rattle.abi_layout.specs.declared.placed_bases.PlacedBase.{PlacedBase}
 use Rattle.abi_layout.specs.declared.placed_bases.PlacedBase.TheVariants.{Own, VirtualBase}
 use Rattle.cxx_hierarchy.specs.Declarations.{is_plain_base}
-use Rattle.abi_sound.specs.Places.{nth_place, number_in, bases_in as places_of_bases, base_place, size_in}
-use Rattle.abi_layout.specs.Placements.{nvsize_in, ArePlaced, after, after_all}
-use Rattle.abi_layout.specs.invariants.Known.{empties_in, parts_in, AreAllSized}
+use Rattle.abi_sound.specs.Places.{nth_place, place_or_zero, base_places_in as places_of_bases, direct_base_place, size_in_row}
+use Rattle.abi_layout.specs.Placements.{nvsize_in, ArePlaced, stage_after, stage_after_all}
+use Rattle.abi_layout.specs.invariants.Known.{empties_in, known_parts_of, AreAllSized}
 use Rattle.abi_layout.specs.PlacedBases.{class_of_placed, first_base, is_first_base, is_other_base, front_bases, placed_component}
 use Rattle.abi_layout.specs.invariants.OwnPlaces.{is_own, own_place, own_places}
 use Rattle.abi_emptybase.specs.declared.Part.{Part}
 use Rattle.cxx_hierarchy.specs.Hierarchies.{IsHierarchy}
 use Rattle.cxx_subobject.specs.declared.Subobject.{Subobject}
-use Rattle.abi_layout.specs.Holding.{virtual_primary}
-use Rattle.abi_layout.specs.invariants.Scenes.{IsScene}
+use Rattle.abi_layout.specs.Holding.{virtual_primary_base}
+use Rattle.abi_layout.specs.invariants.Scenes.{IsLayoutScene}
 use Rattle.abi_layout.specs.invariants.Arrangements.{components_by}
 use Rattle.abi_layout.proofs.rules.Stages.{Has}
 use Rattle.abi_layout.proofs.algorithm.Searches.{first_that, position_is}
@@ -40,44 +40,44 @@ use Rattle.abi_layout.proofs.rules.PlacingLemmas.{size_grows, whole_end}
 use Rattle.abi_layout.proofs.algorithm.RowLemmas.{sized_of}
 
 -- the place of a direct base, and where it ends
-pub own_within : (f : PlacedBase → Component) (stage : Stage) (bs : List PlacedBase) (places : List ℕ) (b : ClassId) (k : ℕ) → ((base : PlacedBase) → (f base).width ≡ None) → ((base : PlacedBase) → is_own b base ≡ true → k ≤ (f base).takes) → list_any (is_own b) bs ≡ true → ArePlaced stage (map f bs) places → own_place bs places b + k ≤ (after_all stage (map f bs) places).size
+pub own_within : (f : PlacedBase → Component) (stage : Stage) (bs : List PlacedBase) (places : List ℕ) (b : ClassId) (k : ℕ) → ((base : PlacedBase) → (f base).width ≡ None) → ((base : PlacedBase) → is_own b base ≡ true → k ≤ (f base).takes) → list_any (is_own b) bs ≡ true → ArePlaced stage (map f bs) places → own_place bs places b + k ≤ (stage_after_all stage (map f bs) places).size
 own_within f stage [] places b k whole takes any placed = let e : false ≡ true = any in cc
 own_within f stage (x ∷ bs) [] b k whole takes any placed = absurd placed
 own_within f stage (x ∷ bs) (p ∷ places) b k whole takes any placed =
     let z = whole_end stage (f x) p (whole x) in
-    let g = size_grows (after stage (f x) p) (map f bs) places in
-    split (is_own b x) (λ o. (o || list_any (is_own b) bs) ≡ true → (if o then p else own_place bs places b) + k ≤ (after_all (after stage (f x) p) (map f bs) places).size)
+    let g = size_grows (stage_after stage (f x) p) (map f bs) places in
+    split (is_own b x) (λ o. (o || list_any (is_own b) bs) ≡ true → (if o then p else own_place bs places b) + k ≤ (stage_after_all (stage_after stage (f x) p) (map f bs) places).size)
     (λ t some. let l = takes x t in omega arith)
-    (λ e rest. own_within f (after stage (f x) p) bs places b k whole takes rest placed.1) any
+    (λ e rest. own_within f (stage_after stage (f x) p) bs places b k whole takes rest placed.1) any
 
 own_class : (b : ClassId) (base : PlacedBase) → is_own b base ≡ true → (class_of_placed base).0 ≡ b.0
 own_class b (Own d) e = eqb-true d.0 b.0 e
 own_class b (VirtualBase v) e = let f : false ≡ true = e in cc
 
 -- a placed base takes what its class does without virtual bases
-pub takes_enough : (h : Classes) (rows : List ClassLayout) (known : List Known) (ps : List Primary) (c b : ClassId) → AreAllSized rows known → b.0 < length rows → b.0 < length known → (base : PlacedBase) → is_own b base ≡ true → nvsize_in (slice_get rows b.0) ≤ (placed_component (empties_in known) h rows ps (parts_in known) c base).takes
+pub takes_enough : (h : Classes) (rows : List ClassLayout) (known : List Known) (ps : List Primary) (c b : ClassId) → AreAllSized rows known → b.0 < length rows → b.0 < length known → (base : PlacedBase) → is_own b base ≡ true → nvsize_in (slice_get rows b.0) ≤ (placed_component (empties_in known) h rows ps (known_parts_of known) c base).takes
 takes_enough h rows known ps c b sized lt_rows lt_known base own =
     let same = own_class b base own in
-    subst (λ n. nvsize_in (slice_get rows n) ≤ (placed_component (empties_in known) h rows ps (parts_in known) c base).takes) same
+    subst (λ n. nvsize_in (slice_get rows n) ≤ (placed_component (empties_in known) h rows ps (known_parts_of known) c base).takes) same
     (by_kind (empties_in known (class_of_placed base)))
   where
-    least : nvsize_in (slice_get rows (class_of_placed base).0) ≤ size_in (slice_get rows (class_of_placed base).0)
+    least : nvsize_in (slice_get rows (class_of_placed base).0) ≤ size_in_row (slice_get rows (class_of_placed base).0)
     least =
         let same = own_class b base own in
         let e = sized_of rows known (class_of_placed base) sized (omega arith) (omega arith) in
         rw e.row_is e.sized.nvsize
 
-    by_kind : (x : Bool) → nvsize_in (slice_get rows (class_of_placed base).0) ≤ (if x then size_in (slice_get rows (class_of_placed base).0) else nvsize_in (slice_get rows (class_of_placed base).0))
+    by_kind : (x : Bool) → nvsize_in (slice_get rows (class_of_placed base).0) ≤ (if x then size_in_row (slice_get rows (class_of_placed base).0) else nvsize_in (slice_get rows (class_of_placed base).0))
     by_kind true = least
     by_kind false = omega arith
 
-pub virtual_takes : (h : Classes) (rows : List ClassLayout) (known : List Known) (ps : List Primary) (c v : ClassId) → AreAllSized rows known → v.0 < length rows → v.0 < length known → nvsize_in (slice_get rows v.0) ≤ (placed_component (empties_in known) h rows ps (parts_in known) c (VirtualBase v)).takes
+pub virtual_takes : (h : Classes) (rows : List ClassLayout) (known : List Known) (ps : List Primary) (c v : ClassId) → AreAllSized rows known → v.0 < length rows → v.0 < length known → nvsize_in (slice_get rows v.0) ≤ (placed_component (empties_in known) h rows ps (known_parts_of known) c (VirtualBase v)).takes
 virtual_takes h rows known ps c v sized lt_rows lt_known = by_kind (empties_in known v)
   where
-    least : nvsize_in (slice_get rows v.0) ≤ size_in (slice_get rows v.0)
+    least : nvsize_in (slice_get rows v.0) ≤ size_in_row (slice_get rows v.0)
     least = let e = sized_of rows known v sized lt_rows lt_known in rw e.row_is e.sized.nvsize
 
-    by_kind : (x : Bool) → nvsize_in (slice_get rows v.0) ≤ (if x then size_in (slice_get rows v.0) else nvsize_in (slice_get rows v.0))
+    by_kind : (x : Bool) → nvsize_in (slice_get rows v.0) ≤ (if x then size_in_row (slice_get rows v.0) else nvsize_in (slice_get rows v.0))
     by_kind true = least
     by_kind false = omega arith
 
@@ -130,7 +130,7 @@ has_plain (x ∷ bases) (suc i) base e plain =
 
 -- the place of a direct base by those of the bases before the members
 pub base_place_own : (h : Classes) (rows : List ClassLayout) (c : ClassId) (class : Class) (row : ClassLayout) (fs : List PlacedBase) (ps : List ℕ) → class_at h c ≡ Some class → slice_get rows c.0 ≡ Some row → row.base_places ≡ own_places fs ps class.bases
-    → (i : ℕ) (base : Base ClassId) → slice_get class.bases i ≡ Some base → base.is_virtual ≡ false → base_place h rows c base.class ≡ own_place fs ps base.class
+    → (i : ℕ) (base : Base ClassId) → slice_get class.bases i ≡ Some base → base.is_virtual ≡ false → direct_base_place h rows c base.class ≡ own_place fs ps base.class
 base_place_own h rows c class row fs ps e there are i base listed way =
     let p : Base ClassId → Bool = λ x. nat_eq x.class.0 base.class.0 in
     let plain = filter is_plain_base class.bases in
@@ -140,7 +140,7 @@ base_place_own h rows c class row fs ps e there are i base listed way =
     ∙ (ap (λ (o : Option ClassLayout). nth_place (places_of_bases o) (position p plain)) there
     ∙ (ap (λ places. nth_place places (position p plain)) are
     ∙ (ap (nth_place (own_places fs ps class.bases)) (position_is p plain first)
-    ∙ (ap number_in (slice_get-map (λ (x : Base ClassId). own_place fs ps x.class) plain first.index ∙ ap (option_map (λ (x : Base ClassId). own_place fs ps x.class)) first.there)
+    ∙ (ap place_or_zero (slice_get-map (λ (x : Base ClassId). own_place fs ps x.class) plain first.index ∙ ap (option_map (λ (x : Base ClassId). own_place fs ps x.class)) first.there)
     ∙ ap (λ n. own_place fs ps (number n)) same))))
 
 get_last : {X : Type 0} (xs : List X) (x : X) (i : ℕ) → i ≡ length xs → slice_get (xs ++ x ∷ []) i ≡ Some x
@@ -148,15 +148,15 @@ get_last [] x i e = rw e refl
 get_last (y ∷ xs) x zero e = absurd (omega arith)
 get_last (y ∷ xs) x (suc i) e = get_last xs x i (omega arith)
 
-first_within : (f : PlacedBase → Component) (stage : Stage) (x : PlacedBase) (bs : List PlacedBase) (places : List ℕ) → (f x).width ≡ None → ArePlaced stage (map f (x ∷ bs)) places → (f x).takes ≤ (after_all stage (map f (x ∷ bs)) places).size
+first_within : (f : PlacedBase → Component) (stage : Stage) (x : PlacedBase) (bs : List PlacedBase) (places : List ℕ) → (f x).width ≡ None → ArePlaced stage (map f (x ∷ bs)) places → (f x).takes ≤ (stage_after_all stage (map f (x ∷ bs)) places).size
 first_within f stage x bs [] whole placed = absurd placed
-first_within f stage x bs (p ∷ places) whole placed = let z = whole_end stage (f x) p whole in let g = size_grows (after stage (f x) p) (map f bs) places in omega arith
+first_within f stage x bs (p ∷ places) whole placed = let z = whole_end stage (f x) p whole in let g = size_grows (stage_after stage (f x) p) (map f bs) places in omega arith
 
 -- with one class more, whose bases are placed
 pub nested_more : (h : Classes) (c : ClassId) (class : Class) (rows : List ClassLayout) (known : List Known) (members : List (List Part)) (ps : List Primary) (list : List Subobject) (holders : List (Option ℕ)) (row : ClassLayout) (primary : Primary) (first : Stage) (places : List ℕ)
-    → IsHierarchy h → IsScene h c rows known members ps list holders → AreAllSized rows known → class_at h c ≡ Some class
+    → IsHierarchy h → IsLayoutScene h c rows known members ps list holders → AreAllSized rows known → class_at h c ≡ Some class
     → row.base_places ≡ own_places (front_bases primary class.bases) places class.bases → ArePlaced first (components_by h rows known ps c (front_bases primary class.bases)) places
-    → (after_all first (components_by h rows known ps c (front_bases primary class.bases)) places).size ≤ row.nvsize → row.nvsize ≤ size_limit → ((v : ClassId) → virtual_primary ps c ≡ Some v → primary ≡ Virtual v)
+    → (stage_after_all first (components_by h rows known ps c (front_bases primary class.bases)) places).size ≤ row.nvsize → row.nvsize ≤ size_limit → ((v : ClassId) → virtual_primary_base ps c ≡ Some v → primary ≡ Virtual v)
     → AreNested h (c.0 + 1) (rows ++ row ∷ []) ps
 nested_more h c class rows known members ps list holders row primary first places keeps scene sized e are placed ends small primary_is = record {
   by_bases = λ d base lt has way. ⊎_elim
@@ -171,7 +171,7 @@ nested_more h c class rows known members ps list holders row primary first place
 }
   where
     f : PlacedBase → Component
-    f = placed_component (empties_in known) h rows ps (parts_in known) c
+    f = placed_component (empties_in known) h rows ps (known_parts_of known) c
 
     old : (n : ℕ) → n < c.0 → slice_get (rows ++ row ∷ []) n ≡ slice_get rows n
     old n lt = let each = scene.row_each in get_kept rows (row ∷ []) n (omega arith)
@@ -179,18 +179,18 @@ nested_more h c class rows known members ps list holders row primary first place
     new : slice_get (rows ++ row ∷ []) c.0 ≡ Some row
     new = let each = scene.row_each in get_last rows row c.0 (sym each)
 
-    before : (d : ClassId) (base : Base ClassId) → d.0 < c.0 → Contains (bases_of h d) base → base.is_virtual ≡ false → base_place h (rows ++ row ∷ []) d base.class + nvsize_in (slice_get (rows ++ row ∷ []) base.class.0) ≤ nvsize_in (slice_get (rows ++ row ∷ []) d.0)
+    before : (d : ClassId) (base : Base ClassId) → d.0 < c.0 → Contains (bases_of h d) base → base.is_virtual ≡ false → direct_base_place h (rows ++ row ∷ []) d base.class + nvsize_in (slice_get (rows ++ row ∷ []) base.class.0) ≤ nvsize_in (slice_get (rows ++ row ∷ []) d.0)
     before d base lt has way =
         let falls = keeps.bases d base has in
         rw (old d.0 lt, old base.class.0 (omega arith)) (scene.inside.by_bases d base lt has way)
 
-    here : (d : ClassId) (base : Base ClassId) → d.0 ≡ c.0 → Contains (bases_of h d) base → base.is_virtual ≡ false → base_place h (rows ++ row ∷ []) d base.class + nvsize_in (slice_get (rows ++ row ∷ []) base.class.0) ≤ nvsize_in (slice_get (rows ++ row ∷ []) d.0)
+    here : (d : ClassId) (base : Base ClassId) → d.0 ≡ c.0 → Contains (bases_of h d) base → base.is_virtual ≡ false → direct_base_place h (rows ++ row ∷ []) d base.class + nvsize_in (slice_get (rows ++ row ∷ []) base.class.0) ≤ nvsize_in (slice_get (rows ++ row ∷ []) d.0)
     here d base same has way =
         let is : d ≡ c = ap number same in
-        subst (λ (x : ClassId). base_place h (rows ++ row ∷ []) x base.class + nvsize_in (slice_get (rows ++ row ∷ []) base.class.0) ≤ nvsize_in (slice_get (rows ++ row ∷ []) x.0)) (sym is)
+        subst (λ (x : ClassId). direct_base_place h (rows ++ row ∷ []) x base.class + nvsize_in (slice_get (rows ++ row ∷ []) base.class.0) ≤ nvsize_in (slice_get (rows ++ row ∷ []) x.0)) (sym is)
         (own base (subst (λ (x : ClassId). Contains (bases_of h x) base) is has) way)
       where
-        own : (base : Base ClassId) → Contains (bases_of h c) base → base.is_virtual ≡ false → base_place h (rows ++ row ∷ []) c base.class + nvsize_in (slice_get (rows ++ row ∷ []) base.class.0) ≤ nvsize_in (slice_get (rows ++ row ∷ []) c.0)
+        own : (base : Base ClassId) → Contains (bases_of h c) base → base.is_virtual ≡ false → direct_base_place h (rows ++ row ∷ []) c base.class + nvsize_in (slice_get (rows ++ row ∷ []) base.class.0) ≤ nvsize_in (slice_get (rows ++ row ∷ []) c.0)
         own base has way =
             let falls = keeps.bases c base has in
             let row_each = scene.row_each in
@@ -203,22 +203,22 @@ nested_more h c class rows known members ps list holders row primary first place
             let m : nvsize_in (slice_get (rows ++ row ∷ []) c.0) ≡ row.nvsize = ap nvsize_in new in
             omega arith
 
-    primary_before : (d v : ClassId) → d.0 < c.0 → virtual_primary ps d ≡ Some v → nvsize_in (slice_get (rows ++ row ∷ []) v.0) ≤ nvsize_in (slice_get (rows ++ row ∷ []) d.0)
+    primary_before : (d v : ClassId) → d.0 < c.0 → virtual_primary_base ps d ≡ Some v → nvsize_in (slice_get (rows ++ row ∷ []) v.0) ≤ nvsize_in (slice_get (rows ++ row ∷ []) d.0)
     primary_before d v lt p =
         let falls = scene.before.falls d v p in
         rw (old d.0 lt, old v.0 (omega arith)) (scene.inside.by_primary d v lt p)
 
-    primary_here : (d v : ClassId) → d.0 ≡ c.0 → virtual_primary ps d ≡ Some v → nvsize_in (slice_get (rows ++ row ∷ []) v.0) ≤ nvsize_in (slice_get (rows ++ row ∷ []) d.0)
+    primary_here : (d v : ClassId) → d.0 ≡ c.0 → virtual_primary_base ps d ≡ Some v → nvsize_in (slice_get (rows ++ row ∷ []) v.0) ≤ nvsize_in (slice_get (rows ++ row ∷ []) d.0)
     primary_here d v same p =
         let is : d ≡ c = ap number same in
         let falls = scene.before.falls d v p in
         let row_each = scene.row_each in
         let known_each = scene.known_each in
-        let virtual = primary_is v (subst (λ (x : ClassId). virtual_primary ps x ≡ Some v) is p) in
+        let virtual = primary_is v (subst (λ (x : ClassId). virtual_primary_base ps x ≡ Some v) is p) in
         let rest = map (λ (x : Base ClassId). Own x.class) (filter (is_other_base primary) class.bases) in
         let fronts : front_bases primary class.bases ≡ VirtualBase v ∷ rest = ap (λ (q : Primary). first_base q ++ rest) virtual in
-        let fits : (f (VirtualBase v)).takes ≤ (after_all first (map f (front_bases primary class.bases)) places).size =
-        subst (λ (bs : List PlacedBase). (f (VirtualBase v)).takes ≤ (after_all first (map f bs) places).size) (sym fronts) (first_within f first (VirtualBase v) rest places refl (subst (λ (bs : List PlacedBase). ArePlaced first (map f bs) places) fronts placed)) in
+        let fits : (f (VirtualBase v)).takes ≤ (stage_after_all first (map f (front_bases primary class.bases)) places).size =
+        subst (λ (bs : List PlacedBase). (f (VirtualBase v)).takes ≤ (stage_after_all first (map f bs) places).size) (sym fronts) (first_within f first (VirtualBase v) rest places refl (subst (λ (bs : List PlacedBase). ArePlaced first (map f bs) places) fronts placed)) in
         let takes = virtual_takes h rows known ps c v sized (omega arith) (omega arith) in
         let n : nvsize_in (slice_get (rows ++ row ∷ []) v.0) ≡ nvsize_in (slice_get rows v.0) = ap nvsize_in (old v.0 (omega arith)) in
         let m : nvsize_in (slice_get (rows ++ row ∷ []) d.0) ≡ row.nvsize = ap (λ k. nvsize_in (slice_get (rows ++ row ∷ []) k)) same ∙ ap nvsize_in new in

@@ -4,7 +4,7 @@ use Rattle.std.specs.List.{slice_get, flat_map}
 use Rattle.std.proofs.lemmas.Bool.{cases_order}
 use Rattle.cxx_subobject.proofs.ListLemmas.{Has, EachOnce, has_left, has_right, has_cases, once_append}
 use Rattle.abi_emptybase.specs.declared.Part.{Part}
-use Rattle.abi_emptybase.specs.Table.{moved}
+use Rattle.abi_emptybase.specs.Table.{moved_part}
 use Rattle.abi_layout.specs.Placements.{copies}
 use Rattle.abi_layout.specs.Repeats.{HasRepeat}
 use Rattle.abi_layout.proofs.rules.Stages.{has_map}
@@ -64,26 +64,26 @@ once_segment f (z ∷ xs) zero a once e = let same : z ≡ a = cc in subst (λ w
 once_segment f (z ∷ xs) (suc i) a once e = once_segment f xs i a (once_right (f z) (flat_map f xs) once) e
 
 -- a copy's parts are among those of all copies
-pub has_copy : (n stride : ℕ) (parts : List Part) (e : ℕ) (y : Part) → e < n → Has (map (moved (e * stride)) parts) y → Has (copies n stride parts) y
+pub has_copy : (n stride : ℕ) (parts : List Part) (e : ℕ) (y : Part) → e < n → Has (map (moved_part (e * stride)) parts) y → Has (copies n stride parts) y
 has_copy zero stride parts e y lt h = absurd (omega arith)
 has_copy (suc n) stride parts e y lt h = at (cases_order e n) (λ less. has_copy n stride parts e y less h)
   where
-    at : (e ≡ n) ⊎ ((e < n) ⊎ (n < e)) → (e < n → Has (copies n stride parts) y) → Has (copies n stride parts ++ map (moved (n * stride)) parts) y
-    at (inl same) rest = has_right (copies n stride parts) (map (moved (n * stride)) parts) y (subst (λ i. Has (map (moved (i * stride)) parts) y) same h)
-    at (inr (inl less)) rest = has_left (copies n stride parts) (map (moved (n * stride)) parts) y (rest less)
+    at : (e ≡ n) ⊎ ((e < n) ⊎ (n < e)) → (e < n → Has (copies n stride parts) y) → Has (copies n stride parts ++ map (moved_part (n * stride)) parts) y
+    at (inl same) rest = has_right (copies n stride parts) (map (moved_part (n * stride)) parts) y (subst (λ i. Has (map (moved_part (i * stride)) parts) y) same h)
+    at (inr (inl less)) rest = has_left (copies n stride parts) (map (moved_part (n * stride)) parts) y (rest less)
     at (inr (inr more)) rest = absurd (omega arith)
 
 -- a part of copies without repeat is in one copy
-pub one_copy : (n stride : ℕ) (parts : List Part) (e f : ℕ) (y : Part) → EachOnce (copies n stride parts) → e < n → f < n → Has (map (moved (e * stride)) parts) y → Has (map (moved (f * stride)) parts) y → e ≡ f
+pub one_copy : (n stride : ℕ) (parts : List Part) (e f : ℕ) (y : Part) → EachOnce (copies n stride parts) → e < n → f < n → Has (map (moved_part (e * stride)) parts) y → Has (map (moved_part (f * stride)) parts) y → e ≡ f
 one_copy zero stride parts e f y once lt less h k = absurd (omega arith)
 one_copy (suc n) stride parts e f y once lt less h k =
-    at (cases_order e n) (cases_order f n) (λ a b. one_copy n stride parts e f y (once_left (copies n stride parts) (map (moved (n * stride)) parts) once) a b h k)
+    at (cases_order e n) (cases_order f n) (λ a b. one_copy n stride parts e f y (once_left (copies n stride parts) (map (moved_part (n * stride)) parts) once) a b h k)
   where
-    last : (i : ℕ) → i ≡ n → Has (map (moved (i * stride)) parts) y → Has (map (moved (n * stride)) parts) y
-    last i same has = subst (λ j. Has (map (moved (j * stride)) parts) y) same has
+    last : (i : ℕ) → i ≡ n → Has (map (moved_part (i * stride)) parts) y → Has (map (moved_part (n * stride)) parts) y
+    last i same has = subst (λ j. Has (map (moved_part (j * stride)) parts) y) same has
 
-    clash : (i j : ℕ) → i < n → j ≡ n → Has (map (moved (i * stride)) parts) y → Has (map (moved (j * stride)) parts) y → ⊥
-    clash i j a b has other = once_clash (copies n stride parts) (map (moved (n * stride)) parts) y once (has_copy n stride parts i y a has) (last j b other)
+    clash : (i j : ℕ) → i < n → j ≡ n → Has (map (moved_part (i * stride)) parts) y → Has (map (moved_part (j * stride)) parts) y → ⊥
+    clash i j a b has other = once_clash (copies n stride parts) (map (moved_part (n * stride)) parts) y once (has_copy n stride parts i y a has) (last j b other)
 
     at : (e ≡ n) ⊎ ((e < n) ⊎ (n < e)) → (f ≡ n) ⊎ ((f < n) ⊎ (n < f)) → (e < n → f < n → e ≡ f) → e ≡ f
     at (inl a) (inl b) rest = a ∙ sym b
@@ -96,7 +96,7 @@ one_copy (suc n) stride parts e f y once lt less h k =
 
 pub once_copy : (n stride : ℕ) (parts : List Part) → 0 < n → EachOnce (copies n stride parts) → EachOnce parts
 once_copy zero stride parts lt once = absurd (omega arith)
-once_copy (suc n) stride parts lt once = once_unmapped (moved (n * stride)) parts (once_right (copies n stride parts) (map (moved (n * stride)) parts) once)
+once_copy (suc n) stride parts lt once = once_unmapped (moved_part (n * stride)) parts (once_right (copies n stride parts) (map (moved_part (n * stride)) parts) once)
 
 -- which copy a part is in, and of which part
 pub record IsCopied (n stride : ℕ) (parts : List Part) (x : Part) : Type 0 where
@@ -104,39 +104,39 @@ pub record IsCopied (n stride : ℕ) (parts : List Part) (x : Part) : Type 0 whe
   pub part : Part
   pub within : copy < n
   pub has : Has parts part
-  pub is : moved (copy * stride) part ≡ x
+  pub is : moved_part (copy * stride) part ≡ x
 
 pub copied : (n stride : ℕ) (parts : List Part) (x : Part) → Has (copies n stride parts) x → IsCopied n stride parts x
 copied zero stride parts x h = absurd h
 copied (suc n) stride parts x h = ⊎_elim
     (λ a. let r = copied n stride parts x a in let lt = r.within in record { copy = r.copy; part = r.part; within = omega arith; has = r.has; is = r.is })
-    (λ b. let r = unmapped (moved (n * stride)) parts x b in record { copy = n; part = r.item; within = omega arith; has = r.has; is = r.is })
-    (has_cases (copies n stride parts) (map (moved (n * stride)) parts) x h)
+    (λ b. let r = unmapped (moved_part (n * stride)) parts x b in record { copy = n; part = r.item; within = omega arith; has = r.has; is = r.is })
+    (has_cases (copies n stride parts) (map (moved_part (n * stride)) parts) x h)
 
 abbrev part_with : ℕ → ℕ → Part
 part_with class place = record { class = class; place = place }
 
 -- moving is injective
-pub moved_back : (at : ℕ) (x y : Part) → moved at x ≡ moved at y → x ≡ y
+pub moved_back : (at : ℕ) (x y : Part) → moved_part at x ≡ moved_part at y → x ≡ y
 moved_back at x y e =
     let class : x.class ≡ y.class = ap (λ (z : Part). z.class) e in
     let sums : x.place + at ≡ y.place + at = ap (λ (z : Part). z.place) e in
     let place : x.place ≡ y.place = omega arith in
     let r : part_with x.class x.place ≡ part_with y.class y.place = ap (λ n. part_with n x.place) class ∙ ap (λ n. part_with y.class n) place in r
 
-pub once_moved : (at : ℕ) (parts : List Part) → EachOnce parts → EachOnce (map (moved at) parts)
+pub once_moved : (at : ℕ) (parts : List Part) → EachOnce parts → EachOnce (map (moved_part at) parts)
 once_moved at [] once = tt
 once_moved at (x ∷ parts) once =
-    (λ h. let r = unmapped (moved at) parts (moved at x) h in once.0 (subst (λ z. Has parts z) (moved_back at r.item x r.is) r.has), once_moved at parts once.1)
+    (λ h. let r = unmapped (moved_part at) parts (moved_part at x) h in once.0 (subst (λ z. Has parts z) (moved_back at r.item x r.is) r.has), once_moved at parts once.1)
 
 -- parts below the stride, each once, stand once in any number of copies
 pub once_copies : (n stride : ℕ) (parts : List Part) → EachOnce parts → ((x : Part) → Has parts x → x.place < stride) → EachOnce (copies n stride parts)
 once_copies zero stride parts once below = tt
 once_copies (suc n) stride parts once below =
-    once_append (copies n stride parts) (map (moved (n * stride)) parts) (once_copies n stride parts once below) (once_moved (n * stride) parts once)
-    (record { none = λ x h k. apart x (copied n stride parts x h) (unmapped (moved (n * stride)) parts x k) })
+    once_append (copies n stride parts) (map (moved_part (n * stride)) parts) (once_copies n stride parts once below) (once_moved (n * stride) parts once)
+    (record { none = λ x h k. apart x (copied n stride parts x h) (unmapped (moved_part (n * stride)) parts x k) })
   where
-    apart : (x : Part) → IsCopied n stride parts x → ComesFrom (moved (n * stride)) parts x → ⊥
+    apart : (x : Part) → IsCopied n stride parts x → ComesFrom (moved_part (n * stride)) parts x → ⊥
     apart x a b =
         let lt = below a.part a.has in
         let one : a.part.place + a.copy * stride ≡ x.place = ap (λ (z : Part). z.place) a.is in

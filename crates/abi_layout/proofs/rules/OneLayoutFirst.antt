@@ -16,7 +16,7 @@ use Rattle.abi_layout.specs.Kinds.{is_pod}
 use Rattle.abi_layout.specs.Placements.{member_component}
 use Rattle.abi_layout.specs.PlacedBases.{free_bases}
 use Rattle.abi_layout.specs.Layouts.{placed_place, primary_of, fronts, front_components, free_components, object_parts, start_stage, IsArrangedBy, HasPointer, is_shifted, IsLaidBy, AreFirstLaid, BringsTwice}
-use Rattle.abi_layout.specs.Refusals.{IsNextClass, HasSize, IsLargeClass, HasSharedPlace, IsWellLaid}
+use Rattle.abi_layout.specs.Refusals.{IsNextToLayOut, HasSize, IsLargeClass, HasSharedPlace, IsWellLaid}
 use Rattle.abi_layout.proofs.lists.Lists.{number, get_within}
 use Rattle.abi_layout.proofs.rules.AgreeingRows.{AgreeTo, agree_less, agree_turned, agree_take, take_agrees}
 use Rattle.abi_layout.proofs.rules.AgreeingParts.{ArePossible, possible_agrees}
@@ -105,14 +105,14 @@ pub layout_is_one : (h : Classes) (count : ℕ) (rows others : List ClassLayout)
 layout_is_one h count rows others keeps within l k = (one_first h count rows others l.nearly k.nearly l.primaries k.primaries keeps within l.by k.by).rows_same
 
 -- what is known before a class is one
-pub record AreSameNext (h : Classes) (c : ClassId) (x y : IsNextClass h c) : Type 0 where
+pub record AreSameNext (h : Classes) (c : ClassId) (x y : IsNextToLayOut h c) : Type 0 where
   pub class : x.class ≡ y.class
   pub rows : x.rows ≡ y.rows
   pub nearly : x.nearly ≡ y.nearly
   pub primaries : x.primaries ≡ y.primaries
   pub has_pointer : x.has_pointer ≡ y.has_pointer
 
-pub next_is_one : (h : Classes) (c : ClassId) → IsHierarchy h → (x y : IsNextClass h c) → AreSameNext h c x y
+pub next_is_one : (h : Classes) (c : ClassId) → IsHierarchy h → (x y : IsNextToLayOut h c) → AreSameNext h c x y
 next_is_one h c keeps x y = record {
   class = let e : Some x.class ≡ Some y.class = sym x.there ∙ y.there in cc;
   rows = before.rows_same;

@@ -18,8 +18,8 @@ use Rattle.abi_layout.specs.declared.component.Stage.{Stage}
 use Rattle.abi_sound.specs.declared.class_layout.ClassLayout.{ClassLayout}
 use Rattle.abi_layout.specs.declared.placed_bases.PlacedBase.{PlacedBase}
 use Rattle.abi_layout.specs.declared.placed_bases.PlacedBase.TheVariants.{Own, VirtualBase}
-use Rattle.abi_sound.specs.Places.{number_in, nth_place}
-use Rattle.abi_layout.specs.Placements.{IsNext, ArePlaced, after_all, bits_at}
+use Rattle.abi_sound.specs.Places.{place_or_zero, nth_place}
+use Rattle.abi_layout.specs.Placements.{IsNextMultiple, ArePlaced, stage_after_all, bits_at}
 use Rattle.cxx_subobject.specs.VirtualBases.{shared_class, virtual_bases}
 use Rattle.cxx_subobject.proofs.VirtualBaseLemmas.{shared_is}
 use Rattle.abi_layout.specs.invariants.OwnPlaces.{is_own}
@@ -96,8 +96,8 @@ places_by_keys {X} key items ps qs each a b same = agree_whole (length items) ps
         let p = get_within ps i (omega arith) in
         let q = get_within qs i (omega arith) in
         let here = key_position key items i x.0 each x.1 in
-        let e : number_in (slice_get ps i) ≡ number_in (slice_get qs i) = ap (nth_place ps) (sym here) ∙ (same x.0 (has_at items i x.0 x.1) ∙ ap (nth_place qs) here) in
-        let is : p.0 ≡ q.0 = ap number_in (sym p.1) ∙ (e ∙ ap number_in q.1) in
+        let e : place_or_zero (slice_get ps i) ≡ place_or_zero (slice_get qs i) = ap (nth_place ps) (sym here) ∙ (same x.0 (has_at items i x.0 x.1) ∙ ap (nth_place qs) here) in
+        let is : p.0 ≡ q.0 = ap place_or_zero (sym p.1) ∙ (e ∙ ap place_or_zero q.1) in
         p.1 ∙ (ap (λ n. Some n) is ∙ sym q.1)
 
 pub maps_at : {X Y : Type 0} (f g : X → Y) (xs : List X) (x : X) → map f xs ≡ map g xs → Has xs x → f x ≡ g x
@@ -152,37 +152,37 @@ layout_is_one first f m v p q r s pod x y l k = record {
   fronts = fronts;
   frees = frees;
   members = members;
-  bits = l.bits ∙ (ap (λ (st : Stage). bits_at st m x.member_places) mid ∙ (ap (bits_at (after_all first f q) m) members ∙ sym k.bits));
+  bits = l.bits ∙ (ap (λ (st : Stage). bits_at st m x.member_places) mid ∙ (ap (bits_at (stage_after_all first f q) m) members ∙ sym k.bits));
   size = size;
   align = align;
-  dsize = l.dsize ∙ (ap (λ n. if pod then n else (after_all (after_all (after_all first f p) m x.member_places) v r).dsize) size ∙ (ap (λ (st : Stage). if pod then y.size else st.dsize) last ∙ sym k.dsize));
-  nvsize = l.nvsize ∙ (ap (λ n. if pod then n else (after_all (after_all first f p) m x.member_places).size) size ∙ (ap (λ (st : Stage). if pod then y.size else st.size) inner ∙ sym k.nvsize));
+  dsize = l.dsize ∙ (ap (λ n. if pod then n else (stage_after_all (stage_after_all (stage_after_all first f p) m x.member_places) v r).dsize) size ∙ (ap (λ (st : Stage). if pod then y.size else st.dsize) last ∙ sym k.dsize));
+  nvsize = l.nvsize ∙ (ap (λ n. if pod then n else (stage_after_all (stage_after_all first f p) m x.member_places).size) size ∙ (ap (λ (st : Stage). if pod then y.size else st.size) inner ∙ sym k.nvsize));
   nvalign = l.nvalign ∙ (ap (λ (st : Stage). st.align) inner ∙ sym k.nvalign);
 }
   where
     fronts : p ≡ q
     fronts = places_are_one first f p q l.fronts_placed k.fronts_placed
 
-    mid : after_all first f p ≡ after_all first f q
-    mid = ap (after_all first f) fronts
+    mid : stage_after_all first f p ≡ stage_after_all first f q
+    mid = ap (stage_after_all first f) fronts
 
     members : x.member_places ≡ y.member_places
-    members = places_are_one (after_all first f q) m x.member_places y.member_places (subst (λ (st : Stage). ArePlaced st m x.member_places) mid l.members_placed) k.members_placed
+    members = places_are_one (stage_after_all first f q) m x.member_places y.member_places (subst (λ (st : Stage). ArePlaced st m x.member_places) mid l.members_placed) k.members_placed
 
-    inner : after_all (after_all first f p) m x.member_places ≡ after_all (after_all first f q) m y.member_places
-    inner = ap (λ (st : Stage). after_all st m x.member_places) mid ∙ ap (after_all (after_all first f q) m) members
+    inner : stage_after_all (stage_after_all first f p) m x.member_places ≡ stage_after_all (stage_after_all first f q) m y.member_places
+    inner = ap (λ (st : Stage). stage_after_all st m x.member_places) mid ∙ ap (stage_after_all (stage_after_all first f q) m) members
 
     frees : r ≡ s
-    frees = places_are_one (after_all (after_all first f q) m y.member_places) v r s (subst (λ (st : Stage). ArePlaced st v r) inner l.frees_placed) k.frees_placed
+    frees = places_are_one (stage_after_all (stage_after_all first f q) m y.member_places) v r s (subst (λ (st : Stage). ArePlaced st v r) inner l.frees_placed) k.frees_placed
 
-    last : after_all (after_all (after_all first f p) m x.member_places) v r ≡ after_all (after_all (after_all first f q) m y.member_places) v s
-    last = ap (λ (st : Stage). after_all st v r) inner ∙ ap (after_all (after_all (after_all first f q) m y.member_places) v) frees
+    last : stage_after_all (stage_after_all (stage_after_all first f p) m x.member_places) v r ≡ stage_after_all (stage_after_all (stage_after_all first f q) m y.member_places) v s
+    last = ap (λ (st : Stage). stage_after_all st v r) inner ∙ ap (stage_after_all (stage_after_all (stage_after_all first f q) m y.member_places) v) frees
 
     align : x.align ≡ y.align
     align = l.align ∙ (ap (λ (st : Stage). st.align) last ∙ sym k.align)
 
     size : x.size ≡ y.size
     size =
-        let end = (after_all (after_all (after_all first f q) m y.member_places) v s).size in
+        let end = (stage_after_all (stage_after_all (stage_after_all first f q) m y.member_places) v s).size in
         next_is_one (max 1 end) y.align x.size y.size
-        (subst (λ a. IsNext (max 1 end) a x.size) align (subst (λ (st : Stage). IsNext (max 1 st.size) x.align x.size) last l.size)) k.size
+        (subst (λ a. IsNextMultiple (max 1 end) a x.size) align (subst (λ (st : Stage). IsNextMultiple (max 1 st.size) x.align x.size) last l.size)) k.size

@@ -24,12 +24,12 @@ use Rattle.abi_sound.specs.declared.class_layout.ClassLayout.{ClassLayout}
 use Rattle.abi_layout.specs.declared.placed_bases.PlacedBase.{PlacedBase}
 use Rattle.abi_layout.specs.declared.placed_bases.PlacedBase.TheVariants.{Own, VirtualBase}
 use Rattle.cxx_hierarchy.specs.Declarations.{is_plain_base}
-use Rattle.abi_sound.specs.Places.{nth_place, bases_in, base_place, place_along}
+use Rattle.abi_sound.specs.Places.{nth_place, base_places_in, direct_base_place, place_along}
 use Rattle.abi_layout.specs.Kinds.{is_pod}
 use Rattle.abi_layout.specs.Placements.{member_component}
 use Rattle.cxx_subobject.specs.VirtualBases.{virtual_bases}
 use Rattle.abi_layout.specs.PlacedBases.{is_free, free_bases, IsPossible}
-use Rattle.abi_layout.specs.Layouts.{virtual_places_in, virtual_bases_in, virtual_place, place_of, placed_place, primary_of, fronts, front_components, free_components, object_parts, start_stage, IsArrangedBy, IsLaidRow}
+use Rattle.abi_layout.specs.Layouts.{virtual_places_in, virtual_bases_in, virtual_place, place_in_class, placed_place, primary_of, fronts, front_components, free_components, object_parts, start_stage, IsArrangedBy, IsLaidRow}
 use Rattle.abi_layout.proofs.lists.Lists.{has_at}
 use Rattle.abi_layout.proofs.rules.SameRow.{same_row}
 use Rattle.cxx_subobject.proofs.PathLemmas.{virtual_below}
@@ -89,7 +89,7 @@ holder_rises h ps c v w path keeps possible has leads e =
 
 -- the place of a subobject, where those of the direct bases and of its virtual base are the same
 place_same : (h : Classes) (rows others : List ClassLayout) (c : ClassId) (t : Subobject) → IsHierarchy h → AgreeTo c.0 rows others → ((path : List ClassId) → Leads h c path → place_along h rows c path ≡ place_along h others c path)
-    → ((w : ClassId) (path : List ClassId) → t ≡ subobject (Shared w) (w ∷ path) → HasVirtualBase h c w → Leads h w path → virtual_place rows c w ≡ virtual_place others c w) → IsSubobject h c t → place_of h rows c t ≡ place_of h others c t
+    → ((w : ClassId) (path : List ClassId) → t ≡ subobject (Shared w) (w ∷ path) → HasVirtualBase h c w → Leads h w path → virtual_place rows c w ≡ virtual_place others c w) → IsSubobject h c t → place_in_class h rows c t ≡ place_in_class h others c t
 place_same h rows others c _ keeps agree along virtual (whole path leads) = ap (λ k. 0 + k) (along path leads)
 place_same h rows others c _ keeps agree along virtual (shared w path has leads) =
     let lt = virtual_below h keeps c w has in
@@ -137,9 +137,9 @@ added m n e = omega arith
 added_once : (m n : ℕ) → m + 0 ≡ n + 0 → m ≡ n
 added_once m n e = omega arith
 
-base_place_one : (h : Classes) (rows others : List ClassLayout) (near other : List Bool) (ps qs : List Primary) (c : ClassId) (class : Class) (x y : ClassLayout) → AreRows h rows others near other ps qs c class x y → (base : Base ClassId) → Contains (bases_of h c) base → base.is_virtual ≡ false → base_place h rows c base.class ≡ base_place h others c base.class
+base_place_one : (h : Classes) (rows others : List ClassLayout) (near other : List Bool) (ps qs : List Primary) (c : ClassId) (class : Class) (x y : ClassLayout) → AreRows h rows others near other ps qs c class x y → (base : Base ClassId) → Contains (bases_of h c) base → base.is_virtual ≡ false → direct_base_place h rows c base.class ≡ direct_base_place h others c base.class
 base_place_one h rows others near other ps qs c class x y r base has way =
-    added (base_place h rows c base.class) (base_place h others c base.class) (front_place_one h rows others near other ps qs c class x y r (Own base.class) (own_front h ps c class base r.class_is has way))
+    added (direct_base_place h rows c base.class) (direct_base_place h others c base.class) (front_place_one h rows others near other ps qs c class x y r (Own base.class) (own_front h ps c class base r.class_is has way))
 
 along_one : (h : Classes) (rows others : List ClassLayout) (near other : List Bool) (ps qs : List Primary) (c : ClassId) (class : Class) (x y : ClassLayout) → AreRows h rows others near other ps qs c class x y → (path : List ClassId) → Leads h c path → place_along h rows c path ≡ place_along h others c path
 along_one h rows others near other ps qs c class x y r [] leads = refl
@@ -147,8 +147,8 @@ along_one h rows others near other ps qs c class x y r (b ∷ path) leads =
     let edge = leads.0 in
     let same : edge.base.class.0 ≡ b.0 = ap (λ (z : ClassId). z.0) edge.class in
     let falls = r.keeps.bases c edge.base edge.listed in
-    ap (λ k. k + place_along h rows b path) (subst (λ (z : ClassId). base_place h rows c z ≡ base_place h others c z) edge.class (base_place_one h rows others near other ps qs c class x y r edge.base edge.listed edge.way))
-    ∙ ap (λ k. base_place h others c b + k) (along_agrees h c.0 rows others b path r.keeps r.agree (omega arith) leads.1)
+    ap (λ k. k + place_along h rows b path) (subst (λ (z : ClassId). direct_base_place h rows c z ≡ direct_base_place h others c z) edge.class (base_place_one h rows others near other ps qs c class x y r edge.base edge.listed edge.way))
+    ∙ ap (λ k. direct_base_place h others c b + k) (along_agrees h c.0 rows others b path r.keeps r.agree (omega arith) leads.1)
 
 -- the places of virtual bases, from the greatest number down
 virtual_one : (h : Classes) (rows others : List ClassLayout) (near other : List Bool) (ps qs : List Primary) (c : ClassId) (class : Class) (x y : ClassLayout) → AreRows h rows others near other ps qs c class x y → (k : ℕ) (v : ClassId) → c.0 ≤ v.0 + k → HasVirtualBase h c v → virtual_place rows c v ≡ virtual_place others c v
@@ -179,9 +179,9 @@ base_places_one h rows others near other ps qs c class x y r =
     (λ base has.
     let of_base = has_filter is_plain_base (bases_of h c) base has in
     let way = plain_is base.is_virtual of_base.1 in
-    ap (λ (o : Option ClassLayout). nth_place (bases_in o) (position (λ (z : Base ClassId). nat_eq z.class.0 base.class.0) (filter is_plain_base (bases_of h c)))) (sym r.there)
+    ap (λ (o : Option ClassLayout). nth_place (base_places_in o) (position (λ (z : Base ClassId). nat_eq z.class.0 base.class.0) (filter is_plain_base (bases_of h c)))) (sym r.there)
     ∙ (base_place_one h rows others near other ps qs c class x y r base (contains_from_has (bases_of h c) base of_base.0) way
-    ∙ ap (λ (o : Option ClassLayout). nth_place (bases_in o) (position (λ (z : Base ClassId). nat_eq z.class.0 base.class.0) (filter is_plain_base (bases_of h c)))) r.other_there))
+    ∙ ap (λ (o : Option ClassLayout). nth_place (base_places_in o) (position (λ (z : Base ClassId). nat_eq z.class.0 base.class.0) (filter is_plain_base (bases_of h c)))) r.other_there))
 
 -- the place of a virtual base, by its row
 virtual_by_row : (h : Classes) (rows : List ClassLayout) (c v : ClassId) (x : ClassLayout) → slice_get rows c.0 ≡ Some x → x.virtual_bases ≡ virtual_bases h c → virtual_place rows c v ≡ nth_place x.virtual_places (position (λ (w : ClassId). nat_eq w.0 v.0) (virtual_bases h c))

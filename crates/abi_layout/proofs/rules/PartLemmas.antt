@@ -9,14 +9,14 @@ use Rattle.cxx_hierarchy.specs.declared.records.FieldType.{FieldType}
 use Rattle.cxx_hierarchy.specs.declared.records.FieldType.TheVariants.{Value, Object}
 use Rattle.cxx_hierarchy.specs.Classes.{Class, Classes, class_at, members_of, members_in as named_members}
 use Rattle.abi_emptybase.specs.declared.Part.{Part}
-use Rattle.abi_emptybase.specs.Table.{moved}
+use Rattle.abi_emptybase.specs.Table.{moved_part}
 use Rattle.abi_primary.proofs.KindLemmas.{same_all}
 use Rattle.abi_layout.specs.declared.component.Component.{Component}
 use Rattle.abi_layout.specs.declared.component.Stage.{Stage}
 use Rattle.abi_sound.specs.declared.class_layout.ClassLayout.{ClassLayout}
-use Rattle.abi_sound.specs.Places.{size_in, align_in, nvalign_in}
+use Rattle.abi_sound.specs.Places.{size_in_row, align_in, nvalign_in}
 use Rattle.abi_layout.specs.Kinds.{pod_kind, has_virtual_function, is_implicit, is_pod_type}
-use Rattle.abi_layout.specs.Placements.{copies, elements_of, nvsize_in, size_of_type, align_of_type, parts_of_type, member_component, member_components, parts_at, after, after_all}
+use Rattle.abi_layout.specs.Placements.{copies, elements_of, nvsize_in, size_of_member_type, align_of_type, parts_of_type, member_component, member_components, parts_at, stage_after, stage_after_all}
 use Rattle.abi_layout.specs.invariants.Known.{IsMemberType, IsEarlierType, AreEarlier}
 use Rattle.abi_layout.proofs.lists.Lists.{has_here, has_later}
 
@@ -41,7 +41,7 @@ pub record Agree (h : Classes) (n : ℕ) (rows others : List ClassLayout) (parts
   pub of_class : (d : ClassId) → d.0 < n → IsMemberType h d → parts d ≡ brought d
 
 abbrev pub base_made : Bool → Option ClassLayout → List Part → Component
-base_made empty row parts = record { is_empty = empty; align = nvalign_in row; takes = if empty then size_in row else nvsize_in row; width = None; parts = parts }
+base_made empty row parts = record { is_empty = empty; align = nvalign_in row; takes = if empty then size_in_row row else nvsize_in row; width = None; parts = parts }
 
 abbrev pub member_made : Option ℕ → ℕ → ℕ → ℕ → List Part → Component
 member_made width count size align parts = record { is_empty = false; align = align; takes = count * size; width = width; parts = copies count size parts }
@@ -50,9 +50,9 @@ pub members_agree : (h : Classes) (n : ℕ) (rows others : List ClassLayout) (pa
     → member_components rows parts class ≡ member_components others brought class
 members_agree h n rows others parts brought owner class there earlier agree = same_map (member_component rows parts) (member_component others brought) class.members (λ member has. one member (subst (λ (o : Option Class). Contains (named_members o) member) (sym there) has) (earlier.objects member has))
   where
-    size : (type : FieldType ClassId) → IsEarlierType n type → size_of_type rows type ≡ size_of_type others type
+    size : (type : FieldType ClassId) → IsEarlierType n type → size_of_member_type rows type ≡ size_of_member_type others type
     size (Value type) e = refl
-    size (Object d) e = ap size_in (agree.row d e)
+    size (Object d) e = ap size_in_row (agree.row d e)
 
     align : (type : FieldType ClassId) → IsEarlierType n type → align_of_type rows type ≡ align_of_type others type
     align (Value type) e = refl
@@ -65,11 +65,11 @@ members_agree h n rows others parts brought owner class there earlier agree = sa
     one : (member : Member ClassId) → Contains (members_of h owner) member → IsEarlierType n member.ty → member_component rows parts member ≡ member_component others brought member
     one member has e =
         ap (λ s. member_made member.width (elements_of member.count) s (align_of_type rows member.ty) (parts_of_type parts member.ty)) (size member.ty e)
-        ∙ (ap (λ a. member_made member.width (elements_of member.count) (size_of_type others member.ty) a (parts_of_type parts member.ty)) (align member.ty e)
-        ∙ ap (member_made member.width (elements_of member.count) (size_of_type others member.ty) (align_of_type others member.ty)) (of_type member has member.ty refl e))
+        ∙ (ap (λ a. member_made member.width (elements_of member.count) (size_of_member_type others member.ty) a (parts_of_type parts member.ty)) (align member.ty e)
+        ∙ ap (member_made member.width (elements_of member.count) (size_of_member_type others member.ty) (align_of_type others member.ty)) (of_type member has member.ty refl e))
 
 -- the parts of a stage are those before, and what the components bring
-pub stage_parts : (stage : Stage) (cs : List Component) (ps : List ℕ) → (after_all stage cs ps).parts ≡ stage.parts ++ parts_at cs ps
+pub stage_parts : (stage : Stage) (cs : List Component) (ps : List ℕ) → (stage_after_all stage cs ps).parts ≡ stage.parts ++ parts_at cs ps
 stage_parts stage [] ps = sym (append-nil stage.parts)
 stage_parts stage (c ∷ cs) [] = sym (append-nil stage.parts)
-stage_parts stage (c ∷ cs) (p ∷ ps) = stage_parts (after stage c p) cs ps ∙ append_assoc stage.parts (map (moved p) c.parts) (parts_at cs ps)
+stage_parts stage (c ∷ cs) (p ∷ ps) = stage_parts (stage_after stage c p) cs ps ∙ append_assoc stage.parts (map (moved_part p) c.parts) (parts_at cs ps)

@@ -2,7 +2,7 @@
 use Rattle.std.proofs.Common.{◌≡◌, ℕ, ◌*◌, List, [], ◌∷◌, length, refl, arith}
 use Rattle.abi_layout.specs.declared.component.Component.{Component}
 use Rattle.abi_layout.specs.declared.component.Stage.{Stage}
-use Rattle.abi_layout.specs.Placements.{after, ArePlaced}
+use Rattle.abi_layout.specs.Placements.{stage_after, ArePlaced}
 
 pub no_copies : (e s : ℕ) → e ≡ 0 → e * s ≡ 0
 no_copies e s z = rw z (omega arith)
@@ -11,4 +11,4 @@ pub placed_length : (st : Stage) (cs : List Component) (ps : List ℕ) → ArePl
 placed_length st [] [] l = refl
 placed_length st [] (p ∷ ps) l = absurd l
 placed_length st (c ∷ cs) [] l = absurd l
-placed_length st (c ∷ cs) (p ∷ ps) l = let r = placed_length (after st c p) cs ps l.1 in omega arith
+placed_length st (c ∷ cs) (p ∷ ps) l = let r = placed_length (stage_after st c p) cs ps l.1 in omega arith

@@ -7,7 +7,7 @@ use Rattle.std.proofs.lemmas.Bool.Decides.{nat_tests}
 use Rattle.std.proofs.lemmas.List.{take_more}
 use Rattle.std.proofs.lemmas.Option.{slice_get_read}
 use Rattle.abi_emptybase.specs.declared.Part.{Part}
-use Rattle.abi_emptybase.specs.Table.{same_part, holds, moved, Adds}
+use Rattle.abi_emptybase.specs.Table.{same_placed_part, holds, moved_part, Adds}
 use Rattle.abi_layout.specs.Repeats.{HasRepeat}
 use Rattle.abi_layout.specs.invariants.Ranks.{rank}
 use Rattle.abi_layout.proofs.rules.Parts.{split, opposed, holds_more}
@@ -16,12 +16,12 @@ use Rattle.abi_layout.proofs.rules.PlacedLemmas.{moved_none}
 abbrev part_with : ℕ → ℕ → Part
 part_with class place = record { class = class; place = place }
 
-same_is : (x y : Part) → same_part x y ≡ true → x ≡ y
+same_is : (x y : Part) → same_placed_part x y ≡ true → x ≡ y
 same_is x y e = split (nat_eq x.class y.class) (λ b. (b && nat_eq x.place y.place) ≡ true → x ≡ y)
     (λ t place. let a = eqb-true x.class y.class t in let b = eqb-true x.place y.place place in let r : part_with x.class x.place ≡ part_with y.class y.place = cc in r)
     (λ f none. let g : false ≡ true = none in cc) e
 
-same_itself : (x : Part) → same_part x x ≡ true
+same_itself : (x : Part) → same_placed_part x x ≡ true
 same_itself x = ap (λ b. b && nat_eq x.place x.place) (itself x.class) ∙ itself x.place
   where
     itself : (n : ℕ) → nat_eq n n ≡ true
@@ -34,14 +34,14 @@ pub record StandsIn (parts : List Part) (part : Part) : Type 0 where
 
 pub stands : (parts : List Part) (part : Part) → holds parts part ≡ true → StandsIn parts part
 stands [] part e = let f : false ≡ true = e in cc
-stands (x ∷ parts) part e = split (same_part part x) (λ b. (b || holds parts part) ≡ true → StandsIn (x ∷ parts) part)
+stands (x ∷ parts) part e = split (same_placed_part part x) (λ b. (b || holds parts part) ≡ true → StandsIn (x ∷ parts) part)
     (λ t any. record { number = zero; there = ap (λ (y : Part). Some y) (sym (same_is part x t)) })
     (λ f rest. let later = stands parts part rest in record { number = suc later.number; there = later.there }) e
 
 pub held : (parts : List Part) (number : ℕ) (part : Part) → slice_get parts number ≡ Some part → holds parts part ≡ true
 held [] number part e = cc
-held (x ∷ parts) zero part e = let is : x ≡ part = cc in ap (λ b. b || holds parts part) (ap (same_part part) is ∙ same_itself part)
-held (x ∷ parts) (suc number) part e = or_right (same_part part x) (holds parts part) (held parts number part e)
+held (x ∷ parts) zero part e = let is : x ≡ part = cc in ap (λ b. b || holds parts part) (ap (same_placed_part part) is ∙ same_itself part)
+held (x ∷ parts) (suc number) part e = or_right (same_placed_part part x) (holds parts part) (held parts number part e)
   where
     or_right : (a b : Bool) → b ≡ true → (a || b) ≡ true
     or_right true b t = refl
@@ -80,7 +80,7 @@ pub single_more : (parts table new : List Part) (i : ℕ) (part : Part) → i < 
 single_more parts table new i part lt is single free adds = record {
   same = λ q.
       adds.each q
-      ∙ (ap (λ b. b || list_any (λ (x : Part). same_part (moved 0 x) q) (part ∷ [])) (single.same q)
+      ∙ (ap (λ b. b || list_any (λ (x : Part). same_placed_part (moved_part 0 x) q) (part ∷ [])) (single.same q)
       ∙ (sym (holds_more (take i parts) (part ∷ []) 0 q)
       ∙ (ap (λ (xs : List Part). holds (take i parts ++ xs) q) (moved_none (part ∷ []))
       ∙ ap (λ (xs : List Part). holds xs q) (ap (λ (x : Part). take i parts ++ x ∷ []) is ∙ sym (take_more parts i part lt)))));

@@ -17,15 +17,15 @@ use Rattle.abi_layout.specs.declared.known.Known.{Known}
 use Rattle.abi_sound.specs.declared.class_layout.ClassLayout.{ClassLayout}
 use Rattle.abi_layout.specs.declared.placed_bases.PlacedBase.TheVariants.{VirtualBase}
 use Rattle.abi_layout.specs.Kinds.{pod_kind}
-use Rattle.abi_layout.specs.Placements.{nvsize_in, after_all}
-use Rattle.abi_layout.specs.invariants.Known.{empties_in, pods_in, parts_in, members_by, AreAllSized}
-use Rattle.abi_layout.specs.Holding.{virtual_primary, virtual_in}
-use Rattle.abi_layout.specs.invariants.Scenes.{IsScene}
+use Rattle.abi_layout.specs.Placements.{nvsize_in, stage_after_all}
+use Rattle.abi_layout.specs.invariants.Known.{empties_in, pods_in, known_parts_of, members_by, AreAllSized}
+use Rattle.abi_layout.specs.Holding.{virtual_primary_base, virtual_in}
+use Rattle.abi_layout.specs.invariants.Scenes.{IsLayoutScene}
 use Rattle.abi_layout.specs.PlacedBases.{front_bases, free_bases, placed_component}
 use Rattle.abi_layout.specs.invariants.OwnPlaces.{own_places}
 use Rattle.abi_layout.specs.invariants.Arrangements.{row_from, IsArranged, IsWithinLimit, components_by}
 use Rattle.abi_layout.specs.Layouts.{primary_of, start_stage, IsLayoutBy}
-use Rattle.abi_layout.specs.invariants.Settled.{HasRoom, CanSettle, free_table}
+use Rattle.abi_layout.specs.invariants.Settled.{EndsWithinLimit, CanSettle, free_table}
 use Rattle.abi_layout.proofs.lists.LastItems.{same_before, longer}
 use Rattle.abi_layout.proofs.rules.PlacingLemmas.{size_grows}
 use Rattle.abi_layout.proofs.algorithm.CanSettleLemmas.{AreNested, can_settle}
@@ -34,26 +34,26 @@ use Rattle.abi_layout.proofs.algorithm.RoomLemmas.{free_room}
 use Rattle.abi_layout.proofs.algorithm.PlacedClassLemmas.{frees_below}
 
 -- the bases before the members end within the class without its virtual bases
-pub fronts_end : (first : Stage) (fs ms vs : List Component) (ps rs : List ℕ) (pod : Bool) (row : ClassLayout) → IsLayoutBy first fs ms vs ps rs pod row → (after_all first fs ps).size ≤ row.nvsize
+pub fronts_end : (first : Stage) (fs ms vs : List Component) (ps rs : List ℕ) (pod : Bool) (row : ClassLayout) → IsLayoutBy first fs ms vs ps rs pod row → (stage_after_all first fs ps).size ≤ row.nvsize
 fronts_end first fs ms vs ps rs pod row laid =
-    let a = size_grows (after_all first fs ps) ms row.member_places in
-    let b = size_grows (after_all (after_all first fs ps) ms row.member_places) vs rs in
-    let m = le-max_right 1 (after_all (after_all (after_all first fs ps) ms row.member_places) vs rs).size in
+    let a = size_grows (stage_after_all first fs ps) ms row.member_places in
+    let b = size_grows (stage_after_all (stage_after_all first fs ps) ms row.member_places) vs rs in
+    let m = le-max_right 1 (stage_after_all (stage_after_all (stage_after_all first fs ps) ms row.member_places) vs rs).size in
     let s = laid.size.behind in
-    subst (λ n. (after_all first fs ps).size ≤ n) (sym laid.nvsize) (by_kind pod (omega arith) (omega arith))
+    subst (λ n. (stage_after_all first fs ps).size ≤ n) (sym laid.nvsize) (by_kind pod (omega arith) (omega arith))
   where
-    by_kind : (b : Bool) → (after_all first fs ps).size ≤ row.size → (after_all first fs ps).size ≤ (after_all (after_all first fs ps) ms row.member_places).size → (after_all first fs ps).size ≤ (if b then row.size else (after_all (after_all first fs ps) ms row.member_places).size)
+    by_kind : (b : Bool) → (stage_after_all first fs ps).size ≤ row.size → (stage_after_all first fs ps).size ≤ (stage_after_all (stage_after_all first fs ps) ms row.member_places).size → (stage_after_all first fs ps).size ≤ (if b then row.size else (stage_after_all (stage_after_all first fs ps) ms row.member_places).size)
     by_kind true x y = x
     by_kind false x y = y
 
 -- and all components within its size
-pub all_end : (first : Stage) (fs ms vs : List Component) (ps rs : List ℕ) (pod : Bool) (row : ClassLayout) → IsLayoutBy first fs ms vs ps rs pod row → (after_all (after_all (after_all first fs ps) ms row.member_places) vs rs).size ≤ row.size
+pub all_end : (first : Stage) (fs ms vs : List Component) (ps rs : List ℕ) (pod : Bool) (row : ClassLayout) → IsLayoutBy first fs ms vs ps rs pod row → (stage_after_all (stage_after_all (stage_after_all first fs ps) ms row.member_places) vs rs).size ≤ row.size
 all_end first fs ms vs ps rs pod row laid =
-    let m = le-max_right 1 (after_all (after_all (after_all first fs ps) ms row.member_places) vs rs).size in
+    let m = le-max_right 1 (stage_after_all (stage_after_all (stage_after_all first fs ps) ms row.member_places) vs rs).size in
     let s = laid.size.behind in
     omega arith
 
-primary_known : (ps : List Primary) (c : ClassId) (v : ClassId) → virtual_primary ps c ≡ Some v → primary_of ps c ≡ Virtual v
+primary_known : (ps : List Primary) (c : ClassId) (v : ClassId) → virtual_primary_base ps c ≡ Some v → primary_of ps c ≡ Virtual v
 primary_known ps c v e = at ps c.0 e
   where
     at : (qs : List Primary) (n : ℕ) → virtual_in (slice_get qs n) ≡ Some v → get_or qs n NoPrimary ≡ Virtual v
@@ -65,7 +65,7 @@ primary_known ps c v e = at ps c.0 e
 
 -- with the row of a class whose bases are placed each class ends behind its bases
 pub class_placed_nested : (h : Classes) (c : ClassId) (class : Class) (rows : List ClassLayout) (known : List Known) (members : List (List Part)) (ps : List Primary) (list : List Subobject) (holders : List (Option ℕ)) (primary : Primary) (has_pointer : Bool) (a : Arrangement) (base_places : List ℕ)
-    → IsHierarchy h → IsScene h c rows known members ps list holders → AreAllSized rows known → class_at h c ≡ Some class → primary_of ps c ≡ primary
+    → IsHierarchy h → IsLayoutScene h c rows known members ps list holders → AreAllSized rows known → class_at h c ≡ Some class → primary_of ps c ≡ primary
     → IsArranged (start_stage c has_pointer) (components_by h rows known ps c (front_bases primary class.bases)) (members_by rows known class) (components_by h rows known ps c (free_bases h ps c)) (pod_kind (pods_in known) class) a
     → IsWithinLimit a → base_places ≡ own_places (front_bases primary class.bases) a.front_places class.bases
     → AreNested h (c.0 + 1) (rows ++ row_from a primary base_places [] [] [] ∷ []) ps
@@ -80,7 +80,7 @@ class_placed_nested h c class rows known members ps list holders primary has_poi
 
 -- its virtual bases that are held can be settled
 pub class_placed_can : (h : Classes) (c : ClassId) (class : Class) (rows : List ClassLayout) (known : List Known) (members : List (List Part)) (ps : List Primary) (list : List Subobject) (holders : List (Option ℕ)) (primary : Primary) (has_pointer : Bool) (a : Arrangement) (base_places : List ℕ)
-    → IsHierarchy h → IsScene h c rows known members ps list holders → AreAllSized rows known → class_at h c ≡ Some class → primary_of ps c ≡ primary
+    → IsHierarchy h → IsLayoutScene h c rows known members ps list holders → AreAllSized rows known → class_at h c ≡ Some class → primary_of ps c ≡ primary
     → IsArranged (start_stage c has_pointer) (components_by h rows known ps c (front_bases primary class.bases)) (members_by rows known class) (components_by h rows known ps c (free_bases h ps c)) (pod_kind (pods_in known) class) a
     → IsWithinLimit a → base_places ≡ own_places (front_bases primary class.bases) a.front_places class.bases
     → CanSettle h (rows ++ row_from a primary base_places [] [] [] ∷ []) list holders
@@ -93,10 +93,10 @@ class_placed_can h c class rows known members ps list holders primary has_pointe
 
 -- and those that no subobject holds end within the limit of sizes
 pub class_placed_room : (h : Classes) (c : ClassId) (class : Class) (rows : List ClassLayout) (known : List Known) (members : List (List Part)) (ps : List Primary) (list : List Subobject) (holders : List (Option ℕ)) (primary : Primary) (has_pointer : Bool) (a : Arrangement) (base_places : List ℕ)
-    → IsHierarchy h → IsScene h c rows known members ps list holders → AreAllSized rows known → class_at h c ≡ Some class → primary_of ps c ≡ primary
+    → IsHierarchy h → IsLayoutScene h c rows known members ps list holders → AreAllSized rows known → class_at h c ≡ Some class → primary_of ps c ≡ primary
     → IsArranged (start_stage c has_pointer) (components_by h rows known ps c (front_bases primary class.bases)) (members_by rows known class) (components_by h rows known ps c (free_bases h ps c)) (pod_kind (pods_in known) class) a
     → IsWithinLimit a → base_places ≡ own_places (front_bases primary class.bases) a.front_places class.bases
-    → HasRoom (rows ++ row_from a primary base_places [] [] [] ∷ []) (free_table c.0 (free_bases h ps c) a.free_places)
+    → EndsWithinLimit (rows ++ row_from a primary base_places [] [] [] ∷ []) (free_table c.0 (free_bases h ps c) a.free_places)
 class_placed_room h c class rows known members ps list holders primary has_pointer a base_places keeps scene sized e own arranged within are =
     let row = row_from a primary base_places [] [] [] in
     let laid = arranged.laid primary base_places [] [] [] in
@@ -106,10 +106,10 @@ class_placed_room h c class rows known members ps list holders primary has_point
     let ends = all_end (start_stage c has_pointer) fs ms vs a.front_places a.free_places (pod_kind (pods_in known) class) row laid in
     let small = within.size in
     let nested = class_placed_nested h c class rows known members ps list holders primary has_pointer a base_places keeps scene sized e own arranged within are in
-    free_room (placed_component (empties_in known) h rows ps (parts_in known) c) (rows ++ row ∷ []) c (after_all (after_all (start_stage c has_pointer) fs a.front_places) ms a.member_places) (free_bases h ps c) a.free_places
+    free_room (placed_component (empties_in known) h rows ps (known_parts_of known) c) (rows ++ row ∷ []) c (stage_after_all (stage_after_all (start_stage c has_pointer) fs a.front_places) ms a.member_places) (free_bases h ps c) a.free_places
     (λ x. refl) (λ v lt. takes v lt row) (frees_below h ps c keeps) laid.frees_placed (omega arith) nested.small
   where
-    takes : (v : ClassId) → v.0 < c.0 → (row : ClassLayout) → nvsize_in (slice_get (rows ++ row ∷ []) v.0) ≤ (placed_component (empties_in known) h rows ps (parts_in known) c (VirtualBase v)).takes
+    takes : (v : ClassId) → v.0 < c.0 → (row : ClassLayout) → nvsize_in (slice_get (rows ++ row ∷ []) v.0) ≤ (placed_component (empties_in known) h rows ps (known_parts_of known) c (VirtualBase v)).takes
     takes v lt row =
         let row_each = scene.row_each in
         let known_each = scene.known_each in

@@ -23,17 +23,17 @@ use Rattle.abi_layout.specs.declared.placed_bases.PlacedBase.{PlacedBase}
 use Rattle.abi_layout.specs.declared.placed_bases.PlacedBase.TheVariants.{Own, VirtualBase}
 use Rattle.cxx_hierarchy.specs.Declarations.{is_plain_base}
 use Rattle.abi_layout.specs.Kinds.{empty_kind, pod_kind}
-use Rattle.abi_layout.specs.Placements.{part_at, parts_at, IsPlace, IsPlaced, after_all}
-use Rattle.abi_layout.specs.invariants.Alignments.{AreWithin}
-use Rattle.abi_layout.specs.invariants.Known.{empties_in, pods_in, parts_in, members_by, AreAllSized}
+use Rattle.abi_layout.specs.Placements.{placed_part, parts_at, IsLeastFreePlace, IsComponentAt, stage_after_all}
+use Rattle.abi_layout.specs.invariants.Alignments.{LieUpTo}
+use Rattle.abi_layout.specs.invariants.Known.{empties_in, pods_in, known_parts_of, members_by, AreAllSized}
 use Rattle.cxx_subobject.specs.VirtualBases.{virtual_bases}
-use Rattle.abi_layout.specs.invariants.Scenes.{IsScene}
+use Rattle.abi_layout.specs.invariants.Scenes.{IsLayoutScene}
 use Rattle.abi_layout.specs.PlacedBases.{front_bases, is_free, free_bases, placed_component, subobject_of, IsPossible}
 use Rattle.abi_layout.specs.invariants.OwnPlaces.{own_place, own_places}
 use Rattle.abi_layout.specs.Repeats.{SomeRepeats}
 use Rattle.abi_layout.specs.invariants.Arrangements.{row_from, IsArranged, IsWithinLimit, components_by}
 use Rattle.abi_layout.specs.Layouts.{placed_place, virtual_place, primary_of, fronts, start_stage, IsLayoutBy}
-use Rattle.abi_layout.specs.invariants.Settled.{held_at, HasRoom, CanSettle, free_table, AreVirtualPlaces}
+use Rattle.abi_layout.specs.invariants.Settled.{held_at, EndsWithinLimit, CanSettle, free_table, AreVirtualPlaces}
 use Rattle.abi_layout.specs.invariants.ClassRows.{filled_row, AreSmaller, IsOneOrOther, IsClassRow, row_parts, IsRowAdded}
 use Rattle.abi_layout.proofs.lists.LastItems.{last_one}
 use Rattle.abi_layout.proofs.rules.PlacedCounts.{placed_length}
@@ -58,7 +58,7 @@ pub record ArePlacesBy (h : Classes) (c : ClassId) (rows : List ClassLayout) (ps
 
 -- a class's row, with the virtual places by the table, gives its bases the places at which they were put
 pub places_from : (h : Classes) (c : ClassId) (class : Class) (rows : List ClassLayout) (ps : List Primary) (first : Stage) (f : PlacedBase → Component) (ms : List Component) (pod : Bool) (a : Arrangement) (r s : ClassLayout) (table : List ℕ)
-    → IsHierarchy h → length rows ≡ c.0 → class_at h c ≡ Some class → IsPossible h c (primary_of ps c) → ((v : ClassId) (p : ℕ) → primary_of ps c ≡ Virtual v → IsPlaced first (f (VirtualBase v)) p → p ≡ 0)
+    → IsHierarchy h → length rows ≡ c.0 → class_at h c ≡ Some class → IsPossible h c (primary_of ps c) → ((v : ClassId) (p : ℕ) → primary_of ps c ≡ Virtual v → IsComponentAt first (f (VirtualBase v)) p → p ≡ 0)
     → IsLayoutBy first (map f (fronts ps c class)) ms (map f (free_bases h ps c)) a.front_places a.free_places pod r → r.base_places ≡ own_places (fronts ps c class) a.front_places class.bases
     → IsVirtualTable h ps c (rows ++ r ∷ []) (free_table c.0 (free_bases h ps c) a.free_places) table → s.virtual_places ≡ map (λ (v : ClassId). get_or table v.0 0) (virtual_bases h c)
     → r.base_places ≡ s.base_places → s.virtual_bases ≡ virtual_bases h c → ArePlacesBy h c (rows ++ s ∷ []) ps class a.front_places a.free_places
@@ -67,7 +67,7 @@ places_from h c class rows ps first f ms pod a r s table keeps size e possible a
       (placed_length first (map f (fronts ps c class)) a.front_places laid.fronts_placed ∙ length-map (fronts ps c class) f)
       (λ i x p at place. front i x p at place);
   frees_are = map_is (placed_place h (rows ++ s ∷ []) c) (free_bases h ps c) a.free_places
-      (placed_length (after_all (after_all first (map f (fronts ps c class)) a.front_places) ms r.member_places) (map f (free_bases h ps c)) a.free_places laid.frees_placed ∙ length-map (free_bases h ps c) f)
+      (placed_length (stage_after_all (stage_after_all first (map f (fronts ps c class)) a.front_places) ms r.member_places) (map f (free_bases h ps c)) a.free_places laid.frees_placed ∙ length-map (free_bases h ps c) f)
       (λ i x p at place. let w = virtual_index frees i x at in ap (placed_place h (rows ++ s ∷ []) c) (sym w.2) ∙ free i w.0 p w.1 place);
 }
   where
@@ -104,14 +104,14 @@ places_from h c class rows ps first f ms pod a r s table keeps size e possible a
         omega arith
 
 -- a table by which the virtual places of a scene are
-scene_table : (h : Classes) (c : ClassId) (rows items : List ClassLayout) (known : List Known) (members : List (List Part)) (ps : List Primary) (list : List Subobject) (holders : List (Option ℕ)) (free_places places : List ℕ) → IsScene h c rows known members ps list holders
+scene_table : (h : Classes) (c : ClassId) (rows items : List ClassLayout) (known : List Known) (members : List (List Part)) (ps : List Primary) (list : List Subobject) (holders : List (Option ℕ)) (free_places places : List ℕ) → IsLayoutScene h c rows known members ps list holders
     → (virtuals : AreVirtualPlaces h items list holders (free_table c.0 (free_bases h ps c) free_places) (virtual_bases h c) places) → IsVirtualTable h ps c items (free_table c.0 (free_bases h ps c) free_places) virtuals.table
 scene_table h c rows items known members ps list holders free_places places scene virtuals =
     settled_table h ps c items list holders (free_table c.0 (free_bases h ps c) free_places) virtuals.table scene.tells scene.holders_are (table_length c.0 (free_bases h ps c) free_places) virtuals.settled
 
 -- so with the places of a scene
 pub places_by : (h : Classes) (c : ClassId) (class : Class) (rows : List ClassLayout) (known : List Known) (members : List (List Part)) (ps : List Primary) (list : List Subobject) (holders : List (Option ℕ)) (has_pointer : Bool) (a : Arrangement) (r s : ClassLayout)
-    → IsHierarchy h → IsScene h c rows known members ps list holders → class_at h c ≡ Some class → IsPossible h c (primary_of ps c) → IsOneOrOther (primary_of ps c) has_pointer → AreSmaller c known
+    → IsHierarchy h → IsLayoutScene h c rows known members ps list holders → class_at h c ≡ Some class → IsPossible h c (primary_of ps c) → IsOneOrOther (primary_of ps c) has_pointer → AreSmaller c known
     → IsLayoutBy (start_stage c has_pointer) (components_by h rows known ps c (fronts ps c class)) (members_by rows known class) (components_by h rows known ps c (free_bases h ps c)) a.front_places a.free_places (pod_kind (pods_in known) class) r
     → r.base_places ≡ own_places (fronts ps c class) a.front_places class.bases → AreVirtualPlaces h (rows ++ r ∷ []) list holders (free_table c.0 (free_bases h ps c) a.free_places) (virtual_bases h c) s.virtual_places
     → r.base_places ≡ s.base_places → s.virtual_bases ≡ virtual_bases h c → ArePlacesBy h c (rows ++ s ∷ []) ps class a.front_places a.free_places
@@ -120,19 +120,19 @@ places_by h c class rows known members ps list holders has_pointer a r s keeps s
     (scene_table h c rows (rows ++ r ∷ []) known members ps list holders a.free_places s.virtual_places scene virtuals) virtuals.are same bases
   where
     f : PlacedBase → Component
-    f = placed_component (empties_in known) h rows ps (parts_in known) c
+    f = placed_component (empties_in known) h rows ps (known_parts_of known) c
 
-    at_start : (v : ClassId) (p : ℕ) → primary_of ps c ≡ Virtual v → IsPlace (start_stage c has_pointer) (f (VirtualBase v)) p → p ≡ 0
+    at_start : (v : ClassId) (p : ℕ) → primary_of ps c ≡ Virtual v → IsLeastFreePlace (start_stage c has_pointer) (f (VirtualBase v)) p → p ≡ 0
     at_start v p is place =
         let has : HasVirtualBase h c v = subst (IsPossible h c) is possible in
         first_at_start c (f (VirtualBase v)) p (brought_of h c rows known ps keeps scene.before smaller (v.0 + 1) (subobject_of c (VirtualBase v)) v (virtual_below h keeps c v has))
-        (subst (λ b. IsPlace (start_stage c b) (f (VirtualBase v)) p) (pointer.without v is) place)
+        (subst (λ b. IsLeastFreePlace (start_stage c b) (f (VirtualBase v)) p) (pointer.without v is) place)
 
 -- the class subobjects of the last stage, by the components
-parts_of_stage : (first : Stage) (fs ms vs : List Component) (ps qs rs : List ℕ) → (after_all (after_all (after_all first fs ps) ms qs) vs rs).parts ≡ first.parts ++ (parts_at fs ps ++ (parts_at ms qs ++ parts_at vs rs))
+parts_of_stage : (first : Stage) (fs ms vs : List Component) (ps qs rs : List ℕ) → (stage_after_all (stage_after_all (stage_after_all first fs ps) ms qs) vs rs).parts ≡ first.parts ++ (parts_at fs ps ++ (parts_at ms qs ++ parts_at vs rs))
 parts_of_stage first fs ms vs ps qs rs =
-    stage_parts (after_all (after_all first fs ps) ms qs) vs rs
-    ∙ (ap (λ (xs : List Part). xs ++ parts_at vs rs) (stage_parts (after_all first fs ps) ms qs ∙ ap (λ (xs : List Part). xs ++ parts_at ms qs) (stage_parts first fs ps))
+    stage_parts (stage_after_all (stage_after_all first fs ps) ms qs) vs rs
+    ∙ (ap (λ (xs : List Part). xs ++ parts_at vs rs) (stage_parts (stage_after_all first fs ps) ms qs ∙ ap (λ (xs : List Part). xs ++ parts_at ms qs) (stage_parts first fs ps))
     ∙ (append_assoc (first.parts ++ parts_at fs ps) (parts_at ms qs) (parts_at vs rs)
     ∙ append_assoc first.parts (parts_at fs ps) (parts_at ms qs ++ parts_at vs rs)))
 
@@ -143,7 +143,7 @@ pub record IsRowWithParts (h : Classes) (c : ClassId) (rows : List ClassLayout) 
 
 -- the row with the virtual bases' places is the row of the class
 row_here : (h : Classes) (c : ClassId) (class : Class) (rows : List ClassLayout) (known : List Known) (members : List (List Part)) (ps : List Primary) (list : List Subobject) (holders : List (Option ℕ)) (has_pointer : Bool) (a : Arrangement) (base_places places : List ℕ) (held : List (Option Subobject))
-    → IsHierarchy h → IsScene h c rows known members ps list holders → class_at h c ≡ Some class → IsPossible h c (primary_of ps c) → IsOneOrOther (primary_of ps c) has_pointer → AreSmaller c known
+    → IsHierarchy h → IsLayoutScene h c rows known members ps list holders → class_at h c ≡ Some class → IsPossible h c (primary_of ps c) → IsOneOrOther (primary_of ps c) has_pointer → AreSmaller c known
     → IsArranged (start_stage c has_pointer) (components_by h rows known ps c (fronts ps c class)) (members_by rows known class) (components_by h rows known ps c (free_bases h ps c)) (pod_kind (pods_in known) class) a
     → base_places ≡ own_places (fronts ps c class) a.front_places class.bases
     → AreVirtualPlaces h (rows ++ row_from a (primary_of ps c) base_places [] [] [] ∷ []) list holders (free_table c.0 (free_bases h ps c) a.free_places) (virtual_bases h c) places
@@ -162,8 +162,8 @@ row_here h c class rows known members ps list holders has_pointer a base_places 
     held = λ v holder has is. held_place h ps rows c r s (free_table c.0 (free_bases h ps c) a.free_places) virtuals.table keeps refl there refl virtuals.are (scene_table h c rows (rows ++ r ∷ []) known members ps list holders a.free_places places scene virtuals) v holder has is;
   };
   parts_are = arranged.parts ∙ (parts_of_stage first fs ms vs a.front_places a.member_places a.free_places
-      ∙ ap (λ ns. part_at c 0 ∷ (parts_at fs ns ++ (parts_at ms a.member_places ++ parts_at vs a.free_places))) (sym by.fronts_are)
-      ∙ ap (λ ns. part_at c 0 ∷ (parts_at fs (map (placed_place h (rows ++ s ∷ []) c) (fronts ps c class)) ++ (parts_at ms a.member_places ++ parts_at vs ns))) (sym by.frees_are));
+      ∙ ap (λ ns. placed_part c 0 ∷ (parts_at fs ns ++ (parts_at ms a.member_places ++ parts_at vs a.free_places))) (sym by.fronts_are)
+      ∙ ap (λ ns. placed_part c 0 ∷ (parts_at fs (map (placed_place h (rows ++ s ∷ []) c) (fronts ps c class)) ++ (parts_at ms a.member_places ++ parts_at vs ns))) (sym by.frees_are));
 }
   where
     first : Stage
@@ -195,7 +195,7 @@ row_here h c class rows known members ps list holders has_pointer a base_places 
 
 -- the same for the primary base that the list of primary bases has
 pub row_is : (h : Classes) (c : ClassId) (class : Class) (rows : List ClassLayout) (known : List Known) (members : List (List Part)) (ps : List Primary) (list : List Subobject) (holders : List (Option ℕ)) (primary : Primary) (has_pointer : Bool) (a : Arrangement) (base_places places : List ℕ) (held : List (Option Subobject))
-    → IsHierarchy h → IsScene h c rows known members ps list holders → class_at h c ≡ Some class → primary_of ps c ≡ primary → IsPossible h c primary → IsOneOrOther primary has_pointer → AreSmaller c known
+    → IsHierarchy h → IsLayoutScene h c rows known members ps list holders → class_at h c ≡ Some class → primary_of ps c ≡ primary → IsPossible h c primary → IsOneOrOther primary has_pointer → AreSmaller c known
     → IsArranged (start_stage c has_pointer) (components_by h rows known ps c (front_bases primary class.bases)) (members_by rows known class) (components_by h rows known ps c (free_bases h ps c)) (pod_kind (pods_in known) class) a
     → base_places ≡ own_places (front_bases primary class.bases) a.front_places class.bases
     → AreVirtualPlaces h (rows ++ row_from a primary base_places [] [] [] ∷ []) list holders (free_table c.0 (free_bases h ps c) a.free_places) (virtual_bases h c) places
@@ -220,7 +220,7 @@ set_last (z ∷ xs) x y (suc i) e = ap (λ ys. z ∷ ys) (set_last xs x y i (ome
 -- what is known of a class whose bases are placed
 pub record IsClassPlaced (h : Classes) (c : ClassId) (class : Class) (rows : List ClassLayout) (known : List Known) (members : List (List Part)) (ps : List Primary) (list : List Subobject) (holders : List (Option ℕ)) (primary : Primary) (has_pointer : Bool) (a : Arrangement) (base_places : List ℕ) : Type 0 where
   pub keeps : IsHierarchy h
-  pub scene : IsScene h c rows known members ps list holders
+  pub scene : IsLayoutScene h c rows known members ps list holders
   pub sized : AreAllSized rows known
   pub there : class_at h c ≡ Some class
   pub own : primary_of ps c ≡ primary
@@ -233,13 +233,13 @@ pub record IsClassPlaced (h : Classes) (c : ClassId) (class : Class) (rows : Lis
 
 -- the same where the rows are read through a copy of their list
 pub class_placed_by : (h : Classes) (c : ClassId) (class : Class) (rows copy : List ClassLayout) (known : List Known) (members : List (List Part)) (ps : List Primary) (list : List Subobject) (holders : List (Option ℕ)) (primary : Primary) (has_pointer : Bool) (a : Arrangement) (base_places : List ℕ)
-    → copy ≡ rows → IsHierarchy h → IsScene h c rows known members ps list holders → AreAllSized rows known → class_at h c ≡ Some class → primary_of ps c ≡ primary
+    → copy ≡ rows → IsHierarchy h → IsLayoutScene h c rows known members ps list holders → AreAllSized rows known → class_at h c ≡ Some class → primary_of ps c ≡ primary
     → IsArranged (start_stage c has_pointer) (components_by h copy known ps c (front_bases primary class.bases)) (members_by copy known class) (components_by h copy known ps c (free_bases h ps c)) (pod_kind (pods_in known) class) a
     → IsWithinLimit a → base_places ≡ own_places (front_bases primary class.bases) a.front_places class.bases → a.member_parts ≡ parts_at (members_by copy known class) a.member_places
     → (SomeRepeats (components_by h copy known ps c (front_bases primary class.bases)) → ⊥) → (SomeRepeats (components_by h copy known ps c (free_bases h ps c)) → ⊥)
     → IsClassPlaced h c class rows known members ps list holders primary has_pointer a base_places
 class_placed_by h c class rows copy known members ps list holders primary has_pointer a base_places same keeps scene sized there own arranged within bases brings fronts_apart frees_apart =
-    subst (λ (xs : List ClassLayout). IsScene h c xs known members ps list holders → AreAllSized xs known → IsClassPlaced h c class xs known members ps list holders primary has_pointer a base_places) same
+    subst (λ (xs : List ClassLayout). IsLayoutScene h c xs known members ps list holders → AreAllSized xs known → IsClassPlaced h c class xs known members ps list holders primary has_pointer a base_places) same
     (λ scene_here sized_here. record {
       keeps = keeps;
       scene = scene_here;
@@ -262,10 +262,10 @@ can_by h c class rows items known members ps list holders table primary has_poin
     (class_placed_can h c class rows known members ps list holders primary has_pointer a base_places o.keeps o.scene o.sized o.there o.own o.arranged o.within o.bases))
 
 pub room_by : (h : Classes) (c : ClassId) (class : Class) (rows items : List ClassLayout) (known : List Known) (members : List (List Part)) (ps : List Primary) (list : List Subobject) (holders : List (Option ℕ)) (primary : Primary) (has_pointer : Bool) (a : Arrangement) (base_places : List ℕ) (free : List PlacedBase) (free_places : List ℕ)
-    → IsClassPlaced h c class rows known members ps list holders primary has_pointer a base_places → items ≡ rows ++ row_from a primary base_places [] [] [] ∷ [] → free ≡ free_bases h ps c → free_places ≡ a.free_places → HasRoom items (free_table c.0 free free_places)
+    → IsClassPlaced h c class rows known members ps list holders primary has_pointer a base_places → items ≡ rows ++ row_from a primary base_places [] [] [] ∷ [] → free ≡ free_bases h ps c → free_places ≡ a.free_places → EndsWithinLimit items (free_table c.0 free free_places)
 room_by h c class rows items known members ps list holders primary has_pointer a base_places free free_places o e f p =
-    subst (λ (xs : List ClassLayout). HasRoom xs (free_table c.0 free free_places)) (sym e) (subst (λ (bs : List PlacedBase). HasRoom (rows ++ row_from a primary base_places [] [] [] ∷ []) (free_table c.0 bs free_places)) (sym f)
-    (subst (λ ns. HasRoom (rows ++ row_from a primary base_places [] [] [] ∷ []) (free_table c.0 (free_bases h ps c) ns)) (sym p)
+    subst (λ (xs : List ClassLayout). EndsWithinLimit xs (free_table c.0 free free_places)) (sym e) (subst (λ (bs : List PlacedBase). EndsWithinLimit (rows ++ row_from a primary base_places [] [] [] ∷ []) (free_table c.0 bs free_places)) (sym f)
+    (subst (λ ns. EndsWithinLimit (rows ++ row_from a primary base_places [] [] [] ∷ []) (free_table c.0 (free_bases h ps c) ns)) (sym p)
     (class_placed_room h c class rows known members ps list holders primary has_pointer a base_places o.keeps o.scene o.sized o.there o.own o.arranged o.within o.bases)))
 
 -- the virtual places by equal lists
@@ -303,8 +303,8 @@ row_added h c class rows items new known members ps list holders primary has_poi
       is_pod = is_pod;
       parts = parts_are ∙ by.parts_are;
       members = brought_are ∙ o.brings;
-      sized = record { align = o.within.align; nvalign = o.within.nvalign; nvsize = o.within.nvsize; size = o.within.size; parts = subst (AreWithin a.size) (sym parts_are) o.within.parts };
-      within = subst (AreWithin a.nvsize) (sym brought_are) o.within.members;
+      sized = record { align = o.within.align; nvalign = o.within.nvalign; nvsize = o.within.nvsize; size = o.within.size; parts = subst (LieUpTo a.size) (sym parts_are) o.within.parts };
+      within = subst (LieUpTo a.nvsize) (sym brought_are) o.within.members;
       fronts_apart = subst (λ (p : Primary). SomeRepeats (components_by h rows known ps c (front_bases p class.bases)) → ⊥) (sym o.own) o.fronts_apart;
       frees_apart = o.frees_apart;
     }

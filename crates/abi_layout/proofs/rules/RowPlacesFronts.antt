@@ -21,8 +21,8 @@ use Rattle.abi_layout.specs.declared.component.Stage.{Stage}
 use Rattle.abi_layout.specs.declared.placed_bases.PlacedBase.{PlacedBase}
 use Rattle.abi_layout.specs.declared.placed_bases.PlacedBase.TheVariants.{Own, VirtualBase}
 use Rattle.abi_sound.specs.declared.class_layout.ClassLayout.{ClassLayout}
-use Rattle.abi_sound.specs.Places.{base_place}
-use Rattle.abi_layout.specs.Placements.{IsPlaced, ArePlaced}
+use Rattle.abi_sound.specs.Places.{direct_base_place}
+use Rattle.abi_layout.specs.Placements.{IsComponentAt, ArePlaced}
 use Rattle.abi_layout.specs.PlacedBases.{is_first_base, is_other_base, front_bases, IsPossible}
 use Rattle.abi_layout.specs.invariants.OwnPlaces.{is_own, own_place, own_places}
 use Rattle.abi_layout.specs.Layouts.{primary_of}
@@ -129,12 +129,12 @@ front_listed h c class (Virtual v) (suc i) b e possible there = plain_of (Virtua
 
 -- the place of a direct base before the members
 pub own_front_place : (h : Classes) (rows : List ClassLayout) (c : ClassId) (class : Class) (row : ClassLayout) (primary : Primary) (ps : List ℕ) (i : ℕ) (b : ClassId) (p : ℕ) → IsHierarchy h → class_at h c ≡ Some class → IsPossible h c primary → slice_get rows c.0 ≡ Some row
-    → row.base_places ≡ own_places (front_bases primary class.bases) ps class.bases → slice_get (front_bases primary class.bases) i ≡ Some (Own b) → slice_get ps i ≡ Some p → base_place h rows c b ≡ p
+    → row.base_places ≡ own_places (front_bases primary class.bases) ps class.bases → slice_get (front_bases primary class.bases) i ≡ Some (Own b) → slice_get ps i ≡ Some p → direct_base_place h rows c b ≡ p
 own_front_place h rows c class row primary ps i b p keeps e possible there are at place =
     let l = front_listed h c class primary i b e possible at in
     let read = slice_get_read class.bases (length class.bases) l.listed.0 l.base refl l.listed.1 (sym l.listed.2) in
     let once : (i j : ℕ) (x y : Base ClassId) → slice_get class.bases i ≡ Some x → slice_get class.bases j ≡ Some y → x.class ≡ y.class → i ≡ j = subst (λ (o : Option Class). (i j : ℕ) (x y : Base ClassId) → slice_get (bases_in o) i ≡ Some x → slice_get (bases_in o) j ≡ Some y → x.class ≡ y.class → i ≡ j) e (keeps.once c) in
-    ap (base_place h rows c) (sym l.class)
+    ap (direct_base_place h rows c) (sym l.class)
     ∙ (base_place_own h rows c class row (front_bases primary class.bases) ps e there are l.listed.0 l.base read l.way
     ∙ (ap (own_place (front_bases primary class.bases) ps) l.class
     ∙ own_place_at (front_bases primary class.bases) ps i b p (fronts_once primary class.bases b once) at place))
@@ -152,13 +152,13 @@ virtual_first (Direct b) bases (suc i) v e = absurd (no_virtual (filter (is_othe
 virtual_first (Virtual w) bases zero v e = let same : w ≡ v = cc in (ap (λ x. Virtual x) same, refl)
 virtual_first (Virtual w) bases (suc i) v e = absurd (no_virtual (filter (is_other_base (Virtual w)) bases) i v e)
 
-pub first_place : (stage : Stage) (g : PlacedBase → Component) (bs : List PlacedBase) (ps : List ℕ) (x : PlacedBase) (p : ℕ) → ArePlaced stage (map g bs) ps → slice_get bs 0 ≡ Some x → slice_get ps 0 ≡ Some p → IsPlaced stage (g x) p
+pub first_place : (stage : Stage) (g : PlacedBase → Component) (bs : List PlacedBase) (ps : List ℕ) (x : PlacedBase) (p : ℕ) → ArePlaced stage (map g bs) ps → slice_get bs 0 ≡ Some x → slice_get ps 0 ≡ Some p → IsComponentAt stage (g x) p
 first_place stage g [] ps x p placed e f = let k : None ≡ Some x = e in cc
 first_place stage g (y ∷ bs) [] x p placed e f = absurd placed
 first_place stage g (y ∷ bs) (q ∷ ps) x p placed e f =
     let same : y ≡ x = cc in
     let is : q ≡ p = cc in
-    subst (λ n. IsPlaced stage (g x) n) is (subst (λ (z : PlacedBase). IsPlaced stage (g z) q) same placed.0)
+    subst (λ n. IsComponentAt stage (g x) n) is (subst (λ (z : PlacedBase). IsComponentAt stage (g z) q) same placed.0)
 
 -- a virtual primary base is held by the class itself
 pub whole_holds : (h : Classes) (ps : List Primary) (c v : ClassId) → primary_of ps c ≡ Virtual v → holder_of h ps c v ≡ Some (whole_of c)

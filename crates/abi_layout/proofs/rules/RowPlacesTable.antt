@@ -20,12 +20,12 @@ use Rattle.abi_primary.specs.Holder.{holder_of}
 use Rattle.abi_primary.proofs.HolderLemmas.{held}
 use Rattle.abi_sound.specs.declared.class_layout.ClassLayout.{ClassLayout}
 use Rattle.cxx_hierarchy.specs.Declarations.{is_plain_base}
-use Rattle.abi_sound.specs.Places.{nth_place, number_in, bases_in, base_place, place_along}
+use Rattle.abi_sound.specs.Places.{nth_place, place_or_zero, base_places_in, direct_base_place, place_along}
 use Rattle.cxx_subobject.specs.VirtualBases.{virtual_bases}
 use Rattle.cxx_subobject.proofs.VirtualBaseLemmas.{virtual_listed}
 use Rattle.abi_layout.specs.Holding.{AreHolders}
 use Rattle.abi_layout.specs.invariants.Settled.{place_by, held_at, AreSettled}
-use Rattle.abi_layout.specs.Layouts.{virtual_places_in, virtual_bases_in, virtual_place, place_from, place_of}
+use Rattle.abi_layout.specs.Layouts.{virtual_places_in, virtual_bases_in, virtual_place, place_from, place_in_class}
 use Rattle.abi_layout.specs.invariants.Scenes.{TellsHolders}
 use Rattle.abi_layout.proofs.lists.Lists.{get_within}
 use Rattle.abi_layout.proofs.algorithm.Searches.{first_that, position_is}
@@ -36,7 +36,7 @@ pub use Rattle.foundation.proofs.Chosen.{has_filter_map}
 pub use Rattle.foundation.proofs.Members.{map_same as map_agrees}
 
 -- what the virtual bases' places in the last row leave: the places of direct bases, and along paths
-bases_stay : (before : List ClassLayout) (r s : ClassLayout) → r.base_places ≡ s.base_places → (i : ℕ) → bases_in (slice_get (before ++ r ∷ []) i) ≡ bases_in (slice_get (before ++ s ∷ []) i)
+bases_stay : (before : List ClassLayout) (r s : ClassLayout) → r.base_places ≡ s.base_places → (i : ℕ) → base_places_in (slice_get (before ++ r ∷ []) i) ≡ base_places_in (slice_get (before ++ s ∷ []) i)
 bases_stay [] r s e zero = e
 bases_stay [] r s e (suc i) = refl
 bases_stay (x ∷ before) r s e zero = refl
@@ -46,7 +46,7 @@ along_stays : (h : Classes) (before : List ClassLayout) (r s : ClassLayout) → 
 along_stays h before r s e d [] = refl
 along_stays h before r s e d (b ∷ path) =
     ap (λ ps. nth_place ps (position (λ (base : Base ClassId). nat_eq base.class.0 b.0) (filter is_plain_base (bases_of h d))) + place_along h (before ++ r ∷ []) b path) (bases_stay before r s e d.0)
-    ∙ ap (λ n. base_place h (before ++ s ∷ []) d b + n) (along_stays h before r s e b path)
+    ∙ ap (λ n. direct_base_place h (before ++ s ∷ []) d b + n) (along_stays h before r s e b path)
 
 pub from_stays : (h : Classes) (before : List ClassLayout) (r s : ClassLayout) → r.base_places ≡ s.base_places → (path : List ClassId) → place_from h (before ++ r ∷ []) path ≡ place_from h (before ++ s ∷ []) path
 from_stays h before r s e [] = refl
@@ -63,7 +63,7 @@ virtual_place_is h rows c row table there bases are v has =
     ∙ (ap (λ (ws : List ClassId). nth_place row.virtual_places (position p ws)) bases
     ∙ (ap (λ ps. nth_place ps (position p vs)) are
     ∙ (ap (nth_place (map (λ (w : ClassId). get_or table w.0 0) vs)) (position_is p vs first)
-    ∙ (ap number_in (slice_get-map (λ (w : ClassId). get_or table w.0 0) vs first.index ∙ ap (option_map (λ (w : ClassId). get_or table w.0 0)) first.there)
+    ∙ (ap place_or_zero (slice_get-map (λ (w : ClassId). get_or table w.0 0) vs first.index ∙ ap (option_map (λ (w : ClassId). get_or table w.0 0)) first.there)
     ∙ ap (λ n. get_or table n 0) same))))
 
 -- the subobject at the number that the table of holders has is the holder
@@ -87,7 +87,7 @@ holders_are h ps c list holders keeps same are =
 
 -- the place of a subobject by the table is its place by the row with the places of the table
 pub place_by_is : (h : Classes) (before : List ClassLayout) (c : ClassId) (r s : ClassLayout) (table : List ℕ) → IsHierarchy h → r.base_places ≡ s.base_places → slice_get (before ++ s ∷ []) c.0 ≡ Some s → s.virtual_bases ≡ virtual_bases h c → s.virtual_places ≡ map (λ (v : ClassId). get_or table v.0 0) (virtual_bases h c)
-    → (t : Subobject) → IsSubobject h c t → place_by h (before ++ r ∷ []) table t ≡ place_of h (before ++ s ∷ []) c t
+    → (t : Subobject) → IsSubobject h c t → place_by h (before ++ r ∷ []) table t ≡ place_in_class h (before ++ s ∷ []) c t
 place_by_is h before c r s table keeps e there bases are _ (whole path leads) = ap (λ n. 0 + n) (from_stays h before r s e (c ∷ path))
 place_by_is h before c r s table keeps e there bases are _ (shared w path has leads) =
     ap (λ n. n + place_from h (before ++ r ∷ []) (w ∷ path)) (sym (virtual_place_is h (before ++ s ∷ []) c s table there bases are w (virtual_listed h keeps c w has)))
@@ -108,7 +108,7 @@ settled_table h ps c rows list holders old table same all size settled = record 
 -- a virtual base that is held lies where its holder does
 pub held_place : (h : Classes) (ps : List Primary) (before : List ClassLayout) (c : ClassId) (r s : ClassLayout) (old table : List ℕ) → IsHierarchy h → r.base_places ≡ s.base_places → slice_get (before ++ s ∷ []) c.0 ≡ Some s
     → s.virtual_bases ≡ virtual_bases h c → s.virtual_places ≡ map (λ (v : ClassId). get_or table v.0 0) (virtual_bases h c) → IsVirtualTable h ps c (before ++ r ∷ []) old table
-    → (v : ClassId) (holder : Subobject) → Contains (virtual_bases h c) v → holder_of h ps c v ≡ Some holder → virtual_place (before ++ s ∷ []) c v ≡ place_of h (before ++ s ∷ []) c holder
+    → (v : ClassId) (holder : Subobject) → Contains (virtual_bases h c) v → holder_of h ps c v ≡ Some holder → virtual_place (before ++ s ∷ []) c v ≡ place_in_class h (before ++ s ∷ []) c holder
 held_place h ps before c r s old table keeps e there bases are made v holder has is =
     let facts = held h ps c v (preorder h c) (Some holder) refl (preorder_lists h c keeps) is in
     virtual_place_is h (before ++ s ∷ []) c s table there bases are v has

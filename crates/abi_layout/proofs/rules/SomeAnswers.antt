@@ -20,7 +20,7 @@ use Rattle.abi_layout.specs.Repeats.{HasRepeat}
 use Rattle.abi_layout.specs.Brought.{brought_by}
 use Rattle.abi_layout.specs.PlacedBases.{class_of_placed, subobject_of, free_bases}
 use Rattle.abi_layout.specs.Layouts.{fronts, object_parts, BringsTwice}
-use Rattle.abi_layout.specs.Refusals.{IsNextClass, IsLargeClass, HasSharedPlace, IsWellLaid, StopsAt, by_size, by_place, IsFirstStop}
+use Rattle.abi_layout.specs.Refusals.{IsNextToLayOut, IsLargeClass, HasSharedPlace, IsWellLaid, StopsLayout, by_size, by_place, IsFirstStop}
 use Rattle.abi_layout.proofs.lists.Lists.{number}
 use Rattle.abi_layout.proofs.rules.Parts.{split, opposed}
 use Rattle.abi_layout.proofs.rules.Stages.{Has}
@@ -105,7 +105,7 @@ twice_along h c rows others ps qs class kind a b d twice =
 pub shared_decided : (h : Classes) → IsHierarchy h → (c : ClassId) → c.0 < length h → HasSharedPlace h c ⊎ (HasSharedPlace h c → ⊥)
 shared_decided h keeps c lt = by_front (first_exist h keeps (c.0 + 1) (omega arith))
   where
-    by_next : (next : IsNextClass h c) → HasSharedPlace h c ⊎ (HasSharedPlace h c → ⊥)
+    by_next : (next : IsNextToLayOut h c) → HasSharedPlace h c ⊎ (HasSharedPlace h c → ⊥)
     by_next next = ⊎_elim
         (λ twice. inl (record { next = next; twice = twice }))
         (λ once. inr (λ shared.
@@ -183,7 +183,7 @@ accepted_or_stopped h keeps (suc n) le = ⊎_elim
     (λ s. inr (stop_more h n s))
     (accepted_or_stopped h keeps n (omega arith))
   where
-    stopped : HasLayout h n → (stop : Stop) → StopsAt h (number n) stop → HasStop h (suc n)
+    stopped : HasLayout h n → (stop : Stop) → StopsLayout h (number n) stop → HasStop h (suc n)
     stopped laid stop is = record { stop = stop; first = record { class = number n; known = omega arith; rows = laid.rows; before = laid.well; stops = is } }
 
     shared_stop : HasLayout h n → HasMore h (n + 1) → (IsLargeClass h (number n) → ⊥) → HasSharedPlace h (number n) → HasStop h (suc n)

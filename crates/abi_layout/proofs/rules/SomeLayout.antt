@@ -14,7 +14,7 @@ use Rattle.abi_primary.specs.PrimaryBase.{IsPrimary}
 use Rattle.abi_sound.specs.declared.class_layout.ClassLayout.{ClassLayout}
 use Rattle.abi_sound.specs.Places.{align_in, nvalign_in}
 use Rattle.abi_layout.specs.Kinds.{is_kind}
-use Rattle.abi_layout.specs.Placements.{after_all, member_component}
+use Rattle.abi_layout.specs.Placements.{stage_after_all, member_component}
 use Rattle.abi_layout.specs.Layouts.{primary_of, placed_place, fronts, front_components, free_components, object_parts, start_stage, IsLaidRow, is_shifted, IsLaidBy, AreFirstLaid}
 use Rattle.abi_layout.specs.PlacedBases.{free_bases}
 use Rattle.abi_layout.proofs.rules.Existence.{align_grows}
@@ -43,8 +43,8 @@ row_positive h rows nearly ps c class row is =
     let free_places = map (placed_place h rows c) (free_bases h ps c) in
     let start = start_positive c is.has_pointer in
     let x = align_grows first fs front_places in
-    let y = align_grows (after_all first fs front_places) ms row.member_places in
-    let z = align_grows (after_all (after_all first fs front_places) ms row.member_places) vs free_places in
+    let y = align_grows (stage_after_all first fs front_places) ms row.member_places in
+    let z = align_grows (stage_after_all (stage_after_all first fs front_places) ms row.member_places) vs free_places in
     let e = is.placed.nvalign in
     let f = is.placed.align in
     record { nvalign = omega arith; align = omega arith }

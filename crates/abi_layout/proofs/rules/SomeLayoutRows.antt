@@ -27,7 +27,7 @@ use Rattle.abi_sound.specs.Sound.{Divides}
 use Rattle.cxx_hierarchy.specs.Declarations.{is_plain_base}
 use Rattle.abi_sound.specs.Places.{align_in, nvalign_in}
 use Rattle.abi_layout.specs.Kinds.{is_empty, is_pod}
-use Rattle.abi_layout.specs.Placements.{IsPlace, behind, after_all, bits_at, align_of_type, member_component}
+use Rattle.abi_layout.specs.Placements.{IsLeastFreePlace, behind, stage_after_all, bits_at, align_of_type, member_component}
 use Rattle.cxx_subobject.specs.VirtualBases.{virtual_bases}
 use Rattle.abi_layout.specs.PlacedBases.{free_bases, placed_component, subobject_of, IsPossible}
 use Rattle.abi_layout.specs.invariants.OwnPlaces.{own_place, own_places}
@@ -60,11 +60,11 @@ pub record HasArrangement (first : Stage) (fs ms vs : List Component) (pod : Boo
 pub arrangement_exists : (first : Stage) (fs ms vs : List Component) (pod : Bool) → 1 ≤ first.align → ArePositive fs → ArePositive ms → ArePositive vs → HasArrangement first fs ms vs pod
 arrangement_exists first fs ms vs pod positive f m v =
     let front = places_exist first fs f in
-    let after_fronts = after_all first fs front.places in
+    let after_fronts = stage_after_all first fs front.places in
     let member = places_exist after_fronts ms m in
-    let mid = after_all after_fronts ms member.places in
+    let mid = stage_after_all after_fronts ms member.places in
     let free = places_exist mid vs v in
-    let last = after_all mid vs free.places in
+    let last = stage_after_all mid vs free.places in
     let above : 1 ≤ last.align = let x = align_grows first fs front.places in let y = align_grows after_fronts ms member.places in let z = align_grows mid vs free.places in omega arith in
     let size = rounded (max 1 last.size) last.align in
     record {
@@ -152,7 +152,7 @@ each_possible h n ps size possible c = ⊎_elim
 
 -- a virtual primary base lies at the start of its class
 virtual_at_start : (h : Classes) (c : ClassId) (class : Class) (rows : List ClassLayout) (ps : List Primary) (has_pointer : Bool) → IsReady h c class rows ps has_pointer → (v : ClassId) (p : ℕ) → primary_of ps c ≡ Virtual v
-    → IsPlace (start_stage c has_pointer) (placed_component (is_empty h) h rows ps (object_parts h rows ps) c (VirtualBase v)) p → p ≡ 0
+    → IsLeastFreePlace (start_stage c has_pointer) (placed_component (is_empty h) h rows ps (object_parts h rows ps) c (VirtualBase v)) p → p ≡ 0
 virtual_at_start h c class rows ps has_pointer ready v p is place =
     let f : PlacedBase → Component = placed_component (is_empty h) h rows ps (object_parts h rows ps) c in
     let before = before_by h (c.0 + 1) ps ready.keeps ready.primary_each ready.possible in
@@ -160,7 +160,7 @@ virtual_at_start h c class rows ps has_pointer ready v p is place =
     let lt = virtual_below h ready.keeps c v has in
     let under : AreUnder (v.0 + 1) (f (VirtualBase v)).parts = brought_under h rows ps (object_parts h rows ps) c ready.keeps before
     (λ d. objects_fall h rows ps ready.keeps before (λ e k at. each_possible h (c.0 + 1) ps ready.primary_each ready.possible e) (d.0 + 1) d) (v.0 + 1) (subobject_of c (VirtualBase v)) v in
-    let first = subst (λ b. IsPlace (start_stage c b) (f (VirtualBase v)) p) (ready.without v is) place in
+    let first = subst (λ b. IsLeastFreePlace (start_stage c b) (f (VirtualBase v)) p) (ready.without v is) place in
     let multiple : Divides (f (VirtualBase v)).align 0 = record { times = 0; is = omega arith } in
     let le = first.least 0 (behind 0 (omega arith) multiple) (no_conflict c (v.0 + 1) 0 (f (VirtualBase v)).parts (omega arith) under) in
     omega arith

@@ -12,10 +12,10 @@ use Rattle.cxx_subobject.specs.declared.Subobject.{Subobject}
 use Rattle.abi_primary.specs.declared.Primary.{Primary}
 use Rattle.abi_sound.specs.declared.class_layout.ClassLayout.{ClassLayout}
 use Rattle.cxx_hierarchy.specs.Declarations.{is_plain_base}
-use Rattle.abi_sound.specs.Places.{size_of_value, size_in, members_in}
+use Rattle.abi_sound.specs.Places.{size_of_value, size_in_row, member_places_in}
 use Rattle.abi_layout.specs.Kinds.{is_kind_in, in_class}
 use Rattle.abi_layout.specs.Placements.{nvsize_in}
-use Rattle.abi_layout.specs.Holding.{virtual_in, virtual_primary}
+use Rattle.abi_layout.specs.Holding.{virtual_in, virtual_primary_base}
 use Rattle.abi_layout.specs.Layouts.{primary_of, IsLaidBy}
 use Rattle.abi_layout.proofs.lists.Bounds.{within_or_past}
 use Rattle.abi_layout.proofs.sound.ObjectTree.{Node, Complete, Within, Leaf, Pointer, Placement, Contents, Measures, IsArranged, AreArranged, IsSoundTree, dynamic_kind, is_no_primary, one_at, own_pointer, inner_base, placed_members, virtual_start, contents_of_object, contents_of, span_of_value, span_of, measures_of}
@@ -40,7 +40,7 @@ past_pointer h primaries d e =
 -- such a class has nothing
 past_within : (h : Classes) (rows : List ClassLayout) (primaries : List Primary) (c : ClassId) (s : Subobject) (d : ClassId) → class_at h d ≡ None → slice_get primaries d.0 ≡ None → contents_of h rows primaries (Within c s d) ≡ []
 past_within h rows primaries c s d e f =
-    ap (λ (o : Option Class). placed_members rows d 0 (class_members_in o) (members_in (slice_get rows d.0)) ++ (map (inner_base h rows c s d) (filter is_plain_base (bases_in o)) ++ (virtual_start h rows primaries c s (virtual_primary primaries d) ++ own_pointer h primaries d))) e
+    ap (λ (o : Option Class). placed_members rows d 0 (class_members_in o) (member_places_in (slice_get rows d.0)) ++ (map (inner_base h rows c s d) (filter is_plain_base (bases_in o)) ++ (virtual_start h rows primaries c s (virtual_primary_base primaries d) ++ own_pointer h primaries d))) e
     ∙ (ap (λ (o : Option Primary). virtual_start h rows primaries c s (virtual_in o) ++ own_pointer h primaries d) f
     ∙ past_pointer h primaries d e)
 
@@ -53,7 +53,7 @@ pub arranged : (h : Classes) (rows : List ClassLayout) (nearly : List Bool) (pri
 arranged h rows nearly primaries keeps laid = record { node = node; positive = positive }
   where
     positive : (n : Node) → 0 < span_of rows n
-    positive (Complete c) = let m = le-max_left 1 (size_in (slice_get rows c.0)) in omega arith
+    positive (Complete c) = let m = le-max_left 1 (size_in_row (slice_get rows c.0)) in omega arith
     positive (Within c s d) = let m = le-max_left 1 (nvsize_in (slice_get rows d.0)) in omega arith
     positive (Leaf d m w t) = value_positive w t
     positive Pointer = omega arith

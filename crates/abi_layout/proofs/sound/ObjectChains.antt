@@ -16,11 +16,11 @@ use Rattle.abi_primary.specs.Holder.{holder_of}
 use Rattle.abi_sound.specs.declared.class_layout.ClassLayout.{ClassLayout}
 use Rattle.abi_layout.specs.declared.placed_bases.PlacedBase.TheVariants.{Own, VirtualBase}
 use Rattle.cxx_hierarchy.specs.Declarations.{is_plain_base}
-use Rattle.abi_sound.specs.Places.{Places, base_place, primary_in, nth_holder, holder_in}
+use Rattle.abi_sound.specs.Places.{Places, direct_base_place, primary_in, nth_holder, holder_in}
 use Rattle.abi_layout.specs.Placements.{nvsize_in}
 use Rattle.abi_sound.proofs.PrimaryParts.{IsPrimaryPart, by_direct, by_holder}
 use Rattle.cxx_subobject.specs.VirtualBases.{virtual_bases}
-use Rattle.abi_layout.specs.Holding.{virtual_primary, is_holder, holds_base}
+use Rattle.abi_layout.specs.Holding.{virtual_primary_base, is_holder, holds_base}
 use Rattle.abi_layout.specs.PlacedBases.{free_bases}
 use Rattle.abi_layout.specs.Layouts.{primary_of, fronts, placed_place}
 use Rattle.abi_sound.specs.Places.{places_of}
@@ -129,12 +129,12 @@ own_there h rows nearly ps known c _ _ _ lt (inner_part s d valid class) owns =
     record {
       place = 0;
       stride = 8;
-      there = has_right (members_at h rows d) _ _ (has_right (map (inner_base h rows c s d) (filter is_plain_base (bases_of h d))) _ _ (has_right (virtual_start h rows ps c s (virtual_primary ps d)) _ _ here_is));
+      there = has_right (members_at h rows d) _ _ (has_right (map (inner_base h rows c s d) (filter is_plain_base (bases_of h d))) _ _ (has_right (virtual_start h rows ps c s (virtual_primary_base ps d)) _ _ here_is));
       at = refl;
     }
 
 -- the direct primary base of a part
-direct_there : (h : Classes) (rows : List ClassLayout) (nearly : List Bool) (ps : List Primary) → IsLaidOut h rows nearly ps → (c d b : ClassId) (n : Node) (s : Subobject) → c.0 < length h → IsPart h c n s d → IsDirectBase h d false b → base_place h rows d b ≡ 0 → IsAtStart h rows ps n (Within c (subobject s.root (s.path ++ b ∷ [])) b)
+direct_there : (h : Classes) (rows : List ClassLayout) (nearly : List Bool) (ps : List Primary) → IsLaidOut h rows nearly ps → (c d b : ClassId) (n : Node) (s : Subobject) → c.0 < length h → IsPart h c n s d → IsDirectBase h d false b → direct_base_place h rows d b ≡ 0 → IsAtStart h rows ps n (Within c (subobject s.root (s.path ++ b ∷ [])) b)
 direct_there h rows nearly ps known c _ b _ _ lt whole_part edge at =
     let r = row_of h rows nearly ps known c lt in
     record {
@@ -147,19 +147,19 @@ direct_there h rows nearly ps known c _ b _ _ lt (inner_part s d valid class) ed
     let listed : Has (filter is_plain_base (bases_of h d)) edge.base = in_filter is_plain_base (bases_of h d) edge.base (has_of (bases_of h d) edge.base edge.listed) (ap not edge.way) in
     let mapped : Has (map (inner_base h rows c s d) (filter is_plain_base (bases_of h d))) (inner_base h rows c s d edge.base) = has_map (inner_base h rows c s d) (filter is_plain_base (bases_of h d)) edge.base listed in
     let there : Has (contents_of h rows ps (Within c s d)) (inner_base h rows c s d edge.base) = has_right (members_at h rows d) _ _ (has_left (map (inner_base h rows c s d) (filter is_plain_base (bases_of h d))) _ _ mapped) in
-    subst (λ (x : ClassId). base_place h rows d x ≡ 0 → IsAtStart h rows ps (Within c s d) (Within c (subobject s.root (s.path ++ x ∷ [])) x)) edge.class
-    (λ zero_at. record { place = base_place h rows d edge.base.class; stride = nvsize_in (slice_get rows edge.base.class.0); there = there; at = zero_at }) at
+    subst (λ (x : ClassId). direct_base_place h rows d x ≡ 0 → IsAtStart h rows ps (Within c s d) (Within c (subobject s.root (s.path ++ x ∷ [])) x)) edge.class
+    (λ zero_at. record { place = direct_base_place h rows d edge.base.class; stride = nvsize_in (slice_get rows edge.base.class.0); there = there; at = zero_at }) at
 
 -- the virtual primary base of a part, or the pointer in its place
-virtual_there : (h : Classes) (rows : List ClassLayout) (ps : List Primary) (c d v : ClassId) (s : Subobject) (b : Bool) → virtual_primary ps d ≡ Some v → holds_base h ps c s v ≡ b → IsAtStart h rows ps (Within c s d) (if b then Within c (shared_base v) v else Pointer)
+virtual_there : (h : Classes) (rows : List ClassLayout) (ps : List Primary) (c d v : ClassId) (s : Subobject) (b : Bool) → virtual_primary_base ps d ≡ Some v → holds_base h ps c s v ≡ b → IsAtStart h rows ps (Within c s d) (if b then Within c (shared_base v) v else Pointer)
 virtual_there h rows ps c d v s b e holds =
     let x = one_at (if b then Within c (shared_base v) v else Pointer) 0 (nvsize_in (slice_get rows v.0)) in
     let start : Has (virtual_start h rows ps c s (Some v)) x = inl (ap (λ o. one_at (if o then Within c (shared_base v) v else Pointer) 0 (nvsize_in (slice_get rows v.0))) holds) in
-    let there : Has (virtual_start h rows ps c s (virtual_primary ps d)) x = subst (λ (o : Option ClassId). Has (virtual_start h rows ps c s o) x) (sym e) start in
+    let there : Has (virtual_start h rows ps c s (virtual_primary_base ps d)) x = subst (λ (o : Option ClassId). Has (virtual_start h rows ps c s o) x) (sym e) start in
     record {
       place = 0;
       stride = nvsize_in (slice_get rows v.0);
-      there = has_right (members_at h rows d) _ _ (has_right (map (inner_base h rows c s d) (filter is_plain_base (bases_of h d))) _ _ (has_left (virtual_start h rows ps c s (virtual_primary ps d)) _ _ there));
+      there = has_right (members_at h rows d) _ _ (has_right (map (inner_base h rows c s d) (filter is_plain_base (bases_of h d))) _ _ (has_left (virtual_start h rows ps c s (virtual_primary_base ps d)) _ _ there));
       at = refl;
     }
 

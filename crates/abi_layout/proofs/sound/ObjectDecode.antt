@@ -14,16 +14,16 @@ use Rattle.cxx_subobject.specs.declared.Subobject.{Subobject}
 use Rattle.cxx_subobject.specs.Subobjects.{subobject, whole_of, IsSubobject, whole, shared, class_of}
 use Rattle.abi_primary.specs.declared.Primary.{Primary}
 use Rattle.abi_sound.specs.declared.class_layout.ClassLayout.{ClassLayout}
-use Rattle.abi_sound.specs.Places.{number_in, members_in}
+use Rattle.abi_sound.specs.Places.{place_or_zero, member_places_in}
 use Rattle.cxx_hierarchy.specs.Declarations.{elements_of}
 use Rattle.cxx_subobject.specs.declared.locations.Hop.{Hop}
 use Rattle.cxx_subobject.specs.declared.locations.Hop.TheVariants.{Inherit, Member as Element}
 use Rattle.cxx_subobject.specs.Locations.{IsElement, LeadsTo, to_subobject, to_value, to_inner}
-use Rattle.abi_sound.specs.Locations.{place_at}
+use Rattle.abi_sound.specs.Locations.{place_along_hops}
 use Rattle.abi_sound.proofs.LeafSpans.{last_element, last_inner, EndsIn}
 use Rattle.abi_sound.proofs.PlaceLemmas.{place_at_base, place_at_value, place_at_inner}
-use Rattle.abi_layout.specs.Placements.{size_of_type, member_component, after_all}
-use Rattle.abi_layout.specs.Layouts.{place_of, fronts, object_parts, front_components, start_stage, placed_place}
+use Rattle.abi_layout.specs.Placements.{size_of_member_type, member_component, stage_after_all}
+use Rattle.abi_layout.specs.Layouts.{place_in_class, fronts, object_parts, front_components, start_stage, placed_place}
 use Rattle.abi_sound.specs.Places.{places_of}
 use Rattle.abi_layout.proofs.lists.Lists.{get_within, has_at}
 use Rattle.abi_layout.proofs.rules.Stages.{Has, has_left, has_right}
@@ -68,7 +68,7 @@ members_there h rows nearly ps c _ _ _ x known lt whole_part has =
 members_there h rows nearly ps c _ _ _ x known lt (inner_part s d valid e) has = has_left (members_at h rows d) _ _ has
 
 abbrev pub member_placement : List ClassLayout → ClassId → Member ClassId → ℕ → ℕ → Placement
-member_placement rows d member place m = record { node = node_of_member d m member.width member.ty; place = place; count = elements_of member.count; stride = size_of_type rows member.ty; member = m }
+member_placement rows d member place m = record { node = node_of_member d m member.width member.ty; place = place; count = elements_of member.count; stride = size_of_member_type rows member.ty; member = m }
 
 member_has : (rows : List ClassLayout) (d : ClassId) (n : ℕ) (members : List (Member ClassId)) (places : List ℕ) (m : ℕ) (member : Member ClassId) (place : ℕ) → slice_get members m ≡ Some member → slice_get places m ≡ Some place → Has (placed_members rows d n members places) (member_placement rows d member place (n + m))
 member_has rows d n [] places m member place e f = let g : None ≡ Some member = e in cc
@@ -93,7 +93,7 @@ element_within h d m i type e = by_class (class_at h d) refl e.there
 -- each member has its place
 pub member_length : (h : Classes) (rows : List ClassLayout) (nearly : List Bool) (ps : List Primary) (d : ClassId) (r : HasRow h rows nearly ps d) → length r.row.member_places ≡ length r.class.members
 member_length h rows nearly ps d r =
-    placed_length (after_all (start_stage d r.laid.has_pointer) (front_components h rows ps (object_parts h rows ps) d r.class) (map (placed_place h rows d) (fronts ps d r.class)))
+    placed_length (stage_after_all (start_stage d r.laid.has_pointer) (front_components h rows ps (object_parts h rows ps) d r.class) (map (placed_place h rows d) (fronts ps d r.class)))
     (map (member_component rows (object_parts h rows ps)) r.class.members) r.row.member_places r.laid.placed.members_placed
     ∙ length_map (member_component rows (object_parts h rows ps)) r.class.members
   where
@@ -109,8 +109,8 @@ pub record IsElementStep (h : Classes) (rows : List ClassLayout) (ps : List Prim
   pub copy : step.copy ≡ i
   pub number : to.member ≡ m
   pub node : to.node ≡ node_of_member d m (width_of_member h d m) type
-  pub stride : to.stride ≡ size_of_type rows type
-  pub start : start_of to step.copy ≡ (places_of h rows).member d m + i * size_of_type rows type
+  pub stride : to.stride ≡ size_of_member_type rows type
+  pub start : start_of to step.copy ≡ (places_of h rows).member d m + i * size_of_member_type rows type
 
 pub element_step : (h : Classes) (rows : List ClassLayout) (nearly : List Bool) (ps : List Primary) → IsLaidOut h rows nearly ps → (c d : ClassId) (n : Node) (s : Subobject) (m i : ℕ) (type : FieldType ClassId) → c.0 < length h → IsPart h c n s d → IsElement h d m i type → IsElementStep h rows ps n d m i type
 element_step h rows nearly ps known c d n s m i type lt part e =
@@ -119,11 +119,11 @@ element_step h rows nearly ps known c d n s m i type lt part e =
     let within = slice_get_within r.class.members m e.member there in
     let count = member_length h rows nearly ps d r in
     let p = get_within r.row.member_places m (omega arith) in
-    let place : slice_get (members_in (slice_get rows d.0)) m ≡ Some p.0 = ap (λ (o : Option ClassLayout). slice_get (members_in o) m) r.row_there ∙ p.1 in
+    let place : slice_get (member_places_in (slice_get rows d.0)) m ≡ Some p.0 = ap (λ (o : Option ClassLayout). slice_get (member_places_in o) m) r.row_there ∙ p.1 in
     let to = member_placement rows d e.member p.0 m in
-    let listed : Has (members_at h rows d) to = subst (λ k. Has (members_at h rows d) (member_placement rows d e.member p.0 k)) (let z : 0 + m ≡ m = omega arith in z) (member_has rows d 0 (members_of h d) (members_in (slice_get rows d.0)) m e.member p.0 e.there place) in
+    let listed : Has (members_at h rows d) to = subst (λ k. Has (members_at h rows d) (member_placement rows d e.member p.0 k)) (let z : 0 + m ≡ m = omega arith in z) (member_has rows d 0 (members_of h d) (member_places_in (slice_get rows d.0)) m e.member p.0 e.there place) in
     let k = index_of (contents_of h rows ps n) to (members_there h rows nearly ps c d n s to known lt part listed) in
-    let at : (places_of h rows).member d m ≡ p.0 = ap number_in place in
+    let at : (places_of h rows).member d m ≡ p.0 = ap place_or_zero place in
     record {
       step = record { number = k.0; copy = i };
       to = to;
@@ -131,8 +131,8 @@ element_step h rows nearly ps known c d n s m i type lt part e =
       copy = refl;
       number = refl;
       node = ap (λ (o : Option (Member ClassId)). node_of_member d m (width_in o) e.member.ty) (sym e.there) ∙ ap (node_of_member d m (width_of_member h d m)) e.type_is;
-      stride = ap (size_of_type rows) e.type_is;
-      start = ap (λ z. p.0 + i * z) (ap (size_of_type rows) e.type_is) ∙ ap (λ z. z + i * size_of_type rows type) (sym at);
+      stride = ap (size_of_member_type rows) e.type_is;
+      start = ap (λ z. p.0 + i * z) (ap (size_of_member_type rows) e.type_is) ∙ ap (λ z. z + i * size_of_member_type rows type) (sym at);
     }
 
 -- the hops of a step to an element
@@ -161,16 +161,16 @@ step_down contents n j m s p q at k to node start x = subst (λ z. Reaches conte
 
 -- what lies in an element is reached from the whole
 through_element : (h : Classes) (rows : List ClassLayout) (nearly : List Bool) (ps : List Primary) → IsLaidOut h rows nearly ps → (c d : ClassId) (s : Subobject) (m i : ℕ) (type : FieldType ClassId) (rest : List Step) (r : ℕ) (j : Node) → c.0 < length h → IsSubobject h c s → class_of s ≡ Some d → IsElement h d m i type → Reaches (contents_of h rows ps) (node_of_member d m (width_of_member h d m) type) rest r j
-    → HasSteps (contents_of h rows ps) c (Inherit s ∷ Element m i ∷ decode (contents_of h rows ps) rest (node_of_member d m (width_of_member h d m) type)) (place_of h rows c s + ((places_of h rows).member d m + i * size_of_type rows type) + r) j
+    → HasSteps (contents_of h rows ps) c (Inherit s ∷ Element m i ∷ decode (contents_of h rows ps) rest (node_of_member d m (width_of_member h d m) type)) (place_in_class h rows c s + ((places_of h rows).member d m + i * size_of_member_type rows type) + r) j
 through_element h rows nearly ps known c d s m i type rest r j lt valid class e x =
     let contents = contents_of h rows ps in
     let part = part_of h c s d valid class in
     let way = subobject_reached h rows nearly ps known c s d lt valid class in
     let k = element_step h rows nearly ps known c d (node_of c s d) s m i type lt part e in
-    let at = (places_of h rows).member d m + i * size_of_type rows type in
+    let at = (places_of h rows).member d m + i * size_of_member_type rows type in
     let y = step_down contents (node_of c s d) j (node_of_member d m (width_of_member h d m) type) k.step rest r at k.to k.steps k.node k.start x in
-    let z = ways_joined contents (Complete c) (node_of c s d) j way.steps (k.step ∷ rest) (place_of h rows c s) (at + r) way.reaches y in
-    let sum : place_of h rows c s + (at + r) ≡ place_of h rows c s + at + r = omega arith in
+    let z = ways_joined contents (Complete c) (node_of c s d) j way.steps (k.step ∷ rest) (place_in_class h rows c s) (at + r) way.reaches y in
+    let sum : place_in_class h rows c s + (at + r) ≡ place_in_class h rows c s + at + r = omega arith in
     record {
       steps = way.steps ++ (k.step ∷ rest);
       reaches = subst (λ q. Reaches contents (Complete c) (way.steps ++ (k.step ∷ rest)) q j) sum z;
@@ -212,12 +212,12 @@ inner_end h c d e s m i (hop ∷ hops) (Value type) node class element ends = re
 steps_along : (contents : Contents) (c : ClassId) (hops others : List Hop) (q r : ℕ) (node : Node) → hops ≡ others → q ≡ r → HasSteps contents c hops q node → HasSteps contents c others r node
 steps_along contents c hops others q r node e f x = subst (λ (t : List Hop). HasSteps contents c t r node) e (subst (λ z. HasSteps contents c hops z node) f x)
 
-pub located : (h : Classes) (rows : List ClassLayout) (nearly : List Bool) (ps : List Primary) → IsLaidOut h rows nearly ps → (c : ClassId) (hops : List Hop) (type : FieldType ClassId) → c.0 < length h → LeadsTo h c hops type → IsLocated h rows ps c hops type (place_at h (places_of h rows) c hops)
+pub located : (h : Classes) (rows : List ClassLayout) (nearly : List Bool) (ps : List Primary) → IsLaidOut h rows nearly ps → (c : ClassId) (hops : List Hop) (type : FieldType ClassId) → c.0 < length h → LeadsTo h c hops type → IsLocated h rows ps c hops type (place_along_hops h (places_of h rows) c hops)
 located h rows nearly ps known _ _ _ lt (to_subobject c d s valid class) =
     let way = subobject_reached h rows nearly ps known c s d lt valid class in
     let part = part_of h c s d valid class in
     let decodes : decode (contents_of h rows ps) way.steps (Complete c) ≡ Inherit s ∷ [] = ap (λ (t : List Step). decode (contents_of h rows ps) t (Complete c)) (sym (append-nil way.steps)) ∙ (way.decodes [] ∙ part_hops h c (node_of c s d) s d part) in
-    let x : HasSteps (contents_of h rows ps) c (Inherit s ∷ []) (place_of h rows c s) (node_of c s d) = record { steps = way.steps; reaches = way.reaches; decodes = decodes } in
+    let x : HasSteps (contents_of h rows ps) c (Inherit s ∷ []) (place_in_class h rows c s) (node_of c s d) = record { steps = way.steps; reaches = way.reaches; decodes = decodes } in
     record {
       node = node_of c s d;
       way = steps_along (contents_of h rows ps) c _ _ _ _ (node_of c s d) refl (sym (place_at_base h (places_of h rows) c s)) x;
@@ -236,7 +236,7 @@ located h rows nearly ps known _ _ _ lt (to_inner c d e s m i hops type valid cl
     let falls = known.keeps.objects d e element.member (has_at (members_of h d) m element.member element.there) element.type_is in
     let within = element_within h d m i (Object e) element in
     let inner = located h rows nearly ps known e hops type (omega arith) rest in
-    let x = through_element h rows nearly ps known c d s m i (Object e) inner.way.steps (place_at h (places_of h rows) e hops) inner.node lt valid class element inner.way.reaches in
+    let x = through_element h rows nearly ps known c d s m i (Object e) inner.way.steps (place_along_hops h (places_of h rows) e hops) inner.node lt valid class element inner.way.reaches in
     record {
       node = inner.node;
       way = steps_along (contents_of h rows ps) c _ _ _ _ inner.node (ap (λ (t : List Hop). Inherit s ∷ Element m i ∷ t) inner.way.decodes) (sym (place_at_inner h (places_of h rows) c d e s m i hops class element)) x;

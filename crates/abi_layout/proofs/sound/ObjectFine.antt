@@ -24,10 +24,10 @@ use Rattle.abi_sound.specs.declared.class_layout.Bits.{Bits}
 use Rattle.abi_sound.specs.declared.class_layout.ClassLayout.{ClassLayout}
 use Rattle.abi_layout.specs.declared.placed_bases.PlacedBase.{PlacedBase}
 use Rattle.abi_layout.specs.declared.placed_bases.PlacedBase.TheVariants.{Own, VirtualBase}
-use Rattle.abi_sound.specs.Places.{size_in, align_in, nvalign_in}
+use Rattle.abi_sound.specs.Places.{size_in_row, align_in, nvalign_in}
 use Rattle.abi_sound.specs.Sound.{Divides}
 use Rattle.abi_layout.specs.Kinds.{is_empty, is_pod}
-use Rattle.abi_layout.specs.Placements.{nvsize_in, elements_of, size_of_type, align_of_type, member_component, ArePlaced, after}
+use Rattle.abi_layout.specs.Placements.{nvsize_in, elements_of, size_of_member_type, align_of_type, member_component, ArePlaced, stage_after}
 use Rattle.cxx_subobject.specs.VirtualBases.{virtual_bases}
 use Rattle.abi_layout.specs.PlacedBases.{first_base, is_first_base, is_other_base, front_bases, is_free, free_bases, IsPossible}
 use Rattle.abi_layout.specs.Layouts.{primary_of, fronts, object_parts, start_stage, IsLaidBy}
@@ -127,7 +127,7 @@ member_has f st n [] ps member l has = absurd has
 member_has f st n (m ∷ ms) [] member l has = absurd l
 member_has f st n (m ∷ ms) (p ∷ ps) member l has = ⊎_elim
     (λ e. record { number = n; place = p; has = inl (ap (λ (x : Member ClassId). a_member n x p) e) })
-    (λ r. let k = member_has f (after st (f m) p) (suc n) ms ps member l.1 r in record { number = k.number; place = k.place; has = inr k.has })
+    (λ r. let k = member_has f (stage_after st (f m) p) (suc n) ms ps member l.1 r in record { number = k.number; place = k.place; has = inr k.has })
     has
 
 -- what is known of a class by its row
@@ -135,9 +135,9 @@ pub record IsFine (h : Classes) (rows : List ClassLayout) (c : ClassId) : Type 0
   pub nvalign : IsAlignment (nvalign_in (slice_get rows c.0))
   pub align : IsAlignment (align_in (slice_get rows c.0))
   pub aligns : nvalign_in (slice_get rows c.0) ≤ align_in (slice_get rows c.0)
-  pub nvsize : nvsize_in (slice_get rows c.0) ≤ size_in (slice_get rows c.0)
-  pub multiple : Divides (align_in (slice_get rows c.0)) (size_in (slice_get rows c.0))
-  pub positive : 1 ≤ size_in (slice_get rows c.0)
+  pub nvsize : nvsize_in (slice_get rows c.0) ≤ size_in_row (slice_get rows c.0)
+  pub multiple : Divides (align_in (slice_get rows c.0)) (size_in_row (slice_get rows c.0))
+  pub positive : 1 ≤ size_in_row (slice_get rows c.0)
   pub some : is_empty h c ≡ false → 1 ≤ nvsize_in (slice_get rows c.0)
   pub dynamic : IsDynamic h c → 8 ≤ nvsize_in (slice_get rows c.0)
   pub dynamic_align : IsDynamic h c → 8 ≤ nvalign_in (slice_get rows c.0)
@@ -162,9 +162,9 @@ of_row h rows c row there f = record {
   nvalign = subst (λ (o : Option ClassLayout). IsAlignment (nvalign_in o)) (sym there) f.nvalign;
   align = subst (λ (o : Option ClassLayout). IsAlignment (align_in o)) (sym there) f.align;
   aligns = subst (λ (o : Option ClassLayout). nvalign_in o ≤ align_in o) (sym there) f.aligns;
-  nvsize = subst (λ (o : Option ClassLayout). nvsize_in o ≤ size_in o) (sym there) f.nvsize;
-  multiple = subst (λ (o : Option ClassLayout). Divides (align_in o) (size_in o)) (sym there) f.multiple;
-  positive = subst (λ (o : Option ClassLayout). 1 ≤ size_in o) (sym there) f.positive;
+  nvsize = subst (λ (o : Option ClassLayout). nvsize_in o ≤ size_in_row o) (sym there) f.nvsize;
+  multiple = subst (λ (o : Option ClassLayout). Divides (align_in o) (size_in_row o)) (sym there) f.multiple;
+  positive = subst (λ (o : Option ClassLayout). 1 ≤ size_in_row o) (sym there) f.positive;
   some = λ e. subst (λ (o : Option ClassLayout). 1 ≤ nvsize_in o) (sym there) (f.some e);
   dynamic = λ e. subst (λ (o : Option ClassLayout). 8 ≤ nvsize_in o) (sym there) (f.dynamic e);
   dynamic_align = λ e. subst (λ (o : Option ClassLayout). 8 ≤ nvalign_in o) (sym there) (f.dynamic_align e);
@@ -187,8 +187,8 @@ count_some h c class member keeps at has = count_positive member.count (λ n e. 
 -- what is known of the type of a member
 pub record IsFineType (rows : List ClassLayout) (type : FieldType ClassId) : Type 0 where
   pub align : IsAlignment (align_of_type rows type)
-  pub positive : 1 ≤ size_of_type rows type
-  pub multiple : Divides (align_of_type rows type) (size_of_type rows type)
+  pub positive : 1 ≤ size_of_member_type rows type
+  pub multiple : Divides (align_of_type rows type) (size_of_member_type rows type)
 
 pub type_fine : (h : Classes) (rows : List ClassLayout) (c : ClassId) → AreFineBelow h rows c → (type : FieldType ClassId) → ((d : ClassId) → type ≡ Object d → d.0 < c.0) → IsFineType rows type
 type_fine h rows c low (Value type) below = record { align = value_align type; positive = align_positive _ (value_align type); multiple = itself_divides _ }
@@ -316,9 +316,9 @@ fine_row h rows nearly primaries keeps laid c lt low = of_row h rows c k.row k.r
 
         by_width : (w : Option ℕ) → member.width ≡ w → 1 ≤ (bits_or (slice_get k.row.member_bits number)).width
         by_width None e =
-            let is : (bits_or (slice_get k.row.member_bits number)).width ≡ 8 * (elements_of member.count * size_of_type rows member.ty) = ap (λ (b : Bits). b.width) (put.whole e) in
+            let is : (bits_or (slice_get k.row.member_bits number)).width ≡ 8 * (elements_of member.count * size_of_member_type rows member.ty) = ap (λ (b : Bits). b.width) (put.whole e) in
             let t = type_fine h rows c low member.ty (λ d x. object_below h c k.class member d keeps k.there has x) in
-            let n = product_positive (elements_of member.count) (size_of_type rows member.ty) (count_some h c k.class member keeps k.there has) t.positive in
+            let n = product_positive (elements_of member.count) (size_of_member_type rows member.ty) (count_some h c k.class member keeps k.there has) t.positive in
             omega (arith, is, n)
         by_width (Some n) e = let is = (put.unit n e).1.1 in let least = (field_is h c k.class member n keeps k.there has e).low in omega (arith, is, least)
 
@@ -344,7 +344,7 @@ fine_row h rows nearly primaries keeps laid c lt low = of_row h rows c k.row k.r
         let l = low b (base_below h c b keeps x.0) in
         let size = l.dynamic x.1 in
         let align = l.dynamic_align x.1 in
-        let takes = takes_some (is_empty h b) (size_in (slice_get rows b.0)) (nvsize_in (slice_get rows b.0)) (dynamic_has_data h keeps b x.1) in
+        let takes = takes_some (is_empty h b) (size_in_row (slice_get rows b.0)) (nvsize_in (slice_get rows b.0)) (dynamic_has_data h keeps b x.1) in
         let r0 = r.0 in
         let r1 = r.1 in
         (omega arith, omega arith)
@@ -354,7 +354,7 @@ fine_row h rows nearly primaries keeps laid c lt low = of_row h rows c k.row k.r
         let l = low b (virtual_below h keeps c b x.0) in
         let size = l.dynamic x.1 in
         let align = l.dynamic_align x.1 in
-        let takes = takes_some (is_empty h b) (size_in (slice_get rows b.0)) (nvsize_in (slice_get rows b.0)) (dynamic_has_data h keeps b x.1) in
+        let takes = takes_some (is_empty h b) (size_in_row (slice_get rows b.0)) (nvsize_in (slice_get rows b.0)) (dynamic_has_data h keeps b x.1) in
         let r0 = r.0 in
         let r1 = r.1 in
         (omega arith, omega arith)
@@ -371,7 +371,7 @@ fine_row h rows nearly primaries keeps laid c lt low = of_row h rows c k.row k.r
         let b = base.class in
         let r = (reach (a_base (Own b)) (in_front (Own b) (plain_front (primary_of primaries c) k.class.bases base has way))).0 in
         let l = (low b (base_below h c b keeps (plain_edge h c k.class base k.there has way))).some other in
-        let takes = takes_some (is_empty h b) (size_in (slice_get rows b.0)) (nvsize_in (slice_get rows b.0)) other in
+        let takes = takes_some (is_empty h b) (size_in_row (slice_get rows b.0)) (nvsize_in (slice_get rows b.0)) other in
         omega arith
 
     some : is_empty h c ≡ false → 1 ≤ k.row.nvsize

@@ -11,7 +11,7 @@ use Rattle.abi_sound.specs.declared.class_layout.Bits.{Bits}
 use Rattle.abi_sound.specs.declared.class_layout.ClassLayout.{ClassLayout}
 use Rattle.abi_layout.specs.declared.placed_bases.PlacedBase.{PlacedBase}
 use Rattle.abi_layout.specs.Kinds.{is_empty}
-use Rattle.abi_layout.specs.Placements.{elements_of, size_of_type, member_component, bits_by, bits_at, after, after_all, ArePlaced}
+use Rattle.abi_layout.specs.Placements.{elements_of, size_of_member_type, member_component, bits_by, bits_at, stage_after, stage_after_all, ArePlaced}
 use Rattle.abi_layout.specs.PlacedBases.{placed_component, free_bases}
 use Rattle.abi_layout.specs.Layouts.{fronts, placed_place, object_parts, start_stage, front_components, free_components, IsArrangedBy}
 use Rattle.abi_layout.specs.invariants.Alignments.{HasFreeBit}
@@ -30,11 +30,11 @@ widths_fit component xs fit = λ c has. let r = has_mapped component xs c has in
 
 -- where an element of a list was put, by its place and its bits
 pub put_at : {X : Type 0} (component : X → Component) (place : X → ℕ) (bits : X → Bits) (st : Stage) (xs : List X) (x : X) → HasFreeBit st → ((y : X) → Has xs y → HasFitWidth (component y)) → ArePlaced st (map component xs) (map place xs) → map bits xs ≡ bits_at st (map component xs) (map place xs) → Has xs x
-    → IsPut st (after_all st (map component xs) (map place xs)) (component x) (place x) (bits x)
+    → IsPut st (stage_after_all st (map component xs) (map place xs)) (component x) (place x) (bits x)
 put_at component place bits st [] x known fit l e h = absurd h
 put_at {X} component place bits st (y ∷ xs) x known fit l e h =
-    let next = after st (component y) (place y) in
-    let last = after_all next (map component xs) (map place xs) in
+    let next = stage_after st (component y) (place y) in
+    let last = stage_after_all next (map component xs) (map place xs) in
     let here = bits_by (component y).width st (component y) (place y) in
     let head : bits y ≡ here = first_same (bits y) here (map bits xs) (bits_at next (map component xs) (map place xs)) e in
     let tail : map bits xs ≡ bits_at next (map component xs) (map place xs) = rest_same (bits y) here (map bits xs) (bits_at next (map component xs) (map place xs)) e in
@@ -56,7 +56,7 @@ apart_back component place bits x y r = λ a b. ⊎_elim (λ l. inr l) (λ g. in
 pub pairs_placed : {X : Type 0} (component : X → Component) (place : X → ℕ) (bits : X → Bits) (st : Stage) (xs : List X) → HasFreeBit st → ((y : X) → Has xs y → HasFitWidth (component y)) → ArePlaced st (map component xs) (map place xs) → map bits xs ≡ bits_at st (map component xs) (map place xs) → Pairs (AreApart component place bits) xs
 pairs_placed component place bits st [] known fit l e = tt
 pairs_placed {X} component place bits st (x ∷ xs) known fit l e =
-    let next = after st (component x) (place x) in
+    let next = stage_after st (component x) (place x) in
     let here = bits_by (component x).width st (component x) (place x) in
     let head : bits x ≡ here = first_same (bits x) here (map bits xs) (bits_at next (map component xs) (map place xs)) e in
     let tail : map bits xs ≡ bits_at next (map component xs) (map place xs) = rest_same (bits x) here (map bits xs) (bits_at next (map component xs) (map place xs)) e in
@@ -111,37 +111,37 @@ bits_item h rows primaries bits c (a_member n member place) = bits_or (slice_get
 -- the items are placed one after the other, from one stage to another
 pub record ArePut (h : Classes) (rows : List ClassLayout) (primaries : List Primary) (bits : List Bits) (c : ClassId) (first last : Stage) (xs : List Item) : Type 0 where
   pub placed : ArePlaced first (map (component_item h rows primaries c) xs) (map (place_item h rows c) xs)
-  pub ends : after_all first (map (component_item h rows primaries c) xs) (map (place_item h rows c) xs) ≡ last
+  pub ends : stage_after_all first (map (component_item h rows primaries c) xs) (map (place_item h rows c) xs) ≡ last
   pub lie : map (bits_item h rows primaries bits c) xs ≡ bits_at first (map (component_item h rows primaries c) xs) (map (place_item h rows c) xs)
 
 bases_put : (h : Classes) (rows : List ClassLayout) (primaries : List Primary) (bits : List Bits) (c : ClassId) (bs : List PlacedBase) (st : Stage) → ArePlaced st (map (placed_component (is_empty h) h rows primaries (object_parts h rows primaries) c) bs) (map (placed_place h rows c) bs)
-    → ArePut h rows primaries bits c st (after_all st (map (placed_component (is_empty h) h rows primaries (object_parts h rows primaries) c) bs) (map (placed_place h rows c) bs)) (base_items bs)
+    → ArePut h rows primaries bits c st (stage_after_all st (map (placed_component (is_empty h) h rows primaries (object_parts h rows primaries) c) bs) (map (placed_place h rows c) bs)) (base_items bs)
 bases_put h rows primaries bits c [] st l = record { placed = tt; ends = refl; lie = refl }
 bases_put h rows primaries bits c (b ∷ bs) st l =
-    let r = bases_put h rows primaries bits c bs (after st (placed_component (is_empty h) h rows primaries (object_parts h rows primaries) c b) (placed_place h rows c b)) l.1 in
+    let r = bases_put h rows primaries bits c bs (stage_after st (placed_component (is_empty h) h rows primaries (object_parts h rows primaries) c b) (placed_place h rows c b)) l.1 in
     record { placed = (l.0, r.placed); ends = r.ends; lie = ap (λ (all : List Bits). bits_item h rows primaries bits c (a_base b) ∷ all) r.lie }
 
 members_put : (h : Classes) (rows : List ClassLayout) (primaries : List Primary) (bits : List Bits) (c : ClassId) (n : ℕ) (ms : List (Member ClassId)) (ps : List ℕ) (st : Stage) → ArePlaced st (map (member_component rows (object_parts h rows primaries)) ms) ps
-    → ((i : ℕ) → slice_get bits (n + i) ≡ slice_get (bits_at st (map (member_component rows (object_parts h rows primaries)) ms) ps) i) → ArePut h rows primaries bits c st (after_all st (map (member_component rows (object_parts h rows primaries)) ms) ps) (member_items n ms ps)
+    → ((i : ℕ) → slice_get bits (n + i) ≡ slice_get (bits_at st (map (member_component rows (object_parts h rows primaries)) ms) ps) i) → ArePut h rows primaries bits c st (stage_after_all st (map (member_component rows (object_parts h rows primaries)) ms) ps) (member_items n ms ps)
 members_put h rows primaries bits c n [] [] st l same = record { placed = tt; ends = refl; lie = refl }
 members_put h rows primaries bits c n [] (p ∷ ps) st l same = absurd l
 members_put h rows primaries bits c n (m ∷ ms) [] st l same = absurd l
 members_put h rows primaries bits c n (m ∷ ms) (p ∷ ps) st l same =
     let component = member_component rows (object_parts h rows primaries) m in
-    let r = members_put h rows primaries bits c (suc n) ms ps (after st component p) l.1 (λ i. ap (slice_get bits) (let z : suc n + i ≡ n + suc i = omega arith in z) ∙ same (suc i)) in
+    let r = members_put h rows primaries bits c (suc n) ms ps (stage_after st component p) l.1 (λ i. ap (slice_get bits) (let z : suc n + i ≡ n + suc i = omega arith in z) ∙ same (suc i)) in
     let here : bits_or (slice_get bits n) ≡ bits_by component.width st component p = ap (λ k. bits_or (slice_get bits k)) (let z : n ≡ n + 0 = omega arith in z) ∙ ap bits_or (same 0) in
     record {
       placed = (l.0, r.placed);
       ends = r.ends;
-      lie = ap (λ (all : List Bits). bits_or (slice_get bits n) ∷ all) r.lie ∙ ap (λ (x : Bits). x ∷ bits_at (after st component p) (map (component_item h rows primaries c) (member_items (suc n) ms ps)) (map (place_item h rows c) (member_items (suc n) ms ps))) here;
+      lie = ap (λ (all : List Bits). bits_or (slice_get bits n) ∷ all) r.lie ∙ ap (λ (x : Bits). x ∷ bits_at (stage_after st component p) (map (component_item h rows primaries c) (member_items (suc n) ms ps)) (map (place_item h rows c) (member_items (suc n) ms ps))) here;
     }
 
 both_put : (h : Classes) (rows : List ClassLayout) (primaries : List Primary) (bits : List Bits) (c : ClassId) (first mid last : Stage) (xs ys : List Item) → ArePlaced first (map (component_item h rows primaries c) xs) (map (place_item h rows c) xs)
-    → after_all first (map (component_item h rows primaries c) xs) (map (place_item h rows c) xs) ≡ mid
+    → stage_after_all first (map (component_item h rows primaries c) xs) (map (place_item h rows c) xs) ≡ mid
     → map (bits_item h rows primaries bits c) xs ≡ bits_at first (map (component_item h rows primaries c) xs) (map (place_item h rows c) xs) → ArePut h rows primaries bits c mid last ys → ArePut h rows primaries bits c first last (xs ++ ys)
 both_put h rows primaries bits c first mid last [] ys l e lie b = subst (λ (st : Stage). ArePut h rows primaries bits c st last ys) (sym e) b
 both_put h rows primaries bits c first mid last (x ∷ xs) ys l e lie b =
-    let next = after first (component_item h rows primaries c x) (place_item h rows c x) in
+    let next = stage_after first (component_item h rows primaries c x) (place_item h rows c x) in
     let own = bits_item h rows primaries bits c x in
     let here = bits_by (component_item h rows primaries c x).width first (component_item h rows primaries c x) (place_item h rows c x) in
     let more = map (bits_item h rows primaries bits c) xs in
@@ -157,14 +157,14 @@ both_put h rows primaries bits c first mid last (x ∷ xs) ys l e lie b =
 
 -- the stages of a class: behind its members, and behind all
 abbrev pub front_stage : Classes → List ClassLayout → List Primary → ClassId → Class → Bool → Stage
-front_stage h rows primaries c class has_pointer = after_all (start_stage c has_pointer) (front_components h rows primaries (object_parts h rows primaries) c class) (map (placed_place h rows c) (fronts primaries c class))
+front_stage h rows primaries c class has_pointer = stage_after_all (start_stage c has_pointer) (front_components h rows primaries (object_parts h rows primaries) c class) (map (placed_place h rows c) (fronts primaries c class))
 
 abbrev pub mid_stage : Classes → List ClassLayout → List Primary → ClassId → Class → Bool → ClassLayout → Stage
-mid_stage h rows primaries c class has_pointer row = after_all (front_stage h rows primaries c class has_pointer) (map (member_component rows (object_parts h rows primaries)) class.members) row.member_places
+mid_stage h rows primaries c class has_pointer row = stage_after_all (front_stage h rows primaries c class has_pointer) (map (member_component rows (object_parts h rows primaries)) class.members) row.member_places
 
 -- what the bases that come last add
 abbrev pub end_stage : Classes → List ClassLayout → List Primary → ClassId → Stage → Stage
-end_stage h rows primaries c mid = after_all mid (free_components h rows primaries (object_parts h rows primaries) c) (map (placed_place h rows c) (free_bases h primaries c))
+end_stage h rows primaries c mid = stage_after_all mid (free_components h rows primaries (object_parts h rows primaries) c) (map (placed_place h rows c) (free_bases h primaries c))
 
 -- the rules place the items of a class in turn
 abbrev pub IsRow : Classes → List ClassLayout → List Primary → ClassId → Class → Bool → ClassLayout → Type 0
@@ -207,7 +207,7 @@ start_known c false = record { inside = omega arith; last = omega arith }
 -- the placements of items, where `base` tells those of bases
 abbrev pub placement_of : List ClassLayout → ClassId → (PlacedBase → Placement) → Item → Placement
 placement_of rows d base (a_base b) = base b
-placement_of rows d base (a_member n member place) = record { node = node_of_member d n member.width member.ty; place = place; count = elements_of member.count; stride = size_of_type rows member.ty; member = n }
+placement_of rows d base (a_member n member place) = record { node = node_of_member d n member.width member.ty; place = place; count = elements_of member.count; stride = size_of_member_type rows member.ty; member = n }
 
 pub members_are : (rows : List ClassLayout) (d : ClassId) (base : PlacedBase → Placement) (n : ℕ) (ms : List (Member ClassId)) (ps : List ℕ) → map (placement_of rows d base) (member_items n ms ps) ≡ placed_members rows d n ms ps
 members_are rows d base n [] ps = refl

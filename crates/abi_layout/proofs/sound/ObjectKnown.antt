@@ -8,7 +8,7 @@ use Rattle.abi_primary.specs.declared.Primary.{Primary}
 use Rattle.abi_primary.specs.declared.Primary.TheVariants.{Direct}
 use Rattle.abi_primary.specs.Kinds.{IsDynamic}
 use Rattle.abi_sound.specs.declared.class_layout.ClassLayout.{ClassLayout}
-use Rattle.abi_layout.specs.Holding.{virtual_primary}
+use Rattle.abi_layout.specs.Holding.{virtual_primary_base}
 use Rattle.abi_layout.specs.Layouts.{primary_of, IsLaidBy}
 use Rattle.abi_layout.specs.invariants.Scenes.{AreBefore}
 use Rattle.cxx_subobject.proofs.PathLemmas.{virtual_below}
@@ -29,7 +29,7 @@ pub record IsVirtualPrimary (h : Classes) (d v : ClassId) : Type 0 where
   pub dynamic : IsDynamic h v
   pub falls : v.0 < d.0
 
-pub virtual_primary_is : (h : Classes) (rows : List ClassLayout) (nearly : List Bool) (ps : List Primary) → IsLaidOut h rows nearly ps → (d v : ClassId) → d.0 < length h → virtual_primary ps d ≡ Some v → IsVirtualPrimary h d v
+pub virtual_primary_is : (h : Classes) (rows : List ClassLayout) (nearly : List Bool) (ps : List Primary) → IsLaidOut h rows nearly ps → (d v : ClassId) → d.0 < length h → virtual_primary_base ps d ≡ Some v → IsVirtualPrimary h d v
 virtual_primary_is h rows nearly ps known d v lt e =
     let x = virtual_primary_of h rows nearly ps d v known.keeps known.laid lt (primary_is_virtual ps d v e) in
     record { has = x.0; dynamic = x.1; falls = virtual_below h known.keeps d v x.0 }

@@ -16,17 +16,17 @@ use Rattle.cxx_subobject.specs.VirtualBases.{virtual_bases}
 use Rattle.abi_primary.specs.declared.Primary.{Primary}
 use Rattle.abi_primary.specs.Holder.{holder_of}
 use Rattle.abi_sound.specs.declared.class_layout.ClassLayout.{ClassLayout}
-use Rattle.abi_sound.specs.Places.{Places, size_of_value, size_in, align_in, nvalign_in, first_bit}
+use Rattle.abi_sound.specs.Places.{Places, size_of_value, size_in_row, align_in, nvalign_in, first_bit}
 use Rattle.cxx_subobject.specs.declared.locations.Hop.{Hop}
 use Rattle.cxx_subobject.specs.declared.locations.Hop.TheVariants.{Inherit, Member as Element}
 use Rattle.cxx_subobject.specs.Locations.{IsElement, LeadsTo}
-use Rattle.abi_sound.specs.Locations.{place_at, last_member, Span, AreDisjoint, bits_of_value, leaf_span, pointer_span}
+use Rattle.abi_sound.specs.Locations.{place_along_hops, last_member, Span, AreDisjoint, bits_of_value, leaf_span, pointer_span}
 use Rattle.abi_sound.specs.Sound.{Divides, IsFullRow, IsAligned, IsSoundClass, IsSoundLayout}
 use Rattle.abi_sound.proofs.LeafSpans.{EndsIn, one_member, value_span, span_is, some_bits}
 use Rattle.abi_sound.proofs.PrimaryParts.{primary_cases}
 use Rattle.abi_primary.specs.Kinds.{IsDynamic}
 use Rattle.abi_layout.specs.Kinds.{is_empty}
-use Rattle.abi_layout.specs.Placements.{ArePlaced, after, bits_at}
+use Rattle.abi_layout.specs.Placements.{ArePlaced, stage_after, bits_at}
 use Rattle.abi_layout.specs.declared.component.Component.{Component}
 use Rattle.abi_layout.specs.declared.component.Stage.{Stage}
 use Rattle.abi_layout.specs.invariants.Alignments.{IsAlignment, byte, two_bytes, four_bytes, eight_bytes}
@@ -97,14 +97,14 @@ base_divides h rows c _ _ _ fine_of lt (inner_part s d valid e) = itself_divides
 -- what is reached in an object
 record IsFound (h : Classes) (rows : List ClassLayout) (ps : List Primary) (c : ClassId) (hops : List Hop) (q : ℕ) (n : Node) : Type 0 where
   way : HasSteps (contents_of h rows ps) c hops q n
-  within : q + span_of rows n ≤ size_in (slice_get rows c.0)
+  within : q + span_of rows n ≤ size_in_row (slice_get rows c.0)
   divides : Divides (align_of rows n) q
 
 found_at : (h : Classes) (rows : List ClassLayout) (nearly : List Bool) (ps : List Primary) → IsLaidOut h rows nearly ps → (c : ClassId) (hops : List Hop) (q : ℕ) (n : Node) → c.0 < length h → HasSteps (contents_of h rows ps) c hops q n → IsFound h rows ps c hops q n
 found_at h rows nearly ps known c hops q n lt way =
     let tree : IsSoundTree (contents_of h rows ps) (measures_of h rows) = object_is_sound h rows nearly ps known.keeps known.laid in
     let i = tree.inside (Complete c) n way.steps q way.reaches in
-    let s = most (size_in (slice_get rows c.0)) (fine h rows nearly ps c known.keeps known.laid lt).positive in
+    let s = most (size_in_row (slice_get rows c.0)) (fine h rows nearly ps c known.keeps known.laid lt).positive in
     record {
       way = way;
       within = omega (arith, i, s);
@@ -117,11 +117,11 @@ record IsLeafFound (h : Classes) (rows : List ClassLayout) (ps : List Primary) (
   found : IsFound h rows ps c hops q (Leaf ends.class ends.member (width_of_member h ends.class ends.member) type)
   some : 1 ≤ bits_of_value (width_of_member h ends.class ends.member) type
 
-leaf_found : (h : Classes) (rows : List ClassLayout) (nearly : List Bool) (ps : List Primary) → IsLaidOut h rows nearly ps → (c : ClassId) (type : ValueType ClassId) (hops : List Hop) → c.0 < length h → LeadsTo h c hops (Value type) → IsLeafFound h rows ps c hops type (place_at h (places_of h rows) c hops)
+leaf_found : (h : Classes) (rows : List ClassLayout) (nearly : List Bool) (ps : List Primary) → IsLaidOut h rows nearly ps → (c : ClassId) (type : ValueType ClassId) (hops : List Hop) → c.0 < length h → LeadsTo h c hops (Value type) → IsLeafFound h rows ps c hops type (place_along_hops h (places_of h rows) c hops)
 leaf_found h rows nearly ps known c type hops lt leads =
     let x = located h rows nearly ps known c hops (Value type) lt leads in
     let e = x.ends.of in
-    let q = place_at h (places_of h rows) c hops in
+    let q = place_along_hops h (places_of h rows) c hops in
     record {
       ends = e;
       found = found_at h rows nearly ps known c hops q (Leaf e.class e.member (width_of_member h e.class e.member) type) lt (subst (λ (n : Node). HasSteps (contents_of h rows ps) c hops q n) x.ends.node_is x.way);
@@ -175,14 +175,14 @@ module _ (h : Classes) (rows : List ClassLayout) (keeps : IsHierarchy h) (well :
   tree : IsSoundTree (contents_of h rows well.primaries) (measures_of h rows)
   tree = object_is_sound h rows well.nearly well.primaries keeps well.by
 
-  leaf : (type : ValueType ClassId) (hops : List Hop) → LeadsTo h c hops (Value type) → IsLeafFound h rows well.primaries c hops type (place_at h (places_of h rows) c hops)
+  leaf : (type : ValueType ClassId) (hops : List Hop) → LeadsTo h c hops (Value type) → IsLeafFound h rows well.primaries c hops type (place_along_hops h (places_of h rows) c hops)
   leaf type hops leads = leaf_found h rows well.nearly well.primaries known c type hops lt leads
 
-  is_aligned : (type : ValueType ClassId) (hops : List Hop) (d : ClassId) (m : ℕ) → LeadsTo h c hops (Value type) → last_member h (Some c) hops ≡ Some (d, m) → IsAligned (width_of_member h d m) type (place_at h l c hops) (l.first d m)
+  is_aligned : (type : ValueType ClassId) (hops : List Hop) (d : ClassId) (m : ℕ) → LeadsTo h c hops (Value type) → last_member h (Some c) hops ≡ Some (d, m) → IsAligned (width_of_member h d m) type (place_along_hops h l c hops) (l.first d m)
   is_aligned type hops d m leads last =
       let x = leaf type hops leads in
       let e = x.ends in
-      let q = place_at h l c hops in
+      let q = place_along_hops h l c hops in
       let same = one_member (last_member h (Some c) hops) e.class d e.member m e.last last in
       let b = in_bytes h rows well.nearly well.primaries known e.class e.member e.index type e.element in
       let here : IsAligned (width_of_member h e.class e.member) type q (l.first e.class e.member) = aligned_by (width_of_member h e.class e.member) type q (first_bit rows e.class e.member) x.found.divides b.low b.fits in
@@ -192,11 +192,11 @@ module _ (h : Classes) (rows : List ClassLayout) (keeps : IsHierarchy h) (well :
   is_inside type hops leads =
       let x = leaf type hops leads in
       let e = x.ends in
-      let q = place_at h l c hops in
+      let q = place_along_hops h l c hops in
       let some = x.some in
       let node = Leaf e.class e.member (width_of_member h e.class e.member) type in
       let ends = tree.ends (Complete c) node x.found.way.steps q x.found.way.reaches (omega (arith, some)) in
-      let within = inside_size (is_empty h c) (8 * q + (first_bit rows e.class e.member + bits_of_value (width_of_member h e.class e.member) type)) (size_in (slice_get rows c.0)) (omega (arith, some)) ends in
+      let within = inside_size (is_empty h c) (8 * q + (first_bit rows e.class e.member + bits_of_value (width_of_member h e.class e.member) type)) (size_in_row (slice_get rows c.0)) (omega (arith, some)) ends in
       subst (λ (s : Span). s.start + s.length ≤ 8 * l.size c) (sym (span_is h l c hops type e)) (omega (arith, within))
 
   leaves_are_apart : (type other : ValueType ClassId) (hops others : List Hop) → LeadsTo h c hops (Value type) → LeadsTo h c others (Value other) → (hops ≡ others → ⊥) → AreDisjoint (leaf_span h l c hops) (leaf_span h l c others)
@@ -205,8 +205,8 @@ module _ (h : Classes) (rows : List ClassLayout) (keeps : IsHierarchy h) (well :
       let y = leaf other others also in
       let e = x.ends in
       let f = y.ends in
-      let q = place_at h l c hops in
-      let r = place_at h l c others in
+      let q = place_along_hops h l c hops in
+      let r = place_along_hops h l c others in
       let some = x.some in
       let more = y.some in
       let node = Leaf e.class e.member (width_of_member h e.class e.member) type in
@@ -216,44 +216,44 @@ module _ (h : Classes) (rows : List ClassLayout) (keeps : IsHierarchy h) (well :
       spans_apart (leaf_span h l c hops) (leaf_span h l c others) (value_span h l e.class e.member type q) (value_span h l f.class f.member other r) (span_is h l c hops type e) (span_is h l c others other f)
       (⊎_elim (λ a. inl (omega (arith, a))) (λ a. inr (omega (arith, a))) apart)
 
-  leaf_is_apart : (d : ClassId) (type : ValueType ClassId) (hops others : List Hop) → IsDynamic h d → LeadsTo h c hops (Object d) → LeadsTo h c others (Value type) → AreDisjoint (pointer_span (place_at h l c hops)) (leaf_span h l c others)
+  leaf_is_apart : (d : ClassId) (type : ValueType ClassId) (hops others : List Hop) → IsDynamic h d → LeadsTo h c hops (Object d) → LeadsTo h c others (Value type) → AreDisjoint (pointer_span (place_along_hops h l c hops)) (leaf_span h l c others)
   leaf_is_apart d type hops others dynamic leads also =
       let x = pointer_way h rows well.nearly well.primaries known c d hops lt dynamic leads in
       let y = leaf type others also in
       let e = y.ends in
-      let q = place_at h l c hops in
-      let r = place_at h l c others in
+      let q = place_along_hops h l c hops in
+      let r = place_along_hops h l c others in
       let apart = leaf_beside h rows well.nearly well.primaries known c e.class e.member (width_of_member h e.class e.member) type x.steps y.found.way.steps q r y.some x.reaches y.found.way.reaches in
       subst (AreDisjoint (pointer_span q)) (sym (span_is h l c others type e)) (⊎_elim (λ a. inl (omega (arith, a))) (λ a. inr (omega (arith, a))) apart)
 
-  are_distinct : (d : ClassId) (hops others : List Hop) → LeadsTo h c hops (Object d) → LeadsTo h c others (Object d) → place_at h l c hops ≡ place_at h l c others → hops ≡ others
+  are_distinct : (d : ClassId) (hops others : List Hop) → LeadsTo h c hops (Object d) → LeadsTo h c others (Object d) → place_along_hops h l c hops ≡ place_along_hops h l c others → hops ≡ others
   are_distinct d hops others x y same =
       let o = located h rows well.nearly well.primaries known c hops (Object d) lt x in
       let u = located h rows well.nearly well.primaries known c others (Object d) lt y in
-      let way : HasSteps (contents_of h rows well.primaries) c others (place_at h l c hops) u.node = subst (λ q. HasSteps (contents_of h rows well.primaries) c others q u.node) (sym same) u.way in
+      let way : HasSteps (contents_of h rows well.primaries) c others (place_along_hops h l c hops) u.node = subst (λ q. HasSteps (contents_of h rows well.primaries) c others q u.node) (sym same) u.way in
       let o_class = part_node h o.ends.top o.node o.ends.subobject_is d o.ends.part in
       let u_class = part_node h u.ends.top u.node u.ends.subobject_is d u.ends.part in
-      same_location (contents_of h rows well.primaries) c hops others (place_at h l c hops) (place_at h l c hops) o.node u.node o.way way
-      (one_place h rows well.nearly well.primaries keeps well.by well.apart all_arranged c lt o.node u.node d o.way.steps way.steps (place_at h l c hops) o.way.reaches way.reaches o_class u_class)
+      same_location (contents_of h rows well.primaries) c hops others (place_along_hops h l c hops) (place_along_hops h l c hops) o.node u.node o.way way
+      (one_place h rows well.nearly well.primaries keeps well.by well.apart all_arranged c lt o.node u.node d o.way.steps way.steps (place_along_hops h l c hops) o.way.reaches way.reaches o_class u_class)
 
-  base_is_multiple : (d : ClassId) (hops : List Hop) → LeadsTo h c hops (Object d) → Divides (l.base_align d) (place_at h l c hops)
+  base_is_multiple : (d : ClassId) (hops : List Hop) → LeadsTo h c hops (Object d) → Divides (l.base_align d) (place_along_hops h l c hops)
   base_is_multiple d hops x =
       let o = located h rows well.nearly well.primaries known c hops (Object d) lt x in
-      let f = found_at h rows well.nearly well.primaries known c hops (place_at h l c hops) o.node lt o.way in
+      let f = found_at h rows well.nearly well.primaries known c hops (place_along_hops h l c hops) o.node lt o.way in
       let e = o.ends in
-      through_divides (nvalign_in (slice_get rows d.0)) (align_of rows o.node) (place_at h l c hops) (base_divides h rows e.top d o.node e.subobject_is (λ within. fine h rows well.nearly well.primaries e.top keeps well.by within) e.within e.part) f.divides
+      through_divides (nvalign_in (slice_get rows d.0)) (align_of rows o.node) (place_along_hops h l c hops) (base_divides h rows e.top d o.node e.subobject_is (λ within. fine h rows well.nearly well.primaries e.top keeps well.by within) e.within e.part) f.divides
 
-  object_is_multiple : (d : ClassId) (front : List Hop) → LeadsTo h c (front ++ Inherit (whole_of d) ∷ []) (Object d) → Divides (l.align d) (place_at h l c (front ++ Inherit (whole_of d) ∷ []))
+  object_is_multiple : (d : ClassId) (front : List Hop) → LeadsTo h c (front ++ Inherit (whole_of d) ∷ []) (Object d) → Divides (l.align d) (place_along_hops h l c (front ++ Inherit (whole_of d) ∷ []))
   object_is_multiple d front x =
       let hops = front ++ Inherit (whole_of d) ∷ [] in
       let o = located h rows well.nearly well.primaries known c hops (Object d) lt x in
-      let f = found_at h rows well.nearly well.primaries known c hops (place_at h l c hops) o.node lt o.way in
-      subst (λ (n : Node). Divides (align_of rows n) (place_at h l c hops)) (ends_whole h (contents_of h rows well.primaries) c d front hops (place_at h l c hops) o.node o.way o.ends refl) f.divides
+      let f = found_at h rows well.nearly well.primaries known c hops (place_along_hops h l c hops) o.node lt o.way in
+      subst (λ (n : Node). Divides (align_of rows n) (place_along_hops h l c hops)) (ends_whole h (contents_of h rows well.primaries) c d front hops (place_along_hops h l c hops) o.node o.way o.ends refl) f.divides
 
-  class_begins_inside : (d : ClassId) (hops : List Hop) → LeadsTo h c hops (Object d) → place_at h l c hops < l.size c
+  class_begins_inside : (d : ClassId) (hops : List Hop) → LeadsTo h c hops (Object d) → place_along_hops h l c hops < l.size c
   class_begins_inside d hops x =
       let o = located h rows well.nearly well.primaries known c hops (Object d) lt x in
-      let f = found_at h rows well.nearly well.primaries known c hops (place_at h l c hops) o.node lt o.way in
+      let f = found_at h rows well.nearly well.primaries known c hops (place_along_hops h l c hops) o.node lt o.way in
       let i = f.within in
       let p = all_arranged.positive o.node in
       omega (arith, i, p)
@@ -261,7 +261,7 @@ module _ (h : Classes) (rows : List ClassLayout) (keeps : IsHierarchy h) (well :
   is_bounded : l.size c ≤ 1048576
   is_bounded =
       let r = row_of h rows well.nearly well.primaries known c lt in
-      let s : size_in (slice_get rows c.0) ≡ r.row.size = ap size_in r.row_there in
+      let s : size_in_row (slice_get rows c.0) ≡ r.row.size = ap size_in_row r.row_there in
       let b = well.small.each c.0 r.row r.row_there in
       omega (arith, s, b)
 
@@ -289,7 +289,7 @@ bits_length : (st : Stage) (cs : List Component) (places : List ℕ) → ArePlac
 bits_length st [] [] l = refl
 bits_length st [] (p ∷ places) l = absurd l
 bits_length st (c ∷ cs) [] l = absurd l
-bits_length st (c ∷ cs) (p ∷ places) l = let r = bits_length (after st c p) cs places l.1 in omega arith
+bits_length st (c ∷ cs) (p ∷ places) l = let r = bits_length (stage_after st c p) cs places l.1 in omega arith
 
 -- each row tells of all parts of its class
 rows_full : (h : Classes) (rows : List ClassLayout) (nearly : List Bool) (ps : List Primary) → IsLaidOut h rows nearly ps → (c : ClassId) (row : ClassLayout) → slice_get rows c.0 ≡ Some row → IsFullRow h c row

@@ -16,10 +16,10 @@ use Rattle.abi_layout.specs.declared.component.Component.{Component}
 use Rattle.abi_sound.specs.declared.class_layout.ClassLayout.{ClassLayout}
 use Rattle.abi_layout.specs.declared.placed_bases.PlacedBase.{PlacedBase}
 use Rattle.abi_layout.specs.Kinds.{is_empty}
-use Rattle.abi_sound.specs.Places.{members_in}
-use Rattle.abi_layout.specs.Placements.{part_at, parts_at, parts_of_type, elements_of, size_of_type, align_of_type, member_component}
+use Rattle.abi_sound.specs.Places.{member_places_in}
+use Rattle.abi_layout.specs.Placements.{placed_part, parts_at, parts_of_type, elements_of, size_of_member_type, align_of_type, member_component}
 use Rattle.abi_layout.specs.Holding.{held_base}
-use Rattle.abi_layout.specs.Brought.{member_parts, base_brings, virtual_brings, brought}
+use Rattle.abi_layout.specs.Brought.{parts_in_members, base_brings, virtual_brings, brought}
 use Rattle.abi_layout.specs.PlacedBases.{class_of_placed, subobject_of, free_bases, placed_component, IsPossible}
 use Rattle.abi_layout.specs.invariants.Scenes.{AreBefore}
 use Rattle.abi_layout.specs.Layouts.{primary_of, fronts, front_components, free_components, placed_place, object_parts_in, object_parts_within, object_parts, IsLaidBy}
@@ -48,18 +48,18 @@ type_parts f g (Object e) agree = agree e refl
 -- members by two tellers that agree on the classes before their class
 pub same_members : (h : Classes) (rows : List ClassLayout) (f g : ClassId → List Part) (d : ClassId) → IsHierarchy h → ((e : ClassId) → e.0 < d.0 → f e ≡ g e) → map (member_component rows f) (members_of h d) ≡ map (member_component rows g) (members_of h d)
 same_members h rows f g d keeps agree = same_map (member_component rows f) (member_component rows g) (members_of h d)
-    (λ member has. ap (member_made member.width (elements_of member.count) (size_of_type rows member.ty) (align_of_type rows member.ty)) (type_parts f g member.ty (λ e is. agree e (keeps.objects d e member has is))))
+    (λ member has. ap (member_made member.width (elements_of member.count) (size_of_member_type rows member.ty) (align_of_type rows member.ty)) (type_parts f g member.ty (λ e is. agree e (keeps.objects d e member has is))))
 
 -- what is brought, by two tellers that agree on the classes before
 pub same_brought : (h : Classes) (rows : List ClassLayout) (ps : List Primary) (f g : ClassId → List Part) (c : ClassId) → IsHierarchy h → ArePossible h ps → (n : ℕ) (s : Subobject) (d : ClassId) → ((e : ClassId) → e.0 < d.0 → f e ≡ g e) → brought h rows ps f c n s d ≡ brought h rows ps g c n s d
 same_brought h rows ps f g c keeps possible zero s d agree = refl
 same_brought h rows ps f g c keeps possible (suc n) s d agree =
-    ap (λ (t : List Component). (part_at d 0 ∷ parts_at t (members_in (slice_get rows d.0))) ++ (flat_map (base_brings h rows (brought h rows ps f c n) s d) (bases_of h d) ++ virtual_brings (brought h rows ps f c n) (held_base h ps c s d)))
+    ap (λ (t : List Component). (placed_part d 0 ∷ parts_at t (member_places_in (slice_get rows d.0))) ++ (flat_map (base_brings h rows (brought h rows ps f c n) s d) (bases_of h d) ++ virtual_brings (brought h rows ps f c n) (held_base h ps c s d)))
     (same_members h rows f g d keeps agree)
-    ∙ (ap (λ t. (part_at d 0 ∷ member_parts h rows g d) ++ (t ++ virtual_brings (brought h rows ps f c n) (held_base h ps c s d)))
+    ∙ (ap (λ t. (placed_part d 0 ∷ parts_in_members h rows g d) ++ (t ++ virtual_brings (brought h rows ps f c n) (held_base h ps c s d)))
     (same_mapped (base_brings h rows (brought h rows ps f c n) s d) (base_brings h rows (brought h rows ps g c n) s d) (bases_of h d)
     (λ base has. let falls = keeps.bases d base has in same_base h rows (brought h rows ps f c n) (brought h rows ps g c n) s d base (λ way t. same_brought h rows ps f g c keeps possible n t base.class (λ e lt. agree e (omega arith)))))
-    ∙ ap (λ t. (part_at d 0 ∷ member_parts h rows g d) ++ (flat_map (base_brings h rows (brought h rows ps g c n) s d) (bases_of h d) ++ t))
+    ∙ ap (λ t. (placed_part d 0 ∷ parts_in_members h rows g d) ++ (flat_map (base_brings h rows (brought h rows ps g c n) s d) (bases_of h d) ++ t))
     (same_virtual (brought h rows ps f c n) (brought h rows ps g c n) (held_base h ps c s d)
     (λ v e t. let falls = possible.before.falls d v (held_is_primary h ps c s d v e) in same_brought h rows ps f g c keeps possible n t v (λ x lt. agree x (omega arith)))))
 
@@ -85,9 +85,9 @@ objects_agree h rows ps f g c class keeps possible e agree =
     let own : members_of h c ≡ class.members = ap members_of_class e in
     let members : map (member_component rows f) class.members ≡ map (member_component rows g) class.members =
     ap (λ xs. map (member_component rows f) xs) (sym own) ∙ (same_members h rows f g c keeps agree ∙ ap (λ xs. map (member_component rows g) xs) own) in
-    ap (λ (t : List Component). part_at c 0 ∷ (parts_at t (map (placed_place h rows c) (fronts ps c class)) ++ (parts_at (map (member_component rows f) class.members) (members_in (slice_get rows c.0)) ++ parts_at (free_components h rows ps f c) (map (placed_place h rows c) (free_bases h ps c))))) front
-    ∙ (ap (λ (t : List Component). part_at c 0 ∷ (parts_at (front_components h rows ps g c class) (map (placed_place h rows c) (fronts ps c class)) ++ (parts_at t (members_in (slice_get rows c.0)) ++ parts_at (free_components h rows ps f c) (map (placed_place h rows c) (free_bases h ps c))))) members
-    ∙ ap (λ (t : List Component). part_at c 0 ∷ (parts_at (front_components h rows ps g c class) (map (placed_place h rows c) (fronts ps c class)) ++ (parts_at (map (member_component rows g) class.members) (members_in (slice_get rows c.0)) ++ parts_at t (map (placed_place h rows c) (free_bases h ps c))))) free)
+    ap (λ (t : List Component). placed_part c 0 ∷ (parts_at t (map (placed_place h rows c) (fronts ps c class)) ++ (parts_at (map (member_component rows f) class.members) (member_places_in (slice_get rows c.0)) ++ parts_at (free_components h rows ps f c) (map (placed_place h rows c) (free_bases h ps c))))) front
+    ∙ (ap (λ (t : List Component). placed_part c 0 ∷ (parts_at (front_components h rows ps g c class) (map (placed_place h rows c) (fronts ps c class)) ++ (parts_at t (member_places_in (slice_get rows c.0)) ++ parts_at (free_components h rows ps f c) (map (placed_place h rows c) (free_bases h ps c))))) members
+    ∙ ap (λ (t : List Component). placed_part c 0 ∷ (parts_at (front_components h rows ps g c class) (map (placed_place h rows c) (fronts ps c class)) ++ (parts_at (map (member_component rows g) class.members) (member_places_in (slice_get rows c.0)) ++ parts_at t (map (placed_place h rows c) (free_bases h ps c))))) free)
 
 -- any number of steps above that of the class is enough
 pub object_steps : (h : Classes) (rows : List ClassLayout) (ps : List Primary) → IsHierarchy h → ArePossible h ps → (n m : ℕ) (c : ClassId) → c.0 < n → c.0 < m → object_parts_within h rows ps n c ≡ object_parts_within h rows ps m c

@@ -24,15 +24,15 @@ use Rattle.foundation.proofs.Members.{index_of}
 use Rattle.abi_layout.specs.declared.placed_bases.PlacedBase.{PlacedBase}
 use Rattle.abi_layout.specs.declared.placed_bases.PlacedBase.TheVariants.{Own, VirtualBase}
 use Rattle.cxx_hierarchy.specs.Declarations.{is_plain_base}
-use Rattle.abi_sound.specs.Places.{base_place, place_along}
+use Rattle.abi_sound.specs.Places.{direct_base_place, place_along}
 use Rattle.abi_layout.specs.Placements.{nvsize_in}
 use Rattle.cxx_subobject.specs.declared.locations.Hop.{Hop}
 use Rattle.cxx_subobject.specs.declared.locations.Hop.TheVariants.{Inherit, Member as Element}
 use Rattle.abi_layout.specs.invariants.OwnPlaces.{is_own}
 use Rattle.cxx_subobject.specs.VirtualBases.{virtual_bases}
-use Rattle.abi_layout.specs.Holding.{virtual_primary, virtual_primary_of, holds_base}
+use Rattle.abi_layout.specs.Holding.{virtual_primary_base, virtual_primary_of, holds_base}
 use Rattle.abi_layout.specs.PlacedBases.{class_of_placed, subobject_of, front_bases, is_free, free_bases}
-use Rattle.abi_layout.specs.Layouts.{virtual_place, place_of, placed_place, primary_of, fronts}
+use Rattle.abi_layout.specs.Layouts.{virtual_place, place_in_class, placed_place, primary_of, fronts}
 use Rattle.abi_layout.proofs.lists.Lists.{number}
 use Rattle.abi_layout.proofs.rules.Stages.{Has, has_left, has_right, has_map, split}
 use Rattle.abi_layout.proofs.rules.KindLemmas.{has_of, contains_of, in_filter}
@@ -126,11 +126,11 @@ along_path h rows ps c d s (b ∷ path) leads =
     let listed : Has (filter is_plain_base (bases_of h d)) leads.0.base = in_filter is_plain_base (bases_of h d) leads.0.base (has_of (bases_of h d) leads.0.base leads.0.listed) (ap not leads.0.way) in
     let mapped : Has (map (inner_base h rows c s d) (filter is_plain_base (bases_of h d))) (inner_base h rows c s d leads.0.base) = has_map (inner_base h rows c s d) (filter is_plain_base (bases_of h d)) leads.0.base listed in
     let there : Has (contents_of h rows ps (Within c s d)) (inner_base h rows c s d leads.0.base) = has_right (members_at h rows d) _ _ (has_left (map (inner_base h rows c s d) (filter is_plain_base (bases_of h d))) _ _ mapped) in
-    let step : IsReached (contents_of h rows ps) (Within c s d) (Within c inner b) (base_place h rows d b) = subst (λ (x : ClassId). IsReached (contents_of h rows ps) (Within c s d) (Within c (subobject s.root (s.path ++ x ∷ [])) x) (base_place h rows d x)) leads.0.class
-    (reached_one (contents_of h rows ps) (Within c s d) c (subobject s.root (s.path ++ leads.0.base.class ∷ [])) leads.0.base.class (base_place h rows d leads.0.base.class) (nvsize_in (slice_get rows leads.0.base.class.0)) there) in
+    let step : IsReached (contents_of h rows ps) (Within c s d) (Within c inner b) (direct_base_place h rows d b) = subst (λ (x : ClassId). IsReached (contents_of h rows ps) (Within c s d) (Within c (subobject s.root (s.path ++ x ∷ [])) x) (direct_base_place h rows d x)) leads.0.class
+    (reached_one (contents_of h rows ps) (Within c s d) c (subobject s.root (s.path ++ leads.0.base.class ∷ [])) leads.0.base.class (direct_base_place h rows d leads.0.base.class) (nvsize_in (slice_get rows leads.0.base.class.0)) there) in
     let rest = along_path h rows ps c b inner path leads.1 in
-    let joined = reached_further (contents_of h rows ps) (Within c s d) (Within c inner b) (Within c (subobject s.root ((s.path ++ b ∷ []) ++ path)) (last_of b path)) (base_place h rows d b) (place_along h rows b path) step rest in
-    subst (λ (p : List ClassId). IsReached (contents_of h rows ps) (Within c s d) (Within c (subobject s.root p) (last_of b path)) (base_place h rows d b + place_along h rows b path)) (append_assoc s.path (b ∷ []) path) joined
+    let joined = reached_further (contents_of h rows ps) (Within c s d) (Within c inner b) (Within c (subobject s.root ((s.path ++ b ∷ []) ++ path)) (last_of b path)) (direct_base_place h rows d b) (place_along h rows b path) step rest in
+    subst (λ (p : List ClassId). IsReached (contents_of h rows ps) (Within c s d) (Within c (subobject s.root p) (last_of b path)) (direct_base_place h rows d b + place_along h rows b path)) (append_assoc s.path (b ∷ []) path) joined
 
 -- a base that is placed in the class of the object
 pub at_front : (h : Classes) (rows : List ClassLayout) (nearly : List Bool) (ps : List Primary) (c : ClassId) (r : HasRow h rows nearly ps c) (base : PlacedBase) → Has (fronts ps c r.class) base → Has (contents_of h rows ps (Complete c)) (placed_base h rows c base)
@@ -167,7 +167,7 @@ pub virtual_front : (h : Classes) (rows : List ClassLayout) (nearly : List Bool)
 virtual_front h rows nearly ps c v r e = subst (λ (p : Primary). Has (front_bases p r.class.bases) (VirtualBase v)) (sym e) (inl refl)
 
 -- a subobject in the whole, by its path
-whole_reached : (h : Classes) (rows : List ClassLayout) (nearly : List Bool) (ps : List Primary) → IsLaidOut h rows nearly ps → (c : ClassId) (path : List ClassId) → c.0 < length h → Leads h c path → IsReached (contents_of h rows ps) (Complete c) (node_of c (subobject Whole (c ∷ path)) (last_of c path)) (place_of h rows c (subobject Whole (c ∷ path)))
+whole_reached : (h : Classes) (rows : List ClassLayout) (nearly : List Bool) (ps : List Primary) → IsLaidOut h rows nearly ps → (c : ClassId) (path : List ClassId) → c.0 < length h → Leads h c path → IsReached (contents_of h rows ps) (Complete c) (node_of c (subobject Whole (c ∷ path)) (last_of c path)) (place_in_class h rows c (subobject Whole (c ∷ path)))
 whole_reached h rows nearly ps known c [] lt leads = reached_here (contents_of h rows ps) (Complete c)
 whole_reached h rows nearly ps known c (b ∷ path) lt leads =
     let r = row_of h rows nearly ps known c lt in
@@ -192,13 +192,13 @@ holder_is h ps c v t keeps e =
     by_class (Some w) f = ap (λ n. Some (number n)) (eqb-true w.0 v.0 f)
 
 -- from the holder of a virtual base to this
-pub from_holder : (h : Classes) (rows : List ClassLayout) (ps : List Primary) (c v : ClassId) (t : Subobject) (d : ClassId) → holder_of h ps c v ≡ Some t → virtual_primary ps d ≡ Some v → IsReached (contents_of h rows ps) (Within c t d) (Within c (shared_base v) v) 0
+pub from_holder : (h : Classes) (rows : List ClassLayout) (ps : List Primary) (c v : ClassId) (t : Subobject) (d : ClassId) → holder_of h ps c v ≡ Some t → virtual_primary_base ps d ≡ Some v → IsReached (contents_of h rows ps) (Within c t d) (Within c (shared_base v) v) 0
 from_holder h rows ps c v t d e primary =
     let holds : holds_base h ps c t v ≡ true = ap (λ (o : Option Subobject). Rattle.abi_layout.specs.Holding.is_holder o t) e ∙ same_itself t in
     let start : Has (virtual_start h rows ps c t (Some v)) (one_at (Within c (shared_base v) v) 0 (nvsize_in (slice_get rows v.0))) = inl (ap (λ b. one_at (if b then Within c (shared_base v) v else Pointer) 0 (nvsize_in (slice_get rows v.0))) holds) in
-    let there : Has (virtual_start h rows ps c t (virtual_primary ps d)) (one_at (Within c (shared_base v) v) 0 (nvsize_in (slice_get rows v.0))) = subst (λ (o : Option ClassId). Has (virtual_start h rows ps c t o) (one_at (Within c (shared_base v) v) 0 (nvsize_in (slice_get rows v.0)))) (sym primary) start in
+    let there : Has (virtual_start h rows ps c t (virtual_primary_base ps d)) (one_at (Within c (shared_base v) v) 0 (nvsize_in (slice_get rows v.0))) = subst (λ (o : Option ClassId). Has (virtual_start h rows ps c t o) (one_at (Within c (shared_base v) v) 0 (nvsize_in (slice_get rows v.0)))) (sym primary) start in
     reached_one (contents_of h rows ps) (Within c t d) c (shared_base v) v 0 (nvsize_in (slice_get rows v.0))
-    (has_right (members_at h rows d) _ _ (has_right (map (inner_base h rows c t d) (filter is_plain_base (bases_of h d))) _ _ (has_left (virtual_start h rows ps c t (virtual_primary ps d)) _ _ there)))
+    (has_right (members_at h rows d) _ _ (has_right (map (inner_base h rows c t d) (filter is_plain_base (bases_of h d))) _ _ (has_left (virtual_start h rows ps c t (virtual_primary_base ps d)) _ _ there)))
 
 -- a virtual base is reached where no subobject holds it, and else through the one that does
 virtual_reached : (h : Classes) (rows : List ClassLayout) (nearly : List Bool) (ps : List Primary) → IsLaidOut h rows nearly ps → (n : ℕ) (c v : ClassId) → c.0 < length h → HasVirtualBase h c v → c.0 ≤ v.0 + n → IsReached (contents_of h rows ps) (Complete c) (Within c (shared_base v) v) (virtual_place rows c v)
@@ -215,12 +215,12 @@ virtual_reached h rows nearly ps known (suc n) c v lt has le = by_holder (holder
     placed : Has (contents_of h rows ps (Complete c)) (placed_base h rows c (VirtualBase v)) → IsReached contents (Complete c) (Within c (shared_base v) v) (virtual_place rows c v)
     placed there = reached_place contents (Complete c) (Within c (shared_base v) v) _ _ (omega arith) (reached_base h rows ps c (VirtualBase v) there)
 
-    through_holder : (t : Subobject) (d : ClassId) → holder_of h ps c v ≡ Some t → virtual_primary ps d ≡ Some v → IsReached contents (Complete c) (Within c t d) (place_of h rows c t) → IsReached contents (Complete c) (Within c (shared_base v) v) (virtual_place rows c v)
+    through_holder : (t : Subobject) (d : ClassId) → holder_of h ps c v ≡ Some t → virtual_primary_base ps d ≡ Some v → IsReached contents (Complete c) (Within c t d) (place_in_class h rows c t) → IsReached contents (Complete c) (Within c (shared_base v) v) (virtual_place rows c v)
     through_holder t d e primary way =
         let r = row_of h rows nearly ps known c lt in
         let at = r.laid.held v t (contains_of (virtual_bases h c) v listed) e in
-        reached_place contents (Complete c) (Within c (shared_base v) v) (place_of h rows c t + 0) (virtual_place rows c v) (omega arith)
-        (reached_further contents (Complete c) (Within c t d) (Within c (shared_base v) v) (place_of h rows c t) 0 way (from_holder h rows ps c v t d e primary))
+        reached_place contents (Complete c) (Within c (shared_base v) v) (place_in_class h rows c t + 0) (virtual_place rows c v) (omega arith)
+        (reached_further contents (Complete c) (Within c t d) (Within c (shared_base v) v) (place_in_class h rows c t) 0 way (from_holder h rows ps c v t d e primary))
 
     by_root : (t : Subobject) → IsSubobject h c t → holder_of h ps c v ≡ Some t → virtual_primary_of ps t ≡ Some v → ((w : ClassId) → HasVirtualBase h c w → v.0 < w.0 → IsReached contents (Complete c) (Within c (shared_base w) w) (virtual_place rows c w)) → IsReached contents (Complete c) (Within c (shared_base v) v) (virtual_place rows c v)
     by_root _ (whole [] l) e primary next = let r = row_of h rows nearly ps known c lt in placed (at_front h rows nearly ps c r (VirtualBase v) (virtual_front h rows nearly ps c v r (primary_is_virtual ps c v primary)))
@@ -238,8 +238,8 @@ virtual_reached h rows nearly ps known (suc n) c v lt has le = by_holder (holder
     by_holder (Some t) e next = let x = holder_is h ps c v t known.keeps e in by_root t x.valid e x.primary next
 
 -- each inheritance subobject is reached, at its place
-pub subobject_reached : (h : Classes) (rows : List ClassLayout) (nearly : List Bool) (ps : List Primary) → IsLaidOut h rows nearly ps → (c : ClassId) (s : Subobject) (d : ClassId) → c.0 < length h → IsSubobject h c s → class_of s ≡ Some d → IsReached (contents_of h rows ps) (Complete c) (node_of c s d) (place_of h rows c s)
-subobject_reached h rows nearly ps known c _ d lt (whole path l) e = let same : last_of c path ≡ d = cc in subst (λ (x : ClassId). IsReached (contents_of h rows ps) (Complete c) (node_of c (subobject Whole (c ∷ path)) x) (place_of h rows c (subobject Whole (c ∷ path)))) same (whole_reached h rows nearly ps known c path lt l)
+pub subobject_reached : (h : Classes) (rows : List ClassLayout) (nearly : List Bool) (ps : List Primary) → IsLaidOut h rows nearly ps → (c : ClassId) (s : Subobject) (d : ClassId) → c.0 < length h → IsSubobject h c s → class_of s ≡ Some d → IsReached (contents_of h rows ps) (Complete c) (node_of c s d) (place_in_class h rows c s)
+subobject_reached h rows nearly ps known c _ d lt (whole path l) e = let same : last_of c path ≡ d = cc in subst (λ (x : ClassId). IsReached (contents_of h rows ps) (Complete c) (node_of c (subobject Whole (c ∷ path)) x) (place_in_class h rows c (subobject Whole (c ∷ path)))) same (whole_reached h rows nearly ps known c path lt l)
 subobject_reached h rows nearly ps known c _ d lt (shared v path has l) e =
     let same : last_of v path ≡ d = cc in
     let first = virtual_reached h rows nearly ps known c.0 c v lt has (omega arith) in

@@ -17,10 +17,10 @@ use Rattle.abi_layout.specs.declared.component.Component.{Component}
 use Rattle.abi_layout.specs.declared.component.Stage.{Stage}
 use Rattle.abi_sound.specs.declared.class_layout.Bits.{Bits}
 use Rattle.abi_sound.specs.declared.class_layout.ClassLayout.{ClassLayout}
-use Rattle.abi_sound.specs.Places.{size_of_value, size_in, nvalign_in, first_bit}
+use Rattle.abi_sound.specs.Places.{size_of_value, size_in_row, nvalign_in, first_bit}
 use Rattle.abi_sound.specs.Sound.{Divides}
 use Rattle.abi_layout.specs.Kinds.{is_empty}
-use Rattle.abi_layout.specs.Placements.{nvsize_in, elements_of, size_of_type, align_of_type, IsInUnit, member_component}
+use Rattle.abi_layout.specs.Placements.{nvsize_in, elements_of, size_of_member_type, align_of_type, IsInUnit, member_component}
 use Rattle.abi_layout.specs.invariants.Alignments.{IsAlignment, byte, two_bytes, four_bytes, eight_bytes}
 use Rattle.abi_layout.proofs.rules.Stages.{Has, split, has_cases, IsPut}
 use Rattle.abi_layout.proofs.lists.Divisions.{sum_divides, through_divides, itself_divides, zero_divides, copy_ends}
@@ -89,7 +89,7 @@ bits_of_bytes size = record { first = 0; width = 8 * size }
 
 -- what a base is to its class
 abbrev pub base_component : Classes → List ClassLayout → ClassId → List Part → Component
-base_component h rows b parts = record { is_empty = is_empty h b; align = nvalign_in (slice_get rows b.0); takes = if is_empty h b then size_in (slice_get rows b.0) else nvsize_in (slice_get rows b.0); width = None; parts = parts }
+base_component h rows b parts = record { is_empty = is_empty h b; align = nvalign_in (slice_get rows b.0); takes = if is_empty h b then size_in_row (slice_get rows b.0) else nvsize_in (slice_get rows b.0); width = None; parts = parts }
 
 -- one copy is at the place
 aligned_once : (align at e stride : ℕ) → e < 1 → Divides align at → Divides align (at + e * stride)
@@ -99,7 +99,7 @@ aligned_once align at e stride within d = let z : e * stride ≡ 0 = no_copies e
 pub base_stands : (h : Classes) (rows : List ClassLayout) (c : ClassId) (s : Subobject) (b : ClassId) (parts : List Part) (at : ℕ) → IsFine h rows b
     → Stands (measures_of h rows) (base_component h rows b parts) at (bits_of_bytes (base_component h rows b parts).takes) (one_at (Within c s b) at (nvsize_in (slice_get rows b.0)))
 base_stands h rows c s b parts at f =
-    let size = size_in (slice_get rows b.0) in
+    let size = size_in_row (slice_get rows b.0) in
     let nvsize = nvsize_in (slice_get rows b.0) in
     let x = f.nvsize in
     let y = f.positive in
@@ -122,7 +122,7 @@ base_stands h rows c s b parts at f =
 pub pointer_stands : (h : Classes) (rows : List ClassLayout) (b : ClassId) (parts : List Part) (at : ℕ) → IsFine h rows b → IsDynamic h b → is_empty h b ≡ false
     → Stands (measures_of h rows) (base_component h rows b parts) at (bits_of_bytes (base_component h rows b parts).takes) (one_at Pointer at (nvsize_in (slice_get rows b.0)))
 pointer_stands h rows b parts at f dynamic other =
-    let size = size_in (slice_get rows b.0) in
+    let size = size_in_row (slice_get rows b.0) in
     let nvsize = nvsize_in (slice_get rows b.0) in
     let x : 8 ≤ nvsize = f.dynamic dynamic in
     let t : (if is_empty h b then size else nvsize) ≡ nvsize = ap (λ t. if t then size else nvsize) other in
@@ -149,10 +149,10 @@ pub record IsNarrow (width : Option ℕ) (type : FieldType ClassId) (count : Opt
 
 -- what a member of this width, type and count is to its class
 abbrev pub component_with : List ClassLayout → Option ℕ → FieldType ClassId → Option ℕ → List Part → Component
-component_with rows width type count parts = record { is_empty = false; align = align_of_type rows type; takes = elements_of count * size_of_type rows type; width = width; parts = parts }
+component_with rows width type count parts = record { is_empty = false; align = align_of_type rows type; takes = elements_of count * size_of_member_type rows type; width = width; parts = parts }
 
 abbrev pub placement_with : List ClassLayout → ClassId → ℕ → Option ℕ → FieldType ClassId → Option ℕ → ℕ → Placement
-placement_with rows d n width type count place = record { node = node_of_member d n width type; place = place; count = elements_of count; stride = size_of_type rows type; member = n }
+placement_with rows d n width type count place = record { node = node_of_member d n width type; place = place; count = elements_of count; stride = size_of_member_type rows type; member = n }
 
 -- bits in one unit of a type end with the bytes of a value of it from their place on
 in_unit_fits : (bytes width place first : ℕ) → IsAlignment bytes → IsInUnit bytes width (8 * place + first) → first < 8 → first + width ≤ 8 * bytes
@@ -163,17 +163,17 @@ in_unit_fits _ width place first eight_bytes is low = let a = is.behind in let b
 
 -- the elements of a member that is no bit-field
 record IsTypeSized (h : Classes) (rows : List ClassLayout) (d : ClassId) (n : ℕ) (type : FieldType ClassId) : Type 0 where
-  span : span_of rows (node_of_member d n None type) ≡ size_of_type rows type
+  span : span_of rows (node_of_member d n None type) ≡ size_of_member_type rows type
   data_start : data_start_of rows (node_of_member d n None type) ≡ 0
-  data_end : data_end_of h rows (node_of_member d n None type) ≤ 8 * size_of_type rows type
+  data_end : data_end_of h rows (node_of_member d n None type) ≤ 8 * size_of_member_type rows type
   align : align_of rows (node_of_member d n None type) ≡ align_of_type rows type
 
 type_sized : (h : Classes) (rows : List ClassLayout) (d : ClassId) (n : ℕ) (type : FieldType ClassId) → IsFineType rows type → first_bit rows d n ≡ 0 → IsTypeSized h rows d n type
 type_sized h rows d n (Value type) f start = record { span = most (size_of_value type) f.positive; data_start = start; data_end = omega (arith, start); align = refl }
 type_sized h rows d n (Object e) f start = record {
-  span = most (size_in (slice_get rows e.0)) f.positive;
+  span = most (size_in_row (slice_get rows e.0)) f.positive;
   data_start = refl;
-  data_end = split (is_empty h e) (λ t. 8 * (if t then 0 else size_in (slice_get rows e.0)) ≤ 8 * size_in (slice_get rows e.0)) (λ e. omega arith) (λ e. omega arith);
+  data_end = split (is_empty h e) (λ t. 8 * (if t then 0 else size_in_row (slice_get rows e.0)) ≤ 8 * size_in_row (slice_get rows e.0)) (λ e. omega arith) (λ e. omega arith);
   align = refl;
 }
 
@@ -181,7 +181,7 @@ whole_stands : (h : Classes) (rows : List ClassLayout) (d : ClassId) (n : ℕ) (
     → Stands (measures_of h rows) (component_with rows None type count parts) at bits (placement_with rows d n None type count at)
 whole_stands h rows d n type count parts at bits f is start =
     let first : bits.first ≡ 0 = ap (λ (b : Bits). b.first) is in
-    let width : bits.width ≡ 8 * (elements_of count * size_of_type rows type) = ap (λ (b : Bits). b.width) is in
+    let width : bits.width ≡ 8 * (elements_of count * size_of_member_type rows type) = ap (λ (b : Bits). b.width) is in
     let t = type_sized h rows d n type f (start ∙ first) in
     let s = t.span in
     let begun = t.data_start in
@@ -189,17 +189,17 @@ whole_stands h rows d n type count parts at bits f is start =
     let align : Divides (align_of rows (node_of_member d n None type)) (align_of_type rows type) = subst (λ a. Divides a (align_of_type rows type)) (sym t.align) (itself_divides (align_of_type rows type)) in
     record {
       place = refl;
-      spans = λ e within. let c = copy_ends e (elements_of count) (size_of_type rows type) within in omega (arith, c, s, first, width);
+      spans = λ e within. let c = copy_ends e (elements_of count) (size_of_member_type rows type) within in omega (arith, c, s, first, width);
       some = λ z. refl;
       low = omega (arith, begun);
       begins = λ full e within. omega (arith, first);
-      ends = λ full e within. let c = copy_ends e (elements_of count) (size_of_type rows type) within in omega (arith, c, ended, first, width);
+      ends = λ full e within. let c = copy_ends e (elements_of count) (size_of_member_type rows type) within in omega (arith, c, ended, first, width);
       data_fits = ended;
       copies = λ e f lt within. omega (arith, s);
       align = align;
-      aligned = λ multiple e within. sum_divides (align_of rows (node_of_member d n None type)) at (e * size_of_type rows type)
+      aligned = λ multiple e within. sum_divides (align_of rows (node_of_member d n None type)) at (e * size_of_member_type rows type)
           (through_divides (align_of rows (node_of_member d n None type)) (align_of_type rows type) at align (multiple refl))
-          (subst (λ a. Divides a (e * size_of_type rows type)) (sym t.align) (times_divides (align_of_type rows type) (size_of_type rows type) e f.multiple));
+          (subst (λ a. Divides a (e * size_of_member_type rows type)) (sym t.align) (times_divides (align_of_type rows type) (size_of_member_type rows type) e f.multiple));
     }
 
 -- a bit-field

@@ -8,7 +8,7 @@ use Rattle.abi_primary.specs.Kinds.{IsDynamic}
 use Rattle.abi_sound.specs.declared.class_layout.ClassLayout.{ClassLayout}
 use Rattle.cxx_subobject.specs.declared.locations.Hop.{Hop}
 use Rattle.cxx_subobject.specs.Locations.{LeadsTo}
-use Rattle.abi_sound.specs.Locations.{place_at}
+use Rattle.abi_sound.specs.Locations.{place_along_hops}
 use Rattle.abi_sound.specs.Chains.{ShareChain}
 use Rattle.abi_sound.specs.Places.{places_of}
 use Rattle.abi_layout.proofs.sound.ObjectTree.{Node, Complete, Pointer, Step, Reaches, contents_of}
@@ -27,10 +27,10 @@ pub record HasPointerWay (h : Classes) (rows : List ClassLayout) (ps : List Prim
   pub are : steps ≡ way.steps ++ chained.steps
   pub reaches : Reaches (contents_of h rows ps) (Complete c) steps q Pointer
 
-pub pointer_way : (h : Classes) (rows : List ClassLayout) (nearly : List Bool) (ps : List Primary) → IsLaidOut h rows nearly ps → (c d : ClassId) (hops : List Hop) → c.0 < length h → IsDynamic h d → LeadsTo h c hops (Object d) → HasPointerWay h rows ps c hops (place_at h (places_of h rows) c hops)
+pub pointer_way : (h : Classes) (rows : List ClassLayout) (nearly : List Bool) (ps : List Primary) → IsLaidOut h rows nearly ps → (c d : ClassId) (hops : List Hop) → c.0 < length h → IsDynamic h d → LeadsTo h c hops (Object d) → HasPointerWay h rows ps c hops (place_along_hops h (places_of h rows) c hops)
 pointer_way h rows nearly ps known c d hops lt dynamic leads =
     let x = located h rows nearly ps known c hops (Object d) lt leads in
-    let q = place_at h (places_of h rows) c hops in
+    let q = place_along_hops h (places_of h rows) c hops in
     let y = has_chain h rows nearly ps known d x.node dynamic x.ends in
     let contents = contents_of h rows ps in
     let on = chain_reaches contents (places_of h rows) y.top x.node y.subobject_is y.steps y.chain in

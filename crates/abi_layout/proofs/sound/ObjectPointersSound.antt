@@ -10,10 +10,10 @@ use Rattle.abi_primary.specs.declared.Primary.{Primary}
 use Rattle.abi_primary.specs.Kinds.{IsDynamic}
 use Rattle.cxx_subobject.specs.Locations.{LeadsTo}
 use Rattle.abi_sound.specs.declared.class_layout.ClassLayout.{ClassLayout}
-use Rattle.abi_sound.specs.Places.{size_in}
+use Rattle.abi_sound.specs.Places.{size_in_row}
 use Rattle.cxx_subobject.specs.declared.locations.Hop.{Hop}
 use Rattle.abi_layout.specs.Kinds.{is_empty}
-use Rattle.abi_sound.specs.Locations.{place_at, AreDisjoint, bits_of_value, pointer_span}
+use Rattle.abi_sound.specs.Locations.{place_along_hops, AreDisjoint, bits_of_value, pointer_span}
 use Rattle.abi_sound.specs.Chains.{ShareChain}
 use Rattle.abi_sound.specs.Places.{places_of}
 use Rattle.abi_layout.proofs.sound.ObjectTree.{Node, Complete, Leaf, Pointer, Placement, Step, Contents, Reaches, here, down, LieApart, contents_of, measures_of}
@@ -57,10 +57,10 @@ inside_size true end size some le = absurd (omega arith)
 inside_size false end size some le = le
 
 -- a virtual pointer that is reached in a complete object ends inside it
-ends_inside : (h : Classes) (rows : List ClassLayout) (nearly : List Bool) (ps : List Primary) → IsLaidOut h rows nearly ps → (c : ClassId) (p : List Step) (q : ℕ) → Reaches (contents_of h rows ps) (Complete c) p q Pointer → q + 8 ≤ size_in (slice_get rows c.0)
+ends_inside : (h : Classes) (rows : List ClassLayout) (nearly : List Bool) (ps : List Primary) → IsLaidOut h rows nearly ps → (c : ClassId) (p : List Step) (q : ℕ) → Reaches (contents_of h rows ps) (Complete c) p q Pointer → q + 8 ≤ size_in_row (slice_get rows c.0)
 ends_inside h rows nearly ps known c p q way =
     let tree = object_is_sound h rows nearly ps known.keeps known.laid in
-    let inside = inside_size (is_empty h c) (8 * q + 64) (size_in (slice_get rows c.0)) (omega arith) (tree.ends (Complete c) Pointer p q way (omega arith)) in
+    let inside = inside_size (is_empty h c) (8 * q + 64) (size_in_row (slice_get rows c.0)) (omega arith) (tree.ends (Complete c) Pointer p q way (omega arith)) in
     omega (arith, inside)
 
 -- a number or a pointer and a virtual pointer lie apart
@@ -73,10 +73,10 @@ leaf_beside h rows nearly ps known c d m w type p o q r some way other =
     (λ e. let same : Pointer ≡ Leaf d m w type = same_end contents (Complete c) Pointer (Leaf d m w type) p o q r way other e in cc) (omega arith) (omega (arith, some))
 
 -- a virtual pointer at a location lies inside
-pub pointer_inside : (h : Classes) (rows : List ClassLayout) (nearly : List Bool) (ps : List Primary) → IsLaidOut h rows nearly ps → (c d : ClassId) (hops : List Hop) → c.0 < length h → IsDynamic h d → LeadsTo h c hops (Object d) → place_at h (places_of h rows) c hops + 8 ≤ (places_of h rows).size c
+pub pointer_inside : (h : Classes) (rows : List ClassLayout) (nearly : List Bool) (ps : List Primary) → IsLaidOut h rows nearly ps → (c d : ClassId) (hops : List Hop) → c.0 < length h → IsDynamic h d → LeadsTo h c hops (Object d) → place_along_hops h (places_of h rows) c hops + 8 ≤ (places_of h rows).size c
 pointer_inside h rows nearly ps known c d hops lt dynamic leads =
     let x = pointer_way h rows nearly ps known c d hops lt dynamic leads in
-    ends_inside h rows nearly ps known c x.steps (place_at h (places_of h rows) c hops) x.reaches
+    ends_inside h rows nearly ps known c x.steps (place_along_hops h (places_of h rows) c hops) x.reaches
 
 -- two virtual pointers are one and shared, or lie apart
 pointers_beside : (h : Classes) (rows : List ClassLayout) (nearly : List Bool) (ps : List Primary) → IsLaidOut h rows nearly ps → (c : ClassId) (hops others : List Hop) (q r : ℕ) → c.0 < length h → HasPointerWay h rows ps c hops q → HasPointerWay h rows ps c others r → ShareChain h (places_of h rows) c hops others ⊎ AreDisjoint (pointer_span q) (pointer_span r)
@@ -88,8 +88,8 @@ pointers_beside h rows nearly ps known c hops others q r lt x y =
     (same_steps x.steps y.steps)
 
 pub pointers_apart : (h : Classes) (rows : List ClassLayout) (nearly : List Bool) (ps : List Primary) → IsLaidOut h rows nearly ps → (c d e : ClassId) (hops others : List Hop) → c.0 < length h → IsDynamic h d → IsDynamic h e → LeadsTo h c hops (Object d) → LeadsTo h c others (Object e)
-    → ShareChain h (places_of h rows) c hops others ⊎ AreDisjoint (pointer_span (place_at h (places_of h rows) c hops)) (pointer_span (place_at h (places_of h rows) c others))
+    → ShareChain h (places_of h rows) c hops others ⊎ AreDisjoint (pointer_span (place_along_hops h (places_of h rows) c hops)) (pointer_span (place_along_hops h (places_of h rows) c others))
 pointers_apart h rows nearly ps known c d e hops others lt dynamic moves leads other =
     let x = pointer_way h rows nearly ps known c d hops lt dynamic leads in
     let y = pointer_way h rows nearly ps known c e others lt moves other in
-    pointers_beside h rows nearly ps known c hops others (place_at h (places_of h rows) c hops) (place_at h (places_of h rows) c others) lt x y
+    pointers_beside h rows nearly ps known c hops others (place_along_hops h (places_of h rows) c hops) (place_along_hops h (places_of h rows) c others) lt x y

@@ -25,10 +25,10 @@ use Rattle.cxx_subobject.proofs.VirtualBaseLemmas.{virtual_listed}
 use Rattle.abi_layout.proofs.rules.AgreeingParts.{primary_is_virtual}
 use Rattle.abi_layout.proofs.rules.RowPlacesFronts.{whole_holds}
 use Rattle.abi_layout.specs.declared.placed_bases.PlacedBase.TheVariants.{VirtualBase}
-use Rattle.abi_layout.specs.Holding.{virtual_in, virtual_primary}
+use Rattle.abi_layout.specs.Holding.{virtual_in, virtual_primary_base}
 use Rattle.abi_layout.specs.invariants.Scenes.{AreBefore}
 use Rattle.abi_layout.specs.PlacedBases.{IsPossible}
-use Rattle.abi_layout.specs.Layouts.{primary_of, placed_place, virtual_place, place_of, IsLaidRow, IsLaidBy}
+use Rattle.abi_layout.specs.Layouts.{primary_of, placed_place, virtual_place, place_in_class, IsLaidRow, IsLaidBy}
 use Rattle.abi_layout.proofs.lists.Lists.{get_within, has_at}
 use Rattle.abi_layout.proofs.rules.Stages.{Has}
 use Rattle.abi_layout.proofs.rules.KindLemmas.{contains_of}
@@ -124,7 +124,7 @@ virtual_primary_of h rows nearly primaries c v keeps laid lt e =
     let told = (laid.tells.each v (omega arith)).0 x.1 in
     (x.0, told.dynamic)
 
-pub virtual_when_primary : (ps : List Primary) (c v : ClassId) → primary_of ps c ≡ Virtual v → virtual_primary ps c ≡ Some v
+pub virtual_when_primary : (ps : List Primary) (c v : ClassId) → primary_of ps c ≡ Virtual v → virtual_primary_base ps c ≡ Some v
 virtual_when_primary ps c v e = at ps c.0 e
   where
     at : (qs : List Primary) (i : ℕ) → get_or qs i NoPrimary ≡ Virtual v → virtual_in (slice_get qs i) ≡ Some v
@@ -138,7 +138,7 @@ laid_before h rows nearly primaries keeps laid = record {
   falls = λ d v e. ⊎_elim (λ same. absurd (past d v e (omega arith))) (λ o. ⊎_elim (λ lt. virtual_below h keeps d v (virtual_primary_of h rows nearly primaries d v keeps laid lt (primary_is_virtual primaries d v e)).0) (λ gt. absurd (past d v e (omega arith))) o) (cases_order d.0 (length h));
 }
   where
-    past : (d v : ClassId) → virtual_primary primaries d ≡ Some v → length h ≤ d.0 → ⊥
+    past : (d v : ClassId) → virtual_primary_base primaries d ≡ Some v → length h ≤ d.0 → ⊥
     past d v e le =
         let count = laid.primary_each in
         let nothing : primary_of primaries d ≡ NoPrimary = get_or_past primaries d.0 NoPrimary (omega arith) in
@@ -149,5 +149,5 @@ pub virtual_at_start : (h : Classes) (rows : List ClassLayout) (nearly : List Bo
 virtual_at_start h rows nearly primaries d v keeps laid lt e =
     let r = row_of h rows nearly primaries d laid lt in
     let has = (virtual_primary_of h rows nearly primaries d v keeps laid lt e).0 in
-    let f : virtual_place rows d v ≡ place_of h rows d (whole_of d) = r.laid.held v (whole_of d) (virtual_listed h keeps d v has) (whole_holds h primaries d v e) in
+    let f : virtual_place rows d v ≡ place_in_class h rows d (whole_of d) = r.laid.held v (whole_of d) (virtual_listed h keeps d v has) (whole_holds h primaries d v e) in
     omega arith

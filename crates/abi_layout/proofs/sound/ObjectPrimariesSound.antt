@@ -15,7 +15,7 @@ use Rattle.abi_primary.specs.PrimaryBase.{is_virtual_primary, has_primary_in, ha
 use Rattle.abi_sound.specs.declared.class_layout.ClassLayout.{ClassLayout}
 use Rattle.abi_sound.proofs.PrimaryParts.{IsPrimaryPart, by_direct, by_holder}
 use Rattle.abi_sound.proofs.PlaceLemmas.{direct_place}
-use Rattle.abi_layout.specs.Layouts.{place_of, virtual_place, primary_of}
+use Rattle.abi_layout.specs.Layouts.{place_in_class, virtual_place, primary_of}
 use Rattle.abi_sound.specs.Places.{places_of}
 use Rattle.abi_sound.specs.Sound.{is_primary_of}
 use Rattle.abi_layout.proofs.algorithm.SettledLemmas.{base_below}
@@ -32,7 +32,7 @@ pub class_inside : (h : Classes) (c : ClassId) (s : Subobject) (d : ClassId) →
 class_inside h c s d keeps lt valid class = let low = class_low h c s d keeps valid class in omega arith
 
 -- a primary base lies where its subobject does
-pub primary_place : (h : Classes) (rows : List ClassLayout) (nearly : List Bool) (ps : List Primary) → IsLaidOut h rows nearly ps → (c : ClassId) (s t : Subobject) → c.0 < length h → IsSubobject h c s → IsPrimaryPart (places_of h rows) c s t → place_of h rows c t ≡ place_of h rows c s
+pub primary_place : (h : Classes) (rows : List ClassLayout) (nearly : List Bool) (ps : List Primary) → IsLaidOut h rows nearly ps → (c : ClassId) (s t : Subobject) → c.0 < length h → IsSubobject h c s → IsPrimaryPart (places_of h rows) c s t → place_in_class h rows c t ≡ place_in_class h rows c s
 primary_place h rows nearly ps known c _ _ lt valid (by_direct s d b class primary) =
     let inside = class_inside h c s d known.keeps lt valid class in
     let is : primary_of ps d ≡ Direct b = sym (primary_told h rows nearly ps known d inside) ∙ primary in
@@ -45,7 +45,7 @@ primary_place h rows nearly ps known c _ _ lt valid (by_holder s d v class prima
     let is : primary_of ps d ≡ Virtual v = sym (primary_told h rows nearly ps known d inside) ∙ primary in
     let has = virtual_above h c s d v valid class (virtual_primary_of h rows nearly ps d v known.keeps known.laid inside is).0 in
     let r = row_of h rows nearly ps known c lt in
-    let at : virtual_place rows c v ≡ place_of h rows c s = r.laid.held v s (virtual_listed h known.keeps c v has) (sym (holder_told h rows nearly ps known c v lt has) ∙ holder) in
+    let at : virtual_place rows c v ≡ place_in_class h rows c s = r.laid.held v s (virtual_listed h known.keeps c v has) (sym (holder_told h rows nearly ps known c v lt has) ∙ holder) in
     omega arith
 
 -- the test of a holder by the rows is that by the primary bases

@@ -21,7 +21,7 @@ use Rattle.abi_layout.specs.declared.component.Stage.{Stage}
 use Rattle.abi_sound.specs.declared.class_layout.Bits.{Bits}
 use Rattle.abi_sound.specs.declared.class_layout.ClassLayout.{ClassLayout}
 use Rattle.abi_layout.specs.declared.placed_bases.PlacedBase.TheVariants.{Own, VirtualBase}
-use Rattle.abi_sound.specs.Places.{size_in, align_in, members_in, bits_in, first_in, first_bit}
+use Rattle.abi_sound.specs.Places.{size_in_row, align_in, member_places_in, member_bits_in, first_bit_in, first_bit}
 use Rattle.abi_layout.specs.Kinds.{is_kind, is_empty}
 use Rattle.abi_layout.specs.PlacedBases.{subobject_of, free_bases}
 use Rattle.abi_layout.specs.Brought.{brought_by}
@@ -91,9 +91,9 @@ narrow h c class member keeps at has k e =
 
 -- the first bit of a member, by its row
 pub first_of : (rows : List ClassLayout) (c : ClassId) (row : ClassLayout) (n : ℕ) → slice_get rows c.0 ≡ Some row → first_bit rows c n ≡ (bits_or (slice_get row.member_bits n)).first
-first_of rows c row n there = ap (λ (o : Option ClassLayout). first_in (slice_get (bits_in o) n)) there ∙ by_bits (slice_get row.member_bits n)
+first_of rows c row n there = ap (λ (o : Option ClassLayout). first_bit_in (slice_get (member_bits_in o) n)) there ∙ by_bits (slice_get row.member_bits n)
   where
-    by_bits : (o : Option Bits) → first_in o ≡ (bits_or o).first
+    by_bits : (o : Option Bits) → first_bit_in o ≡ (bits_or o).first
     by_bits None = refl
     by_bits (Some bits) = refl
 
@@ -120,7 +120,7 @@ complete_is h rows nearly primaries c k =
     let fs = fronts primaries c k.class in
     let vs = free_bases h primaries c in
     let members : members_at h rows c ≡ placed_members rows c 0 k.class.members k.row.member_places =
-    ap (λ (o : Option Class). placed_members rows c 0 (class_members_in o) (members_in (slice_get rows c.0))) k.there ∙ ap (λ (o : Option ClassLayout). placed_members rows c 0 k.class.members (members_in o)) k.row_there in
+    ap (λ (o : Option Class). placed_members rows c 0 (class_members_in o) (member_places_in (slice_get rows c.0))) k.there ∙ ap (λ (o : Option ClassLayout). placed_members rows c 0 k.class.members (member_places_in o)) k.row_there in
     ap (contents_of_object h rows primaries c) k.there
     ∙ laid_out (complete_place h rows c) (base_items fs) (member_items 0 k.class.members k.row.member_places) (base_items vs) (map (placed_base h rows c) fs) (members_at h rows c) (map (placed_base h rows c) vs) (own_pointer h primaries c)
     (bases_are rows c (placed_base h rows c) fs) (members_are rows c (placed_base h rows c) 0 k.class.members k.row.member_places ∙ sym members) (bases_are rows c (placed_base h rows c) vs)
@@ -182,8 +182,8 @@ complete_arranged h rows nearly primaries c keeps laid lt =
     stands : (x : Item) → Has items x → Stands m (component x) (place x) (bits x) (complete_place h rows c x) × (rank_of (complete_place h rows c x).node < 2 * c.0 + 2)
     stands x has = complete_stands h rows primaries c k.class k.row first last x keeps k.there k.row_there low (view x has) (put_is x has)
 
-    size_is : size_in (slice_get rows c.0) ≡ k.row.size
-    size_is = ap size_in k.row_there
+    size_is : size_in_row (slice_get rows c.0) ≡ k.row.size
+    size_is = ap size_in_row k.row_there
 
     align_is : align_in (slice_get rows c.0) ≡ k.row.align
     align_is = ap align_in k.row_there
@@ -197,11 +197,11 @@ complete_arranged h rows nearly primaries c keeps laid lt =
         let s = stands x has in
         let p = put_is x has in
         let l = f.last_size in
-        let r = le-max_right 1 (size_in (slice_get rows c.0)) in
+        let r = le-max_right 1 (size_in_row (slice_get rows c.0)) in
         let a = p.align in
         let b = f.align in
         in_place m (Complete c) first last (component x) (place x) (bits x) (complete_place h rows c x) s.0 p s.1 refl (omega (arith, l, r, size_is))
-        (λ other. let e : (if is_empty h c then 0 else size_in (slice_get rows c.0)) ≡ size_in (slice_get rows c.0) = ap (λ b. if b then 0 else size_in (slice_get rows c.0)) (item_has_data h rows primaries c k.class x keeps k.there (view x has) other) in omega (arith, l, e, size_is))
+        (λ other. let e : (if is_empty h c then 0 else size_in_row (slice_get rows c.0)) ≡ size_in_row (slice_get rows c.0) = ap (λ b. if b then 0 else size_in_row (slice_get rows c.0)) (item_has_data h rows primaries c k.class x keeps k.there (view x has) other) in omega (arith, l, e, size_is))
         (align_divides (component x).align (align_in (slice_get rows c.0)) (item_align h rows primaries c k.class x keeps k.there low (view x has)) here.align (omega (arith, a, b, align_is)))
 
     own : Owns h c first → IsInPlace m (Complete c) (one_at Pointer 0 8)
@@ -210,6 +210,6 @@ complete_arranged h rows nearly primaries c keeps laid lt =
         let s = here.nvsize in
         let a = here.dynamic_align o.dynamic in
         let b = here.aligns in
-        let r = le-max_right 1 (size_in (slice_get rows c.0)) in
-        let e : (if is_empty h c then 0 else size_in (slice_get rows c.0)) ≡ size_in (slice_get rows c.0) = ap (λ b. if b then 0 else size_in (slice_get rows c.0)) (dynamic_has_data h keeps c o.dynamic) in
+        let r = le-max_right 1 (size_in_row (slice_get rows c.0)) in
+        let e : (if is_empty h c then 0 else size_in_row (slice_get rows c.0)) ≡ size_in_row (slice_get rows c.0) = ap (λ b. if b then 0 else size_in_row (slice_get rows c.0)) (dynamic_has_data h keeps c o.dynamic) in
         own_in_place h rows (Complete c) (omega arith) refl (omega (arith, n, s, r)) (omega (arith, e, n, s)) (align_divides 8 (align_in (slice_get rows c.0)) eight_bytes here.align (omega (arith, a, b)))

@@ -19,12 +19,12 @@ use Rattle.cxx_subobject.proofs.PathLemmas.{virtual_through}
 use Rattle.abi_layout.specs.declared.placed_bases.PlacedBase.{PlacedBase}
 use Rattle.abi_layout.specs.declared.placed_bases.PlacedBase.TheVariants.{Own, VirtualBase}
 use Rattle.cxx_hierarchy.specs.Declarations.{is_plain_base}
-use Rattle.abi_sound.specs.Places.{members_in}
+use Rattle.abi_sound.specs.Places.{member_places_in}
 use Rattle.abi_layout.specs.Placements.{nvsize_in}
 use Rattle.cxx_hierarchy.specs.Declarations.{elements_of}
 use Rattle.cxx_subobject.specs.Locations.{IsElement}
 use Rattle.cxx_subobject.specs.VirtualBases.{virtual_bases}
-use Rattle.abi_layout.specs.Holding.{virtual_primary, holds_base}
+use Rattle.abi_layout.specs.Holding.{virtual_primary_base, holds_base}
 use Rattle.abi_layout.specs.PlacedBases.{class_of_placed, subobject_of, first_base, is_first_base, is_other_base, is_free, free_bases, IsPossible}
 use Rattle.abi_layout.specs.Layouts.{primary_of, fronts}
 use Rattle.abi_layout.proofs.rules.Stages.{Has, has_cases, split}
@@ -164,7 +164,7 @@ member_at rows d n (x ∷ members) (p ∷ places) k has = ⊎_elim
 
 member_kind : (h : Classes) (rows : List ClassLayout) (c d : ClassId) (k : Placement) → Has (members_at h rows d) k → IsStepKind h c d k
 member_kind h rows c d k has =
-    let x = member_at rows d 0 (members_of h d) (members_in (slice_get rows d.0)) k has in
+    let x = member_at rows d 0 (members_of h d) (member_places_in (slice_get rows d.0)) k has in
     let number : 0 + x.m ≡ x.m = omega arith in
     let count : k.count ≡ elements_of x.member.count = ap (λ (z : Placement). z.count) x.is in
     let node = ap (λ (z : Placement). z.node) x.is ∙ ap (λ n. node_of_member d n x.member.width x.member.ty) (sym (ap (λ (z : Placement). z.member) x.is)) in
@@ -214,8 +214,8 @@ step_kind h rows nearly ps known c _ _ _ k lt (inner_part s d valid class) has =
     (λ y. ⊎_elim
     (λ x. inner_kind h rows c d s k valid class x)
     (λ z. ⊎_elim
-    (λ x. virtual_kind h rows ps c d s k (virtual_primary ps d) (λ v e. virtual_above h c s d v valid class (virtual_primary_is h rows nearly ps known d v (omega arith) e).has) x)
+    (λ x. virtual_kind h rows ps c d s k (virtual_primary_base ps d) (λ v e. virtual_above h c s d v valid class (virtual_primary_is h rows nearly ps known d v (omega arith) e).has) x)
     (λ x. pointer_kind h ps c d k x)
-    (has_cases (virtual_start h rows ps c s (virtual_primary ps d)) _ k z))
+    (has_cases (virtual_start h rows ps c s (virtual_primary_base ps d)) _ k z))
     (has_cases (map (inner_base h rows c s d) (filter is_plain_base (bases_of h d))) _ k y))
     (has_cases (members_at h rows d) _ k has)

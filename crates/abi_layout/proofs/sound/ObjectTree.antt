@@ -12,18 +12,18 @@ use Rattle.cxx_hierarchy.specs.Classes.{Class, Classes, class_at, bases_of, memb
 use Rattle.cxx_subobject.specs.declared.Subobject.{Subobject}
 use Rattle.cxx_subobject.specs.Subobjects.{subobject, shared_base}
 use Rattle.abi_emptybase.specs.declared.Part.{Part}
-use Rattle.abi_emptybase.specs.Table.{moved}
+use Rattle.abi_emptybase.specs.Table.{moved_part}
 use Rattle.abi_primary.specs.declared.Primary.{Primary}
 use Rattle.abi_primary.specs.declared.Primary.TheVariants.{None as NoPrimary, Direct, Virtual}
 use Rattle.abi_sound.specs.declared.class_layout.ClassLayout.{ClassLayout}
 use Rattle.abi_layout.specs.declared.placed_bases.PlacedBase.{PlacedBase}
 use Rattle.cxx_hierarchy.specs.Declarations.{is_plain_base}
-use Rattle.abi_sound.specs.Places.{size_of_value, size_in, align_in, nvalign_in, members_in, base_place, first_bit}
+use Rattle.abi_sound.specs.Places.{size_of_value, size_in_row, align_in, nvalign_in, member_places_in, direct_base_place, first_bit}
 use Rattle.abi_sound.specs.Locations.{bits_of_value}
-use Rattle.abi_layout.specs.Placements.{nvsize_in, elements_of, size_of_type, copies}
+use Rattle.abi_layout.specs.Placements.{nvsize_in, elements_of, size_of_member_type, copies}
 use Rattle.abi_sound.specs.Sound.{Divides}
 use Rattle.abi_layout.specs.Kinds.{Kind, is_kind, has_virtual_function, is_empty}
-use Rattle.abi_layout.specs.Holding.{virtual_primary, holds_base}
+use Rattle.abi_layout.specs.Holding.{virtual_primary_base, holds_base}
 use Rattle.abi_layout.specs.PlacedBases.{class_of_placed, subobject_of, free_bases}
 use Rattle.abi_layout.specs.Brought.{brought_by}
 use Rattle.abi_layout.specs.Layouts.{primary_of, fronts, placed_place, object_parts}
@@ -124,7 +124,7 @@ class_of_node Pointer = None
 
 -- what a placement lists, where `parts` tells what a node does
 abbrev pub placed_parts : (Node → List Part) → Placement → List Part
-placed_parts parts k = map (moved k.place) (copies k.count k.stride (parts k.node))
+placed_parts parts k = map (moved_part k.place) (copies k.count k.stride (parts k.node))
 
 -- a class of the hierarchy is dynamic: it declares a virtual function, has a virtual base, or a dynamic base
 abbrev pub dynamic_kind : Kind
@@ -151,7 +151,7 @@ placed_base h rows c base = one_at (Within c (subobject_of c base) (class_of_pla
 
 -- a direct non-virtual base of the subobject s of class d
 abbrev pub inner_base : Classes → List ClassLayout → ClassId → Subobject → ClassId → Base ClassId → Placement
-inner_base h rows c s d base = one_at (Within c (subobject s.root (s.path ++ base.class ∷ [])) base.class) (base_place h rows d base.class) (nvsize_in (slice_get rows base.class.0))
+inner_base h rows c s d base = one_at (Within c (subobject s.root (s.path ++ base.class ∷ [])) base.class) (direct_base_place h rows d base.class) (nvsize_in (slice_get rows base.class.0))
 
 -- an element of the member m of class d
 abbrev pub node_of_member : ClassId → ℕ → Option ℕ → FieldType ClassId → Node
@@ -163,10 +163,10 @@ abbrev pub placed_members : List ClassLayout → ClassId → ℕ → List (Membe
 placed_members rows d n [] places = []
 placed_members rows d n (member ∷ members) [] = []
 placed_members rows d n (member ∷ members) (place ∷ places) =
-    record { node = node_of_member d n member.width member.ty; place = place; count = elements_of member.count; stride = size_of_type rows member.ty; member = n } ∷ placed_members rows d (suc n) members places
+    record { node = node_of_member d n member.width member.ty; place = place; count = elements_of member.count; stride = size_of_member_type rows member.ty; member = n } ∷ placed_members rows d (suc n) members places
 
 abbrev pub members_at : Classes → List ClassLayout → ClassId → List Placement
-members_at h rows d = placed_members rows d 0 (members_of h d) (members_in (slice_get rows d.0))
+members_at h rows d = placed_members rows d 0 (members_of h d) (member_places_in (slice_get rows d.0))
 
 -- at the start of s: the virtual primary base of its class, where s holds it, and else a virtual pointer in its place
 abbrev pub virtual_start : Classes → List ClassLayout → List Primary → ClassId → Subobject → Option ClassId → List Placement
@@ -186,7 +186,7 @@ contents_of h rows primaries (Complete c) = contents_of_object h rows primaries 
 contents_of h rows primaries (Within c s d) =
     members_at h rows d
     ++ (map (inner_base h rows c s d) (filter is_plain_base (bases_of h d))
-    ++ (virtual_start h rows primaries c s (virtual_primary primaries d)
+    ++ (virtual_start h rows primaries c s (virtual_primary_base primaries d)
     ++ own_pointer h primaries d))
 contents_of h rows primaries (Leaf d m w t) = []
 contents_of h rows primaries Pointer = []
@@ -207,7 +207,7 @@ align_of_value None type = size_of_value type
 align_of_value (Some n) type = 1
 
 abbrev pub span_of : List ClassLayout → Node → ℕ
-span_of rows (Complete c) = max 1 (size_in (slice_get rows c.0))
+span_of rows (Complete c) = max 1 (size_in_row (slice_get rows c.0))
 span_of rows (Within c s d) = max 1 (nvsize_in (slice_get rows d.0))
 span_of rows (Leaf d m w t) = span_of_value w t
 span_of rows Pointer = 8
@@ -219,7 +219,7 @@ data_start_of rows (Leaf d m w t) = first_bit rows d m
 data_start_of rows Pointer = 0
 
 abbrev pub data_end_of : Classes → List ClassLayout → Node → ℕ
-data_end_of h rows (Complete c) = 8 * (if is_empty h c then 0 else size_in (slice_get rows c.0))
+data_end_of h rows (Complete c) = 8 * (if is_empty h c then 0 else size_in_row (slice_get rows c.0))
 data_end_of h rows (Within c s d) = 8 * (if is_empty h d then 0 else nvsize_in (slice_get rows d.0))
 data_end_of h rows (Leaf d m w t) = first_bit rows d m + bits_of_value w t
 data_end_of h rows Pointer = 64

@@ -17,16 +17,16 @@ use Rattle.cxx_subobject.specs.Subobjects.{subobject, shared_base}
 use Rattle.cxx_subobject.proofs.ListLemmas.{Has, has_at, has_cases, contains_from_has}
 use Rattle.cxx_subobject.proofs.TreeLemmas.{has_filter}
 use Rattle.abi_emptybase.specs.declared.Part.{Part}
-use Rattle.abi_emptybase.specs.Table.{moved}
+use Rattle.abi_emptybase.specs.Table.{moved_part}
 use Rattle.abi_primary.specs.declared.Primary.{Primary}
 use Rattle.abi_sound.specs.declared.class_layout.ClassLayout.{ClassLayout}
 use Rattle.abi_layout.specs.declared.placed_bases.PlacedBase.{PlacedBase}
 use Rattle.abi_layout.specs.Kinds.{is_empty}
 use Rattle.cxx_hierarchy.specs.Declarations.{is_plain_base}
-use Rattle.abi_sound.specs.Places.{members_in, base_place}
-use Rattle.abi_layout.specs.Placements.{nvsize_in, part_at, parts_at, parts_of_type, copies, elements_of, size_of_type, member_component}
-use Rattle.abi_layout.specs.Holding.{virtual_primary, holds_base, kept_if, held_base}
-use Rattle.abi_layout.specs.Brought.{member_parts, base_brings, virtual_brings, brought_by}
+use Rattle.abi_sound.specs.Places.{member_places_in, direct_base_place}
+use Rattle.abi_layout.specs.Placements.{nvsize_in, placed_part, parts_at, parts_of_type, copies, elements_of, size_of_member_type, member_component}
+use Rattle.abi_layout.specs.Holding.{virtual_primary_base, holds_base, kept_if, held_base}
+use Rattle.abi_layout.specs.Brought.{parts_in_members, base_brings, virtual_brings, brought_by}
 use Rattle.abi_layout.specs.PlacedBases.{class_of_placed, subobject_of, free_bases, placed_component}
 use Rattle.abi_layout.specs.Layouts.{fronts, front_components, free_components, placed_place, object_parts}
 use Rattle.abi_layout.proofs.rules.Parts.{split}
@@ -39,11 +39,11 @@ use Rattle.abi_layout.proofs.sound.ObjectLists.{own_part, ListsParts}
 use Rattle.abi_layout.proofs.sound.ObjectParts.{ArePossible, front_below, free_below, object_here}
 
 one_copied : (stride : ℕ) (parts : List Part) → copies 1 stride parts ≡ parts
-one_copied stride parts = let z : 0 * stride ≡ 0 = omega arith in ap (λ n. map (moved n) parts) z ∙ moved_none parts
+one_copied stride parts = let z : 0 * stride ≡ 0 = omega arith in ap (λ n. map (moved_part n) parts) z ∙ moved_none parts
 
 -- what a placement of one node lists
-placed_once : (parts : Node → List Part) (node : Node) (place stride : ℕ) → placed_parts parts (one_at node place stride) ≡ map (moved place) (parts node)
-placed_once parts node place stride = ap (map (moved place)) (one_copied stride (parts node))
+placed_once : (parts : Node → List Part) (node : Node) (place stride : ℕ) → placed_parts parts (one_at node place stride) ≡ map (moved_part place) (parts node)
+placed_once parts node place stride = ap (map (moved_part place)) (one_copied stride (parts node))
 
 -- four lists of placements, the last of which lists nothing
 four_pieces : {X Y : Type 0} (f : X → List Y) (a b c d : List X) (x y z : List Y) → flat_map f a ≡ x → flat_map f b ≡ y → flat_map f c ≡ z → flat_map f d ≡ [] → flat_map f (a ++ (b ++ (c ++ d))) ≡ x ++ (y ++ z)
@@ -58,7 +58,7 @@ bases_listed h rows ps c [] = refl
 bases_listed h rows ps c (base ∷ bases) =
     ap (λ t. t ++ flat_map (placed_parts (node_parts h rows ps)) (map (placed_base h rows c) bases))
     (placed_once (node_parts h rows ps) (Within c (subobject_of c base) (class_of_placed base)) (placed_place h rows c base) (nvsize_in (slice_get rows (class_of_placed base).0)))
-    ∙ ap (λ t. map (moved (placed_place h rows c base)) (brought_by h rows ps (object_parts h rows ps) c (subobject_of c base) (class_of_placed base)) ++ t) (bases_listed h rows ps c bases)
+    ∙ ap (λ t. map (moved_part (placed_place h rows c base)) (brought_by h rows ps (object_parts h rows ps) c (subobject_of c base) (class_of_placed base)) ++ t) (bases_listed h rows ps c bases)
 
 type_listed : (h : Classes) (rows : List ClassLayout) (ps : List Primary) (d : ClassId) (n : ℕ) (width : Option ℕ) (type : FieldType ClassId) → node_parts h rows ps (node_of_member d n width type) ≡ parts_of_type (object_parts h rows ps) type
 type_listed h rows ps d n width (Value type) = refl
@@ -69,8 +69,8 @@ members_listed : (h : Classes) (rows : List ClassLayout) (ps : List Primary) (d 
 members_listed h rows ps d n [] places = refl
 members_listed h rows ps d n (member ∷ members) [] = refl
 members_listed h rows ps d n (member ∷ members) (place ∷ places) =
-    ap (λ t. map (moved place) (copies (elements_of member.count) (size_of_type rows member.ty) t) ++ flat_map (placed_parts (node_parts h rows ps)) (placed_members rows d (suc n) members places)) (type_listed h rows ps d n member.width member.ty)
-    ∙ ap (λ t. map (moved place) (copies (elements_of member.count) (size_of_type rows member.ty) (parts_of_type (object_parts h rows ps) member.ty)) ++ t) (members_listed h rows ps d (suc n) members places)
+    ap (λ t. map (moved_part place) (copies (elements_of member.count) (size_of_member_type rows member.ty) t) ++ flat_map (placed_parts (node_parts h rows ps)) (placed_members rows d (suc n) members places)) (type_listed h rows ps d n member.width member.ty)
+    ∙ ap (λ t. map (moved_part place) (copies (elements_of member.count) (size_of_member_type rows member.ty) (parts_of_type (object_parts h rows ps) member.ty)) ++ t) (members_listed h rows ps d (suc n) members places)
 
 pointer_listed : (h : Classes) (rows : List ClassLayout) (ps : List Primary) (b : Bool) → flat_map (placed_parts (node_parts h rows ps)) (if b then one_at Pointer 0 8 ∷ [] else []) ≡ []
 pointer_listed h rows ps true = refl
@@ -81,12 +81,12 @@ inner_listed : (h : Classes) (rows : List ClassLayout) (ps : List Primary) (c : 
 inner_listed h rows ps c s d [] = refl
 inner_listed h rows ps c s d (base ∷ bases) = split base.is_virtual
     (λ b. flat_map f (map (inner_base h rows c s d) (if not b then base ∷ filter is_plain_base bases else filter is_plain_base bases))
-    ≡ (if b then [] else map (moved (base_place h rows d base.class)) (by (if b then subobject (Shared base.class) (base.class ∷ []) else subobject s.root (s.path ++ base.class ∷ [])) base.class)) ++ flat_map (base_brings h rows by s d) bases)
+    ≡ (if b then [] else map (moved_part (direct_base_place h rows d base.class)) (by (if b then subobject (Shared base.class) (base.class ∷ []) else subobject s.root (s.path ++ base.class ∷ [])) base.class)) ++ flat_map (base_brings h rows by s d) bases)
     (λ t. inner_listed h rows ps c s d bases)
     (λ e.
     ap (λ t. t ++ flat_map f (map (inner_base h rows c s d) (filter is_plain_base bases)))
-    (placed_once (node_parts h rows ps) (Within c (subobject s.root (s.path ++ base.class ∷ [])) base.class) (base_place h rows d base.class) (nvsize_in (slice_get rows base.class.0)))
-    ∙ ap (λ t. map (moved (base_place h rows d base.class)) (by (subobject s.root (s.path ++ base.class ∷ [])) base.class) ++ t) (inner_listed h rows ps c s d bases))
+    (placed_once (node_parts h rows ps) (Within c (subobject s.root (s.path ++ base.class ∷ [])) base.class) (direct_base_place h rows d base.class) (nvsize_in (slice_get rows base.class.0)))
+    ∙ ap (λ t. map (moved_part (direct_base_place h rows d base.class)) (by (subobject s.root (s.path ++ base.class ∷ [])) base.class) ++ t) (inner_listed h rows ps c s d bases))
   where
     f : Placement → List Part
     f = placed_parts (node_parts h rows ps)
@@ -105,26 +105,26 @@ virtual_listed h rows ps c s (Some v) = by_test (holds_base h ps c s v)
         ∙ (placed_once (node_parts h rows ps) (Within c (shared_base v) v) 0 (nvsize_in (slice_get rows v.0)) ∙ moved_none (brought_by h rows ps (object_parts h rows ps) c (shared_base v) v))
     by_test false = append-nil (placed_parts (node_parts h rows ps) (one_at Pointer 0 (nvsize_in (slice_get rows v.0)))) ∙ placed_once (node_parts h rows ps) Pointer 0 (nvsize_in (slice_get rows v.0))
 
-object_unfolds : (h : Classes) (rows : List ClassLayout) (ps : List Primary) → IsHierarchy h → ArePossible h ps → (c : ClassId) (class : Class) → class_at h c ≡ Some class → object_parts h rows ps c ≡ part_at c 0 ∷ flat_map (placed_parts (node_parts h rows ps)) (contents_of_object h rows ps c (class_at h c))
+object_unfolds : (h : Classes) (rows : List ClassLayout) (ps : List Primary) → IsHierarchy h → ArePossible h ps → (c : ClassId) (class : Class) → class_at h c ≡ Some class → object_parts h rows ps c ≡ placed_part c 0 ∷ flat_map (placed_parts (node_parts h rows ps)) (contents_of_object h rows ps c (class_at h c))
 object_unfolds h rows ps keeps possible c class e =
     let f = placed_parts (node_parts h rows ps) in
-    let members : flat_map f (members_at h rows c) ≡ parts_at (map (member_component rows (object_parts h rows ps)) class.members) (members_in (slice_get rows c.0)) =
-    members_listed h rows ps c 0 (members_of h c) (members_in (slice_get rows c.0)) ∙ ap (λ (o : Option Class). parts_at (map (member_component rows (object_parts h rows ps)) (members_of_class o)) (members_in (slice_get rows c.0))) e in
+    let members : flat_map f (members_at h rows c) ≡ parts_at (map (member_component rows (object_parts h rows ps)) class.members) (member_places_in (slice_get rows c.0)) =
+    members_listed h rows ps c 0 (members_of h c) (member_places_in (slice_get rows c.0)) ∙ ap (λ (o : Option Class). parts_at (map (member_component rows (object_parts h rows ps)) (members_of_class o)) (member_places_in (slice_get rows c.0))) e in
     let pieces = four_pieces f (map (placed_base h rows c) (fronts ps c class)) (members_at h rows c) (map (placed_base h rows c) (free_bases h ps c)) (own_pointer h ps c)
     (parts_at (front_components h rows ps (object_parts h rows ps) c class) (map (placed_place h rows c) (fronts ps c class)))
-    (parts_at (map (member_component rows (object_parts h rows ps)) class.members) (members_in (slice_get rows c.0)))
+    (parts_at (map (member_component rows (object_parts h rows ps)) class.members) (member_places_in (slice_get rows c.0)))
     (parts_at (free_components h rows ps (object_parts h rows ps) c) (map (placed_place h rows c) (free_bases h ps c)))
     (bases_listed h rows ps c (fronts ps c class)) members (bases_listed h rows ps c (free_bases h ps c)) (pointer_listed h rows ps (owns_pointer h ps c)) in
     object_here h rows ps keeps possible c class e
-    ∙ ap (λ t. part_at c 0 ∷ t) (sym (ap (λ (o : Option Class). flat_map f (contents_of_object h rows ps c o)) e ∙ pieces))
+    ∙ ap (λ t. placed_part c 0 ∷ t) (sym (ap (λ (o : Option Class). flat_map f (contents_of_object h rows ps c o)) e ∙ pieces))
 
-within_unfolds : (h : Classes) (rows : List ClassLayout) (ps : List Primary) → IsHierarchy h → ArePossible h ps → (c : ClassId) (s : Subobject) (d : ClassId) → brought_by h rows ps (object_parts h rows ps) c s d ≡ part_at d 0 ∷ flat_map (placed_parts (node_parts h rows ps)) (contents_of h rows ps (Within c s d))
+within_unfolds : (h : Classes) (rows : List ClassLayout) (ps : List Primary) → IsHierarchy h → ArePossible h ps → (c : ClassId) (s : Subobject) (d : ClassId) → brought_by h rows ps (object_parts h rows ps) c s d ≡ placed_part d 0 ∷ flat_map (placed_parts (node_parts h rows ps)) (contents_of h rows ps (Within c s d))
 within_unfolds h rows ps keeps possible c s d =
     let f = placed_parts (node_parts h rows ps) in
-    let pieces = four_pieces f (members_at h rows d) (map (inner_base h rows c s d) (filter is_plain_base (bases_of h d))) (virtual_start h rows ps c s (virtual_primary ps d)) (own_pointer h ps d)
-    (member_parts h rows (object_parts h rows ps) d) (flat_map (base_brings h rows (brought_by h rows ps (object_parts h rows ps) c) s d) (bases_of h d)) (virtual_brings (brought_by h rows ps (object_parts h rows ps) c) (held_base h ps c s d))
-    (members_listed h rows ps d 0 (members_of h d) (members_in (slice_get rows d.0))) (inner_listed h rows ps c s d (bases_of h d)) (virtual_listed h rows ps c s (virtual_primary ps d)) (pointer_listed h rows ps (owns_pointer h ps d)) in
-    brought_is h rows ps (object_parts h rows ps) c keeps possible.before s d ∙ ap (λ t. part_at d 0 ∷ t) (sym pieces)
+    let pieces = four_pieces f (members_at h rows d) (map (inner_base h rows c s d) (filter is_plain_base (bases_of h d))) (virtual_start h rows ps c s (virtual_primary_base ps d)) (own_pointer h ps d)
+    (parts_in_members h rows (object_parts h rows ps) d) (flat_map (base_brings h rows (brought_by h rows ps (object_parts h rows ps) c) s d) (bases_of h d)) (virtual_brings (brought_by h rows ps (object_parts h rows ps) c) (held_base h ps c s d))
+    (members_listed h rows ps d 0 (members_of h d) (member_places_in (slice_get rows d.0))) (inner_listed h rows ps c s d (bases_of h d)) (virtual_listed h rows ps c s (virtual_primary_base ps d)) (pointer_listed h rows ps (owns_pointer h ps d)) in
+    brought_is h rows ps (object_parts h rows ps) c keeps possible.before s d ∙ ap (λ t. placed_part d 0 ∷ t) (sym pieces)
 
 -- nodes of the classes of the hierarchy
 abbrev pub IsKnownNode : Classes → Node → Type 0
@@ -146,7 +146,7 @@ placed_known h rows d n (member ∷ members) (place ∷ places) k low has = ⊎_
     has
 
 members_known : (h : Classes) (rows : List ClassLayout) → IsHierarchy h → (d : ClassId) → d.0 < length h → (k : Placement) → Has (members_at h rows d) k → IsKnownNode h k.node
-members_known h rows keeps d lt k has = placed_known h rows d 0 (members_of h d) (members_in (slice_get rows d.0)) k (λ member e there is. let f = keeps.objects d e member (contains_from_has (members_of h d) member there) is in omega arith) has
+members_known h rows keeps d lt k has = placed_known h rows d 0 (members_of h d) (member_places_in (slice_get rows d.0)) k (λ member e there is. let f = keeps.objects d e member (contains_from_has (members_of h d) member there) is in omega arith) has
 
 pointer_known : (h : Classes) (b : Bool) (k : Placement) → Has (if b then one_at Pointer 0 8 ∷ [] else []) k → IsKnownNode h k.node
 pointer_known h true k has = ⊎_elim (λ e. subst (λ (x : Placement). IsKnownNode h x.node) e tt) (λ r. absurd r) has
@@ -189,12 +189,12 @@ object_known h rows ps keeps possible c lt (Some class) e k has =
 within_known : (h : Classes) (rows : List ClassLayout) (ps : List Primary) → IsHierarchy h → ArePossible h ps → (c : ClassId) (s : Subobject) (d : ClassId) → d.0 < length h → (k : Placement) → Has (contents_of h rows ps (Within c s d)) k → IsKnownNode h k.node
 within_known h rows ps keeps possible c s d lt k has =
     let inner = map (inner_base h rows c s d) (filter is_plain_base (bases_of h d)) in
-    let start = virtual_start h rows ps c s (virtual_primary ps d) in
+    let start = virtual_start h rows ps c s (virtual_primary_base ps d) in
     ⊎_elim
     (λ a. members_known h rows keeps d lt k a)
     (λ r. ⊎_elim
     (λ a. inner_known h rows keeps c s d lt k a)
-    (λ r. ⊎_elim (λ a. virtual_known h rows ps c s (virtual_primary ps d) k (λ v e. let f = possible.before.falls d v e in omega arith) a) (λ a. pointer_known h (owns_pointer h ps d) k a) (has_cases start (own_pointer h ps d) k r))
+    (λ r. ⊎_elim (λ a. virtual_known h rows ps c s (virtual_primary_base ps d) k (λ v e. let f = possible.before.falls d v e in omega arith) a) (λ a. pointer_known h (owns_pointer h ps d) k a) (has_cases start (own_pointer h ps d) k r))
     (has_cases inner (start ++ own_pointer h ps d) k r))
     (has_cases (members_at h rows d) (inner ++ (start ++ own_pointer h ps d)) k has)
 

@@ -23,10 +23,10 @@ use Rattle.abi_sound.specs.declared.class_layout.ClassLayout.{ClassLayout}
 use Rattle.abi_layout.specs.declared.placed_bases.PlacedBase.{PlacedBase}
 use Rattle.abi_layout.specs.declared.placed_bases.PlacedBase.TheVariants.{Own, VirtualBase}
 use Rattle.cxx_hierarchy.specs.Declarations.{is_plain_base}
-use Rattle.abi_sound.specs.Places.{nvalign_in, members_in, base_place}
+use Rattle.abi_sound.specs.Places.{nvalign_in, member_places_in, direct_base_place}
 use Rattle.abi_layout.specs.Kinds.{is_empty}
 use Rattle.abi_layout.specs.Placements.{nvsize_in}
-use Rattle.abi_layout.specs.Holding.{virtual_primary, holds_base}
+use Rattle.abi_layout.specs.Holding.{virtual_primary_base, holds_base}
 use Rattle.abi_layout.specs.PlacedBases.{subobject_of}
 use Rattle.abi_layout.specs.Brought.{brought_by}
 use Rattle.abi_layout.specs.Layouts.{primary_of, fronts, placed_place, object_parts, start_stage, IsLaidBy}
@@ -48,7 +48,7 @@ use Rattle.abi_layout.proofs.sound.ObjectPlaced.{Stands, in_place, clear_of, bas
 
 -- the placements of a subobject, by the items of its class
 abbrev base_at : Classes → List ClassLayout → List Primary → ClassId → Subobject → ClassId → PlacedBase → Placement
-base_at h rows primaries c s d (Own b) = one_at (Within c (subobject s.root (s.path ++ b ∷ [])) b) (base_place h rows d b) (nvsize_in (slice_get rows b.0))
+base_at h rows primaries c s d (Own b) = one_at (Within c (subobject s.root (s.path ++ b ∷ [])) b) (direct_base_place h rows d b) (nvsize_in (slice_get rows b.0))
 base_at h rows primaries c s d (VirtualBase v) = one_at (if holds_base h primaries c s v then Within c (shared_base v) v else Pointer) 0 (nvsize_in (slice_get rows v.0))
 
 abbrev within_place : Classes → List ClassLayout → List Primary → ClassId → Subobject → ClassId → Item → Placement
@@ -63,7 +63,7 @@ virtual_items (Some v) = a_base (VirtualBase v) ∷ []
 
 -- the items of a class in the order in which a subobject has them
 abbrev inner_items : List Primary → ClassId → Class → ClassLayout → List Item
-inner_items primaries d class row = member_items 0 class.members row.member_places ++ (map own_item (filter is_plain_base class.bases) ++ virtual_items (virtual_primary primaries d))
+inner_items primaries d class row = member_items 0 class.members row.member_places ++ (map own_item (filter is_plain_base class.bases) ++ virtual_items (virtual_primary_base primaries d))
 
 own_are : (h : Classes) (rows : List ClassLayout) (primaries : List Primary) (c : ClassId) (s : Subobject) (d : ClassId) (bases : List (Base ClassId)) → map (within_place h rows primaries c s d) (map own_item bases) ≡ map (inner_base h rows c s d) bases
 own_are h rows primaries c s d [] = refl
@@ -76,11 +76,11 @@ virtual_are h rows primaries c s d (Some v) = refl
 within_is : (h : Classes) (rows : List ClassLayout) (nearly : List Bool) (primaries : List Primary) (c : ClassId) (s : Subobject) (d : ClassId) (k : HasRow h rows nearly primaries d) → contents_of h rows primaries (Within c s d) ≡ map (within_place h rows primaries c s d) (inner_items primaries d k.class k.row) ++ own_pointer h primaries d
 within_is h rows nearly primaries c s d k =
     let members : members_at h rows d ≡ placed_members rows d 0 k.class.members k.row.member_places =
-    ap (λ (o : Option Class). placed_members rows d 0 (class_members_in o) (members_in (slice_get rows d.0))) k.there ∙ ap (λ (o : Option ClassLayout). placed_members rows d 0 k.class.members (members_in o)) k.row_there in
+    ap (λ (o : Option Class). placed_members rows d 0 (class_members_in o) (member_places_in (slice_get rows d.0))) k.there ∙ ap (λ (o : Option ClassLayout). placed_members rows d 0 k.class.members (member_places_in o)) k.row_there in
     let bases : map (inner_base h rows c s d) (filter is_plain_base (bases_of h d)) ≡ map (inner_base h rows c s d) (filter is_plain_base k.class.bases) = ap (λ (o : Option Class). map (inner_base h rows c s d) (filter is_plain_base (bases_in o))) k.there in
-    laid_out (within_place h rows primaries c s d) (member_items 0 k.class.members k.row.member_places) (map own_item (filter is_plain_base k.class.bases)) (virtual_items (virtual_primary primaries d))
-    (members_at h rows d) (map (inner_base h rows c s d) (filter is_plain_base (bases_of h d))) (virtual_start h rows primaries c s (virtual_primary primaries d)) (own_pointer h primaries d)
-    (members_are rows d (base_at h rows primaries c s d) 0 k.class.members k.row.member_places ∙ sym members) (own_are h rows primaries c s d (filter is_plain_base k.class.bases) ∙ sym bases) (virtual_are h rows primaries c s d (virtual_primary primaries d))
+    laid_out (within_place h rows primaries c s d) (member_items 0 k.class.members k.row.member_places) (map own_item (filter is_plain_base k.class.bases)) (virtual_items (virtual_primary_base primaries d))
+    (members_at h rows d) (map (inner_base h rows c s d) (filter is_plain_base (bases_of h d))) (virtual_start h rows primaries c s (virtual_primary_base primaries d)) (own_pointer h primaries d)
+    (members_are rows d (base_at h rows primaries c s d) 0 k.class.members k.row.member_places ∙ sym members) (own_are h rows primaries c s d (filter is_plain_base k.class.bases) ∙ sym bases) (virtual_are h rows primaries c s d (virtual_primary_base primaries d))
 
 virtual_item : (o : Option ClassId) (x : Item) → Has (virtual_items o) x → (v : ClassId) × (o ≡ Some v) × (a_base (VirtualBase v) ≡ x)
 virtual_item None x has = absurd has
@@ -110,18 +110,18 @@ inner_view h primaries d class row x at has = ⊎_elim
     (λ m. let k = member_item 0 class.members row.member_places x m in subst (IsInner h primaries d class) k.is (inner_member k.number k.member k.place k.has))
     (λ r. ⊎_elim
     (λ b. let k = plain_item class.bases x b in subst (IsInner h primaries d class) k.is (inner_own k.base.class (plain_edge h d class k.base at k.has k.way)))
-    (λ v. let k = virtual_item (virtual_primary primaries d) x v in subst (IsInner h primaries d class) k.2 (inner_virtual k.0 (primary_is_virtual primaries d k.0 k.1)))
-    (has_cases (map own_item (filter is_plain_base class.bases)) (virtual_items (virtual_primary primaries d)) x r))
-    (has_cases (member_items 0 class.members row.member_places) (map own_item (filter is_plain_base class.bases) ++ virtual_items (virtual_primary primaries d)) x has)
+    (λ v. let k = virtual_item (virtual_primary_base primaries d) x v in subst (IsInner h primaries d class) k.2 (inner_virtual k.0 (primary_is_virtual primaries d k.0 k.1)))
+    (has_cases (map own_item (filter is_plain_base class.bases)) (virtual_items (virtual_primary_base primaries d)) x r))
+    (has_cases (member_items 0 class.members row.member_places) (map own_item (filter is_plain_base class.bases) ++ virtual_items (virtual_primary_base primaries d)) x has)
 
 inner_among : (primaries : List Primary) (d : ClassId) (class : Class) (row : ClassLayout) (x : Item) → Has (inner_items primaries d class row) x → Has (front_items primaries d class row) x
 inner_among primaries d class row x has = ⊎_elim
     (λ m. has_right (base_items (fronts primaries d class)) (member_items 0 class.members row.member_places) x m)
     (λ r. has_left (base_items (fronts primaries d class)) (member_items 0 class.members row.member_places) x (⊎_elim
     (λ b. let k = plain_item class.bases x b in subst (λ (y : Item). Has (base_items (fronts primaries d class)) y) k.is (has_map a_base (fronts primaries d class) (Own k.base.class) (plain_front (primary_of primaries d) class.bases k.base k.has k.way)))
-    (λ v. let k = virtual_item (virtual_primary primaries d) x v in subst (λ (y : Item). Has (base_items (fronts primaries d class)) y) k.2 (has_map a_base (fronts primaries d class) (VirtualBase k.0) (virtual_front primaries d k.0 class (primary_is_virtual primaries d k.0 k.1))))
-    (has_cases (map own_item (filter is_plain_base class.bases)) (virtual_items (virtual_primary primaries d)) x r)))
-    (has_cases (member_items 0 class.members row.member_places) (map own_item (filter is_plain_base class.bases) ++ virtual_items (virtual_primary primaries d)) x has)
+    (λ v. let k = virtual_item (virtual_primary_base primaries d) x v in subst (λ (y : Item). Has (base_items (fronts primaries d class)) y) k.2 (has_map a_base (fronts primaries d class) (VirtualBase k.0) (virtual_front primaries d k.0 class (primary_is_virtual primaries d k.0 k.1))))
+    (has_cases (map own_item (filter is_plain_base class.bases)) (virtual_items (virtual_primary_base primaries d)) x r)))
+    (has_cases (member_items 0 class.members row.member_places) (map own_item (filter is_plain_base class.bases) ++ virtual_items (virtual_primary_base primaries d)) x has)
 
 pairs_filter : {X : Type 0} (R : X → X → Type 0) (p : X → Bool) (xs : List X) → Pairs R xs → Pairs R (filter p xs)
 pairs_filter R p [] all = tt
@@ -130,15 +130,15 @@ pairs_filter R p (x ∷ xs) all = split (p x) (λ b. Pairs R (if b then x ∷ fi
 -- no item stands twice among those of a subobject
 inner_differ : (h : Classes) (primaries : List Primary) (d : ClassId) (class : Class) (row : ClassLayout) → IsHierarchy h → class_at h d ≡ Some class → Pairs (λ x y. x ≡ y → ⊥) (inner_items primaries d class row)
 inner_differ h primaries d class row keeps at =
-    pairs_append (λ x y. x ≡ y → ⊥) (member_items 0 class.members row.member_places) (map own_item plain ++ virtual_items (virtual_primary primaries d)) (members_differ 0 class.members row.member_places)
-    (pairs_append (λ x y. x ≡ y → ⊥) (map own_item plain) (virtual_items (virtual_primary primaries d))
+    pairs_append (λ x y. x ≡ y → ⊥) (member_items 0 class.members row.member_places) (map own_item plain ++ virtual_items (virtual_primary_base primaries d)) (members_differ 0 class.members row.member_places)
+    (pairs_append (λ x y. x ≡ y → ⊥) (map own_item plain) (virtual_items (virtual_primary_base primaries d))
     (pairs_map (λ x y. x ≡ y → ⊥) own_item plain (pairs_filter (λ x y. own_item x ≡ own_item y → ⊥) is_plain_base class.bases (pairs_by_number (λ x y. own_item x ≡ own_item y → ⊥) class.bases once)))
-    (virtual_once (virtual_primary primaries d))
-    (λ x y a b same. let k = plain_item class.bases x a in let l = virtual_item (virtual_primary primaries d) y b in own_not_virtual k.base.class l.0 (k.is ∙ (same ∙ sym l.2))))
+    (virtual_once (virtual_primary_base primaries d))
+    (λ x y a b same. let k = plain_item class.bases x a in let l = virtual_item (virtual_primary_base primaries d) y b in own_not_virtual k.base.class l.0 (k.is ∙ (same ∙ sym l.2))))
     (λ x y a b same. let k = member_item 0 class.members row.member_places x a in ⊎_elim
     (λ o. let l = plain_item class.bases y o in member_not_base k.number k.member k.place (Own l.base.class) (k.is ∙ (same ∙ sym l.is)))
-    (λ v. let l = virtual_item (virtual_primary primaries d) y v in member_not_base k.number k.member k.place (VirtualBase l.0) (k.is ∙ (same ∙ sym l.2)))
-    (has_cases (map own_item plain) (virtual_items (virtual_primary primaries d)) y b))
+    (λ v. let l = virtual_item (virtual_primary_base primaries d) y v in member_not_base k.number k.member k.place (VirtualBase l.0) (k.is ∙ (same ∙ sym l.2)))
+    (has_cases (map own_item plain) (virtual_items (virtual_primary_base primaries d)) y b))
   where
     plain : List (Base ClassId)
     plain = filter is_plain_base class.bases
@@ -176,9 +176,9 @@ within_stands h rows nearly primaries c s d class row first last _ keeps laid lt
     (member_stands h rows first last (object_parts h rows primaries) d n member place (bits_or (slice_get row.member_bits n)) (type_fine h rows d low member.ty below) (narrow h d class member keeps at has) put (first_of rows d row n there), f)
 within_stands h rows nearly primaries c s d class row first last _ keeps laid lt at there low (inner_own b edge) put =
     let l = base_below h d b keeps edge in
-    let place : base_place h rows d b ≡ placed_place h rows d (Own b) = omega arith in (
+    let place : direct_base_place h rows d b ≡ placed_place h rows d (Own b) = omega arith in (
       subst (λ p. Stands (measures_of h rows) (component_item h rows primaries d (a_base (Own b))) p (bits_item h rows primaries row.member_bits d (a_base (Own b))) (within_place h rows primaries c s d (a_base (Own b)))) place
-          (base_stands h rows c (subobject s.root (s.path ++ b ∷ [])) b (brought_by h rows primaries (object_parts h rows primaries) d (subobject_of d (Own b)) b) (base_place h rows d b) (low b l)),
+          (base_stands h rows c (subobject s.root (s.path ++ b ∷ [])) b (brought_by h rows primaries (object_parts h rows primaries) d (subobject_of d (Own b)) b) (direct_base_place h rows d b) (low b l)),
       omega arith,
     )
 within_stands h rows nearly primaries c s d class row first last _ keeps laid lt at there low (inner_virtual v e) put =

@@ -7,12 +7,12 @@ pub use Rattle.abi_layout.specs.Limits.{IsAlignment, byte, two_bytes, four_bytes
 use Rattle.abi_layout.specs.declared.component.Component.{Component}
 use Rattle.abi_layout.specs.declared.component.Stage.{Stage}
 use Rattle.abi_layout.specs.declared.placing.Placing.{Placing}
-use Rattle.abi_layout.specs.Placements.{IsPlaced, ArePlaced, after_all}
+use Rattle.abi_layout.specs.Placements.{IsComponentAt, ArePlaced, stage_after_all}
 
 -- no part lies behind a place
-abbrev pub AreWithin : ℕ → List Part → Type 0
-AreWithin end [] = Unit {0}
-AreWithin end (part ∷ parts) = (part.place ≤ end) × AreWithin end parts
+abbrev pub LieUpTo : ℕ → List Part → Type 0
+LieUpTo end [] = Unit {0}
+LieUpTo end (part ∷ parts) = (part.place ≤ end) × LieUpTo end parts
 
 -- a bit-field has data, no class subobject, and no more bits than its type
 pub record IsFitWidth (component : Component) (width : ℕ) : Type 0 where
@@ -24,7 +24,7 @@ pub record IsFitWidth (component : Component) (width : ℕ) : Type 0 where
 pub record IsFit (component : Component) : Type 0 where
   pub align : IsAlignment component.align
   pub takes : component.takes ≤ size_limit
-  pub parts : AreWithin component.takes component.parts
+  pub parts : LieUpTo component.takes component.parts
   pub width : (width : ℕ) → component.width ≡ Some width → IsFitWidth component width
 
 abbrev pub AreFit : List Component → Type 0
@@ -37,13 +37,13 @@ AreLittle [] = Unit {0}
 AreLittle (component ∷ components) = (component.takes ≤ size_limit) × AreLittle components
 
 -- the table has the first of the stage's parts, as many as are listed
-pub record HasTable (placing : Placing) : Type 0 where
+pub record ListsFirstParts (placing : Placing) : Type 0 where
   pub within : placing.listed ≤ length placing.stage.parts
   pub same : (q : Part) → holds placing.table q ≡ holds (take placing.listed placing.stage.parts) q
 
 -- the table has all parts, or is not asked: the parts are few, or the component has none to ask for
-abbrev pub IsReady : Placing → Component → Type 0
-IsReady placing component = (length placing.stage.parts ≤ 8) ⊎ ((component.parts ≡ []) ⊎ (placing.listed ≡ length placing.stage.parts))
+abbrev pub IsTableReady : Placing → Component → Type 0
+IsTableReady placing component = (length placing.stage.parts ≤ 8) ⊎ ((component.parts ≡ []) ⊎ (placing.listed ≡ length placing.stage.parts))
 
 abbrev pub with_parts : Stage → List Part → Stage
 with_parts stage parts = record { dsize = stage.dsize; free_bit = stage.free_bit; size = stage.size; align = stage.align; parts = stage.parts ++ parts }
@@ -55,17 +55,17 @@ pub record HasFreeBit (stage : Stage) : Type 0 where
 
 -- a stage with an alignment, within the limit of sizes, and the table of its first parts
 pub record IsPlacing (placing : Placing) : Type 0 where
-  pub table : HasTable placing
+  pub table : ListsFirstParts placing
   pub align : IsAlignment placing.stage.align
   pub free_bit : HasFreeBit placing.stage
   pub dsize : placing.stage.dsize ≤ placing.stage.size
   pub size : placing.stage.size ≤ size_limit
-  pub parts : AreWithin placing.stage.size placing.stage.parts
+  pub parts : LieUpTo placing.stage.size placing.stage.parts
 
 -- wherever the rules place the component, it lies behind the limit
 pub record HasNoPlace (stage : Stage) (component : Component) : Type 0 where
-  pub past : (place : ℕ) → IsPlaced stage component place → size_limit < place
+  pub past : (place : ℕ) → IsComponentAt stage component place → size_limit < place
 
 -- wherever the rules place the components, the size passes the limit
 pub record IsPastLimit (stage : Stage) (components : List Component) : Type 0 where
-  pub past : (places : List ℕ) → ArePlaced stage components places → size_limit < (after_all stage components places).size
+  pub past : (places : List ℕ) → ArePlaced stage components places → size_limit < (stage_after_all stage components places).size

@@ -11,15 +11,15 @@ use Rattle.abi_layout.specs.declared.component.Stage.{Stage}
 use Rattle.cxx_subobject.specs.declared.Subobject.{Subobject}
 use Rattle.abi_sound.specs.declared.class_layout.ClassLayout.{ClassLayout}
 use Rattle.abi_layout.specs.declared.arrangement.Arrangement.{Arrangement}
-use Rattle.abi_layout.specs.Placements.{after_all}
-use Rattle.abi_layout.specs.invariants.Alignments.{IsAlignment, AreWithin}
+use Rattle.abi_layout.specs.Placements.{stage_after_all}
+use Rattle.abi_layout.specs.invariants.Alignments.{IsAlignment, LieUpTo}
 use Rattle.abi_layout.specs.Layouts.{IsLayoutBy}
 use Rattle.cxx_hierarchy.specs.declared.records.ClassId.{ClassId}
 use Rattle.cxx_hierarchy.specs.Classes.{Classes}
 use Rattle.abi_primary.specs.declared.Primary.{Primary}
 use Rattle.abi_layout.specs.declared.known.Known.{Known}
 use Rattle.abi_layout.specs.declared.placed_bases.PlacedBase.{PlacedBase}
-use Rattle.abi_layout.specs.invariants.Known.{empties_in, parts_in}
+use Rattle.abi_layout.specs.invariants.Known.{empties_in, known_parts_of}
 use Rattle.abi_layout.specs.PlacedBases.{placed_component}
 use Rattle.abi_layout.specs.Repeats.{SomeRepeats}
 
@@ -35,7 +35,7 @@ row_from a primary base_places virtual_bases virtual_places holders = record { s
 -- subobjects are those of the last stage
 pub record IsArranged (first : Stage) (fronts members frees : List Component) (is_pod : Bool) (a : Arrangement) : Type 0 where
   pub laid : (primary : Primary) (base_places : List ℕ) (virtual_bases : List ClassId) (virtual_places : List ℕ) (holders : List (Option Subobject)) → IsLayoutBy first fronts members frees a.front_places a.free_places is_pod (row_from a primary base_places virtual_bases virtual_places holders)
-  pub parts : a.parts ≡ (after_all (after_all (after_all first fronts a.front_places) members a.member_places) frees a.free_places).parts
+  pub parts : a.parts ≡ (stage_after_all (stage_after_all (stage_after_all first fronts a.front_places) members a.member_places) frees a.free_places).parts
 
 -- within the limit of sizes
 pub record IsWithinLimit (a : Arrangement) : Type 0 where
@@ -43,8 +43,8 @@ pub record IsWithinLimit (a : Arrangement) : Type 0 where
   pub nvalign : IsAlignment a.nvalign
   pub nvsize : a.nvsize ≤ a.size
   pub size : a.size ≤ size_limit
-  pub parts : AreWithin a.size a.parts
-  pub members : AreWithin a.nvsize a.member_parts
+  pub parts : LieUpTo a.size a.parts
+  pub members : LieUpTo a.nvsize a.member_parts
 
 -- each row that is the layout by these components passes the limit of sizes
 pub record IsTooLargeBy (first : Stage) (fronts members frees : List Component) (is_pod : Bool) : Type 0 where
@@ -68,4 +68,4 @@ IsRefusal first fronts members frees is_pod place stop =
 
 -- what placed bases are to their class, by what is known of the classes before it
 abbrev pub components_by : Classes → List ClassLayout → List Known → List Primary → ClassId → List PlacedBase → List Component
-components_by h rows known primaries c bases = map (placed_component (empties_in known) h rows primaries (parts_in known) c) bases
+components_by h rows known primaries c bases = map (placed_component (empties_in known) h rows primaries (known_parts_of known) c) bases

@@ -18,16 +18,16 @@ use Rattle.abi_layout.specs.declared.placed_bases.PlacedBase.{PlacedBase}
 use Rattle.abi_layout.specs.declared.laid_row.ClassFacts.{ClassFacts}
 use Rattle.cxx_hierarchy.specs.Declarations.{is_plain_base}
 use Rattle.abi_layout.specs.Kinds.{empty_kind, pod_kind}
-use Rattle.abi_layout.specs.Placements.{part_at, parts_at}
-use Rattle.abi_layout.specs.invariants.Alignments.{AreWithin}
-use Rattle.abi_layout.specs.invariants.Known.{empties_in, pods_in, parts_in, members_by, IsSized}
+use Rattle.abi_layout.specs.Placements.{placed_part, parts_at}
+use Rattle.abi_layout.specs.invariants.Alignments.{LieUpTo}
+use Rattle.abi_layout.specs.invariants.Known.{empties_in, pods_in, known_parts_of, members_by, IsSized}
 use Rattle.cxx_subobject.specs.VirtualBases.{virtual_bases}
 use Rattle.abi_layout.specs.PlacedBases.{free_bases}
 use Rattle.abi_layout.specs.invariants.OwnPlaces.{own_places}
 use Rattle.abi_layout.specs.Repeats.{SomeRepeats}
 use Rattle.abi_layout.specs.invariants.Settled.{AreVirtualPlaces, free_table, held_at}
 use Rattle.abi_layout.specs.invariants.Arrangements.{IsArranged, IsRefusal, components_by}
-use Rattle.abi_layout.specs.Layouts.{place_of, placed_place, virtual_place, primary_of, fronts, start_stage, IsLayoutBy}
+use Rattle.abi_layout.specs.Layouts.{place_in_class, placed_place, virtual_place, primary_of, fronts, start_stage, IsLayoutBy}
 
 -- the row with these virtual bases, their places, and what holds each
 abbrev pub filled_row : ClassLayout → (virtual_bases : List ClassId) (virtual_places : List ℕ) (holders : List (Option Subobject)) → ClassLayout
@@ -35,7 +35,7 @@ filled_row row virtual_bases virtual_places holders = record { size = row.size; 
 
 -- all that objects of the classes before c bring is of classes before c
 pub record AreSmaller (c : ClassId) (known : List Known) : Type 0 where
-  pub smaller : (d : ClassId) (part : Part) → d.0 < c.0 → Contains (parts_in known d) part → part.class < c.0
+  pub smaller : (d : ClassId) (part : Part) → d.0 < c.0 → Contains (known_parts_of known d) part → part.class < c.0
 
 -- a class whose primary base is virtual has no virtual pointer of its own
 pub record IsOneOrOther (primary : Primary) (has_pointer : Bool) : Type 0 where
@@ -52,12 +52,12 @@ pub record IsClassRow (h : Classes) (c : ClassId) (before : List ClassLayout) (k
   pub virtuals : row.virtual_bases ≡ virtual_bases h c
   pub each_virtual : length row.virtual_places ≡ length (virtual_bases h c)
   pub holders : row.holders ≡ map (holder_of h primaries c) (virtual_bases h c)
-  pub held : (v : ClassId) (holder : Subobject) → Contains (virtual_bases h c) v → holder_of h primaries c v ≡ Some holder → virtual_place (before ++ row ∷ []) c v ≡ place_of h (before ++ row ∷ []) c holder
+  pub held : (v : ClassId) (holder : Subobject) → Contains (virtual_bases h c) v → holder_of h primaries c v ≡ Some holder → virtual_place (before ++ row ∷ []) c v ≡ place_in_class h (before ++ row ∷ []) c holder
 
 -- the class subobjects of an object of class c with this row: itself, and what its components bring
 abbrev pub row_parts : Classes → ClassId → List ClassLayout → List Known → List Primary → Class → ClassLayout → List Part
 row_parts h c before known primaries class row =
-    part_at c 0
+    placed_part c 0
     ∷ (parts_at (components_by h before known primaries c (fronts primaries c class)) (map (placed_place h (before ++ row ∷ []) c) (fronts primaries c class))
     ++ (parts_at (members_by before known class) row.member_places
     ++ parts_at (components_by h before known primaries c (free_bases h primaries c)) (map (placed_place h (before ++ row ∷ []) c) (free_bases h primaries c))))
@@ -98,7 +98,7 @@ pub record IsRowAdded (h : Classes) (c : ClassId) (before : List ClassLayout) (k
   pub parts : facts.known.parts ≡ row_parts h c before known primaries class row
   pub members : facts.members ≡ parts_at (members_by before known class) row.member_places
   pub sized : IsSized row facts.known.parts
-  pub within : AreWithin row.nvsize facts.members
+  pub within : LieUpTo row.nvsize facts.members
   pub fronts_apart : SomeRepeats (components_by h before known primaries c (fronts primaries c class)) → ⊥
   pub frees_apart : SomeRepeats (components_by h before known primaries c (free_bases h primaries c)) → ⊥
 

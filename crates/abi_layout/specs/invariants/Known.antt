@@ -13,7 +13,7 @@ use Rattle.abi_layout.specs.declared.component.Stage.{Stage}
 use Rattle.abi_layout.specs.declared.known.Known.{Known}
 use Rattle.abi_sound.specs.declared.class_layout.ClassLayout.{ClassLayout}
 use Rattle.abi_layout.specs.Placements.{member_components}
-use Rattle.abi_layout.specs.invariants.Alignments.{IsAlignment, AreWithin}
+use Rattle.abi_layout.specs.invariants.Alignments.{IsAlignment, LieUpTo}
 
 abbrev pub is_empty_in : Option Known → Bool
 is_empty_in None = false
@@ -34,8 +34,8 @@ empties_in known c = is_empty_in (slice_get known c.0)
 abbrev pub pods_in : List Known → ClassId → Bool
 pods_in known c = is_pod_in (slice_get known c.0)
 
-abbrev pub parts_in : List Known → ClassId → List Part
-parts_in known c = parts_known (slice_get known c.0)
+abbrev pub known_parts_of : List Known → ClassId → List Part
+known_parts_of known c = parts_known (slice_get known c.0)
 
 -- some class has a member or an array of objects of class d
 pub record IsMemberType (h : Classes) (d : ClassId) : Type 0 where
@@ -49,7 +49,7 @@ is_object c (Value type) = false
 is_object c (Object d) = nat_eq d.0 c.0
 
 -- what is kept of a class: what an object of it brings may be left out where no member is of the class
-pub record IsKept (h : Classes) (c : ClassId) (known kept : Known) : Type 0 where
+pub record KeepsEnough (h : Classes) (c : ClassId) (known kept : Known) : Type 0 where
   pub is_empty : kept.is_empty ≡ known.is_empty
   pub is_pod : kept.is_pod ≡ known.is_pod
   pub parts : IsMemberType h c → kept.parts ≡ known.parts
@@ -61,7 +61,7 @@ pub record IsSized (row : ClassLayout) (brought : List Part) : Type 0 where
   pub nvalign : IsAlignment row.nvalign
   pub nvsize : row.nvsize ≤ row.size
   pub size : row.size ≤ size_limit
-  pub parts : AreWithin row.size brought
+  pub parts : LieUpTo row.size brought
 
 pub record AreAllSized (rows : List ClassLayout) (known : List Known) : Type 0 where
   pub each : (number : ℕ) (row : ClassLayout) (k : Known) → slice_get rows number ≡ Some row → slice_get known number ≡ Some k → IsSized row k.parts
@@ -77,7 +77,7 @@ pub record AreEarlier (count : ℕ) (class : Class) : Type 0 where
   pub objects : (member : Member ClassId) → Contains class.members member → IsEarlierType count member.ty
 
 abbrev pub members_by : List ClassLayout → List Known → Class → List Component
-members_by rows known class = member_components rows (parts_in known) class
+members_by rows known class = member_components rows (known_parts_of known) class
 
 -- where nothing is placed
 abbrev pub empty_stage : Stage

@@ -22,9 +22,9 @@ abbrev pub place_by : Classes → List ClassLayout → List ℕ → Subobject �
 place_by h rows table s = root_by table s.root + place_from h rows s.path
 
 -- a path of direct non-virtual bases from one of the first `count` classes
-abbrev pub IsPath : Classes → ℕ → List ClassId → Type 0
-IsPath h count [] = Unit {0}
-IsPath h count (d ∷ path) = (d.0 < count) × Leads h d path
+abbrev pub IsPathWithin : Classes → ℕ → List ClassId → Type 0
+IsPathWithin h count [] = Unit {0}
+IsPathWithin h count (d ∷ path) = (d.0 < count) × Leads h d path
 
 abbrev pub held_at : List Subobject → Option ℕ → Option Subobject
 held_at list None = None
@@ -36,23 +36,23 @@ with_place h rows table v None = table
 with_place h rows table v (Some t) = slice_set table v (place_by h rows table t)
 
 -- each class, without its virtual bases, ends within the limit of sizes where it lies by the table
-pub record HasRoom (rows : List ClassLayout) (table : List ℕ) : Type 0 where
+pub record EndsWithinLimit (rows : List ClassLayout) (table : List ℕ) : Type 0 where
   pub each : (v : ℕ) → get_or table v 0 + nvsize_in (slice_get rows v) ≤ size_limit
 
 -- holders lie in the rows, a holder in a virtual base holds one of a smaller number, and what it holds ends within the
 -- limit where the virtual bases do
 pub record CanSettle (h : Classes) (rows : List ClassLayout) (list : List Subobject) (holders : List (Option ℕ)) : Type 0 where
   pub below : (v n : ℕ) → get_or holders v None ≡ Some n → n < length list
-  pub paths : (v : ℕ) (t : Subobject) → held_at list (get_or holders v None) ≡ Some t → IsPath h (length rows) t.path
+  pub paths : (v : ℕ) (t : Subobject) → held_at list (get_or holders v None) ≡ Some t → IsPathWithin h (length rows) t.path
   pub rises : (v : ℕ) (t : Subobject) (w : ClassId) → held_at list (get_or holders v None) ≡ Some t → t.root ≡ Shared w → v < w.0
-  pub roomy : (v : ℕ) (t : Subobject) (table : List ℕ) → held_at list (get_or holders v None) ≡ Some t → HasRoom rows table → place_by h rows table t + nvsize_in (slice_get rows v) ≤ size_limit
+  pub roomy : (v : ℕ) (t : Subobject) (table : List ℕ) → held_at list (get_or holders v None) ≡ Some t → EndsWithinLimit rows table → place_by h rows table t + nvsize_in (slice_get rows v) ≤ size_limit
 
 -- each virtual base that is held lies where its holder does, and each other one where it lay
 pub record AreSettled (h : Classes) (rows : List ClassLayout) (list : List Subobject) (holders : List (Option ℕ)) (old new : List ℕ) : Type 0 where
   pub one_each : length new ≡ length old
   pub held : (v : ℕ) (t : Subobject) → v < length old → held_at list (get_or holders v None) ≡ Some t → get_or new v 0 ≡ place_by h rows new t
   pub kept : (v : ℕ) → held_at list (get_or holders v None) ≡ None → get_or new v 0 ≡ get_or old v 0
-  pub room : HasRoom rows new
+  pub room : EndsWithinLimit rows new
 
 -- the table with the places of virtual bases that no subobject holds
 abbrev pub with_free : List ℕ → PlacedBase → ℕ → List ℕ

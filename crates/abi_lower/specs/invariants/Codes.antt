@@ -7,38 +7,38 @@ use Rattle.code_blocks.specs.declared.items.Item.{Item as ItemCode}
 use Rattle.code_blocks.specs.declared.items.Item.TheVariants.{Does as DoesCode, Shares as SharesCode, Inherits as InheritsCode, Holds as HoldsCode}
 use Rattle.code_blocks.specs.declared.items.Kind.{Kind}
 use Rattle.code_blocks.specs.declared.items.Kind.TheVariants.{AtBegin, AtReady, AtInit, AtBody, AtDone, AtEnding, AtBases, AtEnd}
-use Rattle.code_blocks.specs.Lowered.{is_own}
-use Rattle.code_blocks.specs.invariants.ItemCodes.{form_of}
+use Rattle.code_blocks.specs.Lowered.{has_own_block}
+use Rattle.code_blocks.specs.invariants.ItemCodes.{coded_form}
 use Rattle.abi_lower.specs.declared.routines.Routine.{Routine as RoutineCode}
 use Rattle.abi_lower.specs.declared.routines.Routine.TheVariants.{Main, Function, Plan}
 
 abbrev pub routine_from : RoutineCode → Routine
 routine_from Main = MainCode
 routine_from (Function f) = FunctionCode f
-routine_from (Plan course form c) = PlanCode course (form_of form) c
+routine_from (Plan course form c) = PlanCode course (coded_form form) c
 
 abbrev pub routines_from : List RoutineCode → List Routine
 routines_from list = map routine_from list
 
 -- `main` or a function, and no plan
-abbrev pub is_plain : Routine → Bool
-is_plain MainCode = true
-is_plain (FunctionCode f) = true
-is_plain (PlanCode course form c) = false
+abbrev pub runs_no_plan : Routine → Bool
+runs_no_plan MainCode = true
+runs_no_plan (FunctionCode f) = true
+runs_no_plan (PlanCode course form c) = false
 
 -- n classes, the first of which has the number a
 abbrev pub class_ids_from : ℕ → ℕ → List ClassId
 class_ids_from a n = map (λ i. record { 0 = i }) (count_from a n)
 
 abbrev pub is_own_code : Bool → ItemCode → Bool
-is_own_code has (DoesCode k) = is_own has k
+is_own_code has (DoesCode k) = has_own_block has k
 is_own_code has (SharesCode v) = false
 is_own_code has (InheritsCode c) = false
 is_own_code has (HoldsCode way m d n) = false
 
 -- the event of an item that has a block of its own
 abbrev pub own_kind : Bool → ItemCode → Option Kind
-own_kind has (DoesCode k) = if is_own has k then Some k else None
+own_kind has (DoesCode k) = if has_own_block has k then Some k else None
 own_kind has (SharesCode v) = None
 own_kind has (InheritsCode c) = None
 own_kind has (HoldsCode way m d n) = None

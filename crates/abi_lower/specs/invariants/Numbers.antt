@@ -11,11 +11,11 @@ use Rattle.path_plan.specs.Plans.{InFull, AsBase, upto}
 use Rattle.abi_slots.specs.declared.code_numbers.BlockKind.{BlockKind}
 use Rattle.abi_slots.specs.declared.code_numbers.CodeRow.{CodeRow}
 use Rattle.code_ops.specs.declared.routines.Course.TheVariants.{Constructs, Destroys, Deletes}
-use Rattle.code_ops.specs.Setups.{Setup, Routine, MainCode, FunctionCode, PlanCode, body_in}
-use Rattle.code_ops.specs.Routines.{has_body, function_of, kind_of, start_by}
+use Rattle.code_ops.specs.Setups.{Setup, Routine, MainCode, FunctionCode, PlanCode, body_of_routine}
+use Rattle.code_ops.specs.Routines.{has_body, function_of_routine, routine_kind, start_by}
 use Rattle.code_blocks.specs.Items.{Item, Does, Shares, Inherits, Holds}
 use Rattle.code_blocks.specs.Blocks.{Place, AtStatement, AtEvent, items}
-use Rattle.code_blocks.specs.Lowered.{is_own}
+use Rattle.code_blocks.specs.Lowered.{has_own_block}
 use Rattle.abi_lower.specs.Bounds.{body_blocks}
 
 -- the routines of a program, in the order of their code
@@ -54,7 +54,7 @@ routines x = main_routines x.program.main ++ (flat_map (λ (body : TypedBody). o
 -- how many blocks they have
 
 abbrev pub is_own_item : Bool → Item → Bool
-is_own_item has (Does k) = is_own has k
+is_own_item has (Does k) = has_own_block has k
 is_own_item has (Shares v) = false
 is_own_item has (Inherits b) = false
 is_own_item has (Holds way m d n) = false
@@ -66,10 +66,10 @@ own_count has left = count_by (is_own_item has) left
 unfoldable pub own_events : Setup → Routine → ℕ
 own_events x MainCode = 0
 own_events x (FunctionCode f) = 0
-own_events x (PlanCode course form c) = own_count (has_body (body_in x (PlanCode course form c))) (items x course form c)
+own_events x (PlanCode course form c) = own_count (has_body (body_of_routine x (PlanCode course form c))) (items x course form c)
 
 unfoldable pub blocks_in : Setup → Routine → ℕ
-blocks_in x r = own_events x r + body_blocks (body_in x r)
+blocks_in x r = own_events x r + body_blocks (body_of_routine x r)
 
 unfoldable pub block_count : Setup → ℕ
 block_count x = sum_by (blocks_in x) (routines x)
@@ -81,14 +81,14 @@ routine_row kind n None = []
 routine_row kind n (Some f) = record { function = f; kind = kind; code = n } ∷ []
 
 -- the numbers of these routines, the first of which begins at block n
-abbrev pub rows_from : Setup → ℕ → List Routine → List CodeRow
-rows_from x n [] = []
-rows_from x n (r ∷ list) = routine_row (kind_of r) n (function_of x r) ++ rows_from x (n + blocks_in x r) list
+abbrev pub code_rows_from : Setup → ℕ → List Routine → List CodeRow
+code_rows_from x n [] = []
+code_rows_from x n (r ∷ list) = routine_row (routine_kind r) n (function_of_routine x r) ++ code_rows_from x (n + blocks_in x r) list
 
 unfoldable pub code_rows : Setup → List CodeRow
-code_rows x = rows_from x 0 (routines x)
+code_rows x = code_rows_from x 0 (routines x)
 
 -- the number of the block of a place: behind the routine's first block stand its plan's own events up to it, or all of them and the statements before it
-unfoldable pub number_of : Setup → Place → ℕ
-number_of x (AtStatement r n) = start_by x (code_rows x) r + own_events x r + n
-number_of x (AtEvent course form c left) = start_by x (code_rows x) (PlanCode course form c) + (own_events x (PlanCode course form c) - own_count (has_body (body_in x (PlanCode course form c))) left)
+unfoldable pub block_number : Setup → Place → ℕ
+block_number x (AtStatement r n) = start_by x (code_rows x) r + own_events x r + n
+block_number x (AtEvent course form c left) = start_by x (code_rows x) (PlanCode course form c) + (own_events x (PlanCode course form c) - own_count (has_body (body_of_routine x (PlanCode course form c))) left)

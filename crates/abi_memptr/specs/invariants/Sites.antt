@@ -7,8 +7,8 @@ use Rattle.abi_sound.specs.Places.{Places, places_of}
 use Rattle.abi_memptr.specs.declared.answers.Site.{Site}
 
 -- where the parts of its classes lie
-abbrev pub site_places : {L : Type 0} → (L → List ClassLayout) → Site L → Places
-site_places rows site = places_of site.h.now (rows site.layout.now)
+abbrev pub pointer_site_places : {L : Type 0} → (L → List ClassLayout) → Site L → Places
+pointer_site_places rows site = places_of site.h.now (rows site.layout.now)
 
 -- all of it belongs to its classes
 pub record IsSite {L : Type 0} (lays_out : L → Classes → Type 0) (site : Site L) : Type 0 where

@@ -10,5 +10,5 @@ is_whole_by Whole path = nat_eq (length path) 1
 is_whole_by (Shared v) path = false
 
 -- the subobject is the whole
-abbrev pub is_whole : Subobject → Bool
-is_whole s = is_whole_by s.root s.path
+abbrev pub is_whole_view : Subobject → Bool
+is_whole_view s = is_whole_by s.root s.path

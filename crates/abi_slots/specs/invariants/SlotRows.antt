@@ -13,14 +13,14 @@ use Rattle.abi_slots.specs.invariants.OffsetWords.{name_number, AreWords}
 use Rattle.abi_slots.specs.Slots.{IsVirtualBase, IsSlotRow}
 
 -- each row has what its class lists, where numbers are those of the functions by their signatures
-pub record AreRows (h : Classes) (l : Places) (numbers : List (List ℕ)) (rows : List SlotRow) : Type 0 where
+pub record AreSlotRows (h : Classes) (l : Places) (numbers : List (List ℕ)) (rows : List SlotRow) : Type 0 where
   pub each : (c : ClassId) (row : SlotRow) → slice_get rows c.0 ≡ Some row → IsSlotRow h l numbers c row
 
 -- the primary base is one of the first n classes
-abbrev pub IsBefore : ℕ → Primary → Type 0
-IsBefore n NoPrimary = Unit {0}
-IsBefore n (Direct b) = b.0 < n
-IsBefore n (Virtual v) = v.0 < n
+abbrev pub IsPrimaryBefore : ℕ → Primary → Type 0
+IsPrimaryBefore n NoPrimary = Unit {0}
+IsPrimaryBefore n (Direct b) = b.0 < n
+IsPrimaryBefore n (Virtual v) = v.0 < n
 
 -- a virtual primary base is a virtual base
 abbrev pub IsShared : Classes → Primary → Type 0

@@ -12,7 +12,7 @@ use Rattle.cxx_subobject.specs.invariants.Counts.{own_of}
 use Rattle.abi_sound.specs.Places.{Places}
 use Rattle.abi_slots.specs.Listing.{is_direct}
 use Rattle.abi_slots.specs.Views.{View, is_dynamic, is_head}
-use Rattle.abi_vtt.specs.Vtts.{has_virtual}
+use Rattle.abi_vtt.specs.Vtts.{has_vtt}
 use Rattle.abi_tables.specs.Counts.{most_words, words_of_class}
 
 -- what a direct base of class k weighs as the head of a chain: nothing where it is virtual, or the primary base
@@ -40,7 +40,7 @@ dynamic_word h b = if is_dynamic h b then 1 else 0
 
 -- a word for each dynamic class with virtual bases
 abbrev pub virtual_word : Classes → ClassId → ℕ
-virtual_word h b = if is_dynamic h b && has_virtual h b then 1 else 0
+virtual_word h b = if is_dynamic h b && has_vtt h b then 1 else 0
 
 -- the words of a VTT for the bases below a virtual base, with that base
 abbrev pub shared_words : Classes → Places → ClassId → ℕ
@@ -52,7 +52,7 @@ base_words h l c = sides_of h l (virtual_word h) c + sum_by (shared_words h l) (
 
 -- the words of a sub-VTT without those of the sub-VTTs in it
 abbrev pub sub_words : Classes → Places → ClassId → ℕ
-sub_words h l c = if has_virtual h c then 1 + base_words h l c else 0
+sub_words h l c = if has_vtt h c then 1 + base_words h l c else 0
 
 -- the words of a sub-VTT
 abbrev pub sub_vtt_words : Classes → Places → ClassId → ℕ
@@ -73,8 +73,8 @@ pub record IsHeldIn (h : Classes) (l : Places) (c : ClassId) (s : Subobject) (v 
   pub inside : IsInside h s holder
 
 -- the number of a class, and 0 behind the end
-abbrev pub number_of : List ℕ → ClassId → ℕ
-number_of numbers c = get_or numbers c.0 0
+abbrev pub number_by_class : List ℕ → ClassId → ℕ
+number_by_class numbers c = get_or numbers c.0 0
 
 -- a number, or one past the limit on words where it is larger
 abbrev pub cut : ℕ → ℕ

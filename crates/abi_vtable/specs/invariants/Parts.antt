@@ -16,18 +16,18 @@ use Rattle.abi_vtable.specs.declared.view.Part.{Part}
 use Rattle.abi_vtable.specs.declared.view.ViewParts.{ViewParts}
 
 -- the number is that of the subobject, where there is one
-pub data IsNumberOf (list : List Subobject) : Option ℕ → Option Subobject → Type 0 where
-  nothing : IsNumberOf list None None
-  number : (n : ℕ) (s : Subobject) → slice_get list n ≡ Some s → IsNumberOf list (Some n) (Some s)
+pub data NumbersSubobject (list : List Subobject) : Option ℕ → Option Subobject → Type 0 where
+  nothing : NumbersSubobject list None None
+  number : (n : ℕ) (s : Subobject) → slice_get list n ≡ Some s → NumbersSubobject list (Some n) (Some s)
 
 -- what is kept of a subobject of the view
-pub record IsPartOf (h : Classes) (l : Places) (x : View) (list : List Subobject) (part : Part) : Type 0 where
+pub record IsViewPart (h : Classes) (l : Places) (x : View) (list : List Subobject) (part : Part) : Type 0 where
   pub valid : IsSubobject h x.class part.at
   pub class : class_of part.at ≡ Some part.class
   pub dynamic : IsTrue part.is_dynamic ↔ IsDynamic h part.class
   pub seen : part.seen ≡ seen x part.at
   pub seen_valid : IsSubobject h x.complete part.seen
-  pub next : IsNumberOf list part.next (next l x part.at)
+  pub next : NumbersSubobject list part.next (next l x part.at)
 
 abbrev pub at_of : Part → Subobject
 at_of part = part.at
@@ -35,10 +35,10 @@ at_of part = part.at
 -- the parts are the subobjects of the view's class in preorder
 pub record AreParts (h : Classes) (l : Places) (x : View) (parts : List Part) : Type 0 where
   pub subobjects : map at_of parts ≡ preorder h x.class
-  pub each : (i : ℕ) (part : Part) → slice_get parts i ≡ Some part → IsPartOf h l x (preorder h x.class) part
+  pub each : (i : ℕ) (part : Part) → slice_get parts i ≡ Some part → IsViewPart h l x (preorder h x.class) part
 
-abbrev pub view_in : ViewParts → View
-view_in v = record { complete = v.complete; at_sub = v.at; class = v.class }
+abbrev pub view_of_parts : ViewParts → View
+view_of_parts v = record { complete = v.complete; at_sub = v.at; class = v.class }
 
 -- no part of a class stands before the number that is noted for the class
 pub record AreStarts (starts : List ℕ) (parts : List Part) : Type 0 where
@@ -49,10 +49,10 @@ pub record AreStartsTo (starts : List ℕ) (parts : List Part) (i : ℕ) : Type 
   pub each : (k : ℕ) (part : Part) → k < i → slice_get parts k ≡ Some part → get_or starts part.class.0 0 ≤ k
 
 pub record IsViewParts (h : Classes) (l : Places) (v : ViewParts) : Type 0 where
-  pub view : IsView h (view_in v)
-  pub parts : AreParts h l (view_in v) v.parts
+  pub view : IsView h (view_of_parts v)
+  pub parts : AreParts h l (view_of_parts v) v.parts
   pub starts : AreStarts v.starts v.parts
-  pub start : v.start ≡ place l (view_in v) (whole_of v.class)
+  pub start : v.start ≡ place l (view_of_parts v) (whole_of v.class)
 
 -- the same for some places
 pub record IsSomeView (h : Classes) (v : ViewParts) : Type 0 where
@@ -70,8 +70,8 @@ pub record AreNextMarks (parts : List Part) (i : ℕ) (marks : List Bool) : Type
   pub each : (n : ℕ) → n < length parts → get_or marks n false ≡ list_any (λ (part : Part). leads_to n part.next) (take i parts)
 
 -- the subobjects of some numbers
-abbrev pub numbered : List Subobject → List ℕ → List (Option Subobject)
-numbered list numbers = map (slice_get list) numbers
+abbrev pub subobjects_numbered : List Subobject → List ℕ → List (Option Subobject)
+subobjects_numbered list numbers = map (slice_get list) numbers
 
 -- of these parts the heads among those of a root
 abbrev pub heads_of_root : Classes → Places → View → Root → List Part → List (Option Subobject)
@@ -84,9 +84,9 @@ heads_of_bases h l x parts = map Some (filter (is_head h l x) (flat_map (λ v. o
 -- the parts of the subobjects before a place of their list
 pub record ArePartsTo (h : Classes) (l : Places) (x : View) (list : List Subobject) (i : ℕ) (parts : List Part) : Type 0 where
   pub subobjects : map at_of parts ++ drop i list ≡ list
-  pub each : (j : ℕ) (part : Part) → slice_get parts j ≡ Some part → IsPartOf h l x list part
+  pub each : (j : ℕ) (part : Part) → slice_get parts j ≡ Some part → IsViewPart h l x list part
 
 -- what the parts of a view are of
-pub record IsKept (h : Classes) (l : Places) (v : ViewParts) : Type 0 where
+pub record AreKeptParts (h : Classes) (l : Places) (v : ViewParts) : Type 0 where
   pub keeps : IsHierarchy h
   pub view : IsViewParts h l v

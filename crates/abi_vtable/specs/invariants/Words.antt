@@ -16,30 +16,30 @@ use Rattle.abi_slots.specs.declared.words.EntryKey.{EntryKey}
 use Rattle.abi_slots.specs.declared.words.Offset.{Offset}
 use Rattle.abi_slots.specs.declared.words.Offset.TheVariants.{ToBase, ToOverrider}
 use Rattle.cxx_overrider.specs.Virtuals.{same_name, own}
-use Rattle.abi_slots.specs.Listing.{is_name, entries, offsets}
+use Rattle.abi_slots.specs.Listing.{is_offset_of_name, entries, offsets}
 use Rattle.abi_slots.specs.Slots.{IsVirtualBase}
-use Rattle.abi_slots.specs.Views.{View, first_in, next, walk}
+use Rattle.abi_slots.specs.Views.{View, first_in, next, along_chain}
 use Rattle.abi_slots.specs.Groups.{named_in, declares_at}
 use Rattle.abi_vtable.specs.declared.view.Part.{Part}
 use Rattle.abi_vtable.specs.declared.view.ViewParts.{ViewParts}
 use Rattle.abi_vtable.specs.declared.words.Declarer.{Declarer}
-use Rattle.abi_vtable.specs.invariants.Parts.{view_in}
+use Rattle.abi_vtable.specs.invariants.Parts.{view_of_parts}
 
 -- the function of an offset is a virtual one of the subobject that the path names
-abbrev pub IsNamed : Classes → ClassId → Offset → Type 0
-IsNamed h c (ToBase v) = Unit {0}
-IsNamed h c (ToOverrider path f) = IsVirtualIn h c (named_in c path) f
+abbrev pub NamesVirtual : Classes → ClassId → Offset → Type 0
+NamesVirtual h c (ToBase v) = Unit {0}
+NamesVirtual h c (ToOverrider path f) = IsVirtualIn h c (named_in c path) f
 
 -- a subobject of class d in which s lies
-pub record IsOver (h : Classes) (c : ClassId) (s : Subobject) (d : ClassId) : Type 0 where
+pub record LiesInClass (h : Classes) (c : ClassId) (s : Subobject) (d : ClassId) : Type 0 where
   pub holder : Subobject
   pub valid : IsSubobject h c holder
   pub class : class_of holder ≡ Some d
   pub inside : IsInside h holder s
 
 -- the final overrider of a function, in a subobject
-abbrev pub runs_at : Subobject → FunctionId → Overrider
-runs_at at_sub f = record { at = at_sub; function = f }
+abbrev pub overrider_in_subobject : Subobject → FunctionId → Overrider
+overrider_in_subobject at_sub f = record { at = at_sub; function = f }
 
 -- no part before a place is of class d and has s in it
 pub record AreNotOver (h : Classes) (parts : List Part) (s : Subobject) (d : ClassId) (i : ℕ) : Type 0 where
@@ -48,12 +48,12 @@ pub record AreNotOver (h : Classes) (parts : List Part) (s : Subobject) (d : Cla
 -- the vcall word of a function stands in the tables of the virtual base below which a subobject lies
 abbrev pub HasVcall : Classes → Places → FunctionId → Root → Type 0
 HasVcall h l f Whole = Unit {0}
-HasVcall h l f (Shared v) = IsVirtualBase h v × (list_any (is_name h f) (offsets h l true v) ≡ true)
+HasVcall h l f (Shared v) = IsVirtualBase h v × (list_any (is_offset_of_name h f) (offsets h l true v) ≡ true)
 
 -- each of a chain has the entry under this number, or its class declares no function at it
 pub record AreAlong (h : Classes) (l : Places) (x : View) (k : EntryKey) (n : ℕ) (s : Option Subobject) : Type 0 where
-  pub valid : (j : ℕ) (r : Subobject) → walk (next l x) j s ≡ Some r → IsSubobject h x.class r
-  pub each : (j : ℕ) (r : Subobject) (d : ClassId) → walk (next l x) j s ≡ Some r → class_of r ≡ Some d → (slice_get (entries h l d) n ≡ Some k) ⊎ ((slice_get (entries h l d) n ≡ None) × (declares_at h l k r ≡ false))
+  pub valid : (j : ℕ) (r : Subobject) → along_chain (next l x) j s ≡ Some r → IsSubobject h x.class r
+  pub each : (j : ℕ) (r : Subobject) (d : ClassId) → along_chain (next l x) j s ≡ Some r → class_of r ≡ Some d → (slice_get (entries h l d) n ≡ Some k) ⊎ ((slice_get (entries h l d) n ≡ None) × (declares_at h l k r ≡ false))
 
 -- the part and the function of its class's own that declare the entry
 pub data IsDeclaredBy (h : Classes) (l : Places) (x : View) (parts : List Part) (k : EntryKey) : Option Subobject → Option Declarer → Type 0 where
@@ -67,4 +67,4 @@ pub record GoAlongTo {A : Type 0} {B : Type 0} (R : A → B → Type 0) (xs : Li
 
 -- the first from s on, so many steps down its chain, whose class declares a function at the entry
 abbrev pub IsFirstDeclarer : Classes → Places → ViewParts → EntryKey → (steps : ℕ) → Option Subobject → Option Declarer → Type 0
-IsFirstDeclarer h l x k steps s found = IsDeclaredBy h l (view_in x) x.parts k (first_in (declares_at h l k) (next l (view_in x)) steps s) found
+IsFirstDeclarer h l x k steps s found = IsDeclaredBy h l (view_of_parts x) x.parts k (first_in (declares_at h l k) (next l (view_of_parts x)) steps s) found

@@ -8,7 +8,7 @@ use Rattle.abi_slots.specs.Views.{is_dynamic}
 use Rattle.abi_slots.specs.Groups.{GoAlong}
 use Rattle.abi_vtable.specs.declared.view.Part.{Part}
 use Rattle.abi_slots.specs.declared.words.VttWord.{VttWord}
-use Rattle.abi_vtt.specs.Vtts.{Item, IsVttWord}
+use Rattle.abi_vtt.specs.Vtts.{VttEntry, IsVttWord}
 
 -- a part of a view whose classes are known
 pub record IsKnownPart (h : Classes) (part : Part) : Type 0 where
@@ -18,11 +18,11 @@ pub record IsKnownPart (h : Classes) (part : Part) : Type 0 where
   pub dynamic : part.is_dynamic ≡ is_dynamic h part.class
 
 -- the words for these items are put behind the others
-pub record Grows (h : Classes) (l : Places) (c : ClassId) (more : List Item) (old new : List VttWord) : Type 0 where
-  pub along : (before : List Item) → GoAlong (IsVttWord h l c) before old → GoAlong (IsVttWord h l c) (before ++ more) new
+pub record GrowsByVttWords (h : Classes) (l : Places) (c : ClassId) (more : List VttEntry) (old new : List VttWord) : Type 0 where
+  pub along : (before : List VttEntry) → GoAlong (IsVttWord h l c) before old → GoAlong (IsVttWord h l c) (before ++ more) new
 
 -- of all items those that are left have no word yet
-pub record IsGrowing (h : Classes) (l : Places) (c : ClassId) (left all : List Item) (old new : List VttWord) : Type 0 where
-  pub made : List Item
-  pub grows : Grows h l c made old new
+pub record IsGrowing (h : Classes) (l : Places) (c : ClassId) (left all : List VttEntry) (old new : List VttWord) : Type 0 where
+  pub made : List VttEntry
+  pub grows : GrowsByVttWords h l c made old new
   pub whole : made ++ left ≡ all

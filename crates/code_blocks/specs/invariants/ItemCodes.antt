@@ -7,7 +7,7 @@ use Rattle.cxx_hierarchy.specs.Hierarchies.{IsHierarchy}
 use Rattle.cxx_program.specs.declared.program.TypedProgram.{TypedProgram}
 use Rattle.path_plan.specs.Plans.{Form, InFull, AsBase}
 use Rattle.path_numbers.specs.declared.numbers.ClassNumbers.{ClassNumbers}
-use Rattle.path_numbers.specs.Numbers.{AreNumbers}
+use Rattle.path_numbers.specs.Numbers.{AreClassNumbers}
 use Rattle.path_bodies.specs.declared.index.BodyIndex.{BodyIndex}
 use Rattle.path_bodies.specs.Places.{IsIndexOf}
 use Rattle.code_blocks.specs.declared.items.Form.{Form as FormCode}
@@ -16,9 +16,9 @@ use Rattle.code_blocks.specs.declared.items.Item.{Item as ItemCode}
 use Rattle.code_blocks.specs.declared.items.Item.TheVariants.{Does as DoesCode, Shares as SharesCode, Inherits as InheritsCode, Holds as HoldsCode}
 use Rattle.code_blocks.specs.Items.{Item, Does, Shares, Inherits, Holds}
 
-abbrev pub form_of : FormCode → Form
-form_of InFullCode = InFull
-form_of AsBaseCode = AsBase
+abbrev pub coded_form : FormCode → Form
+coded_form InFullCode = InFull
+coded_form AsBaseCode = AsBase
 
 abbrev pub item_code : Item → ItemCode
 item_code (Does k) = DoesCode k
@@ -30,9 +30,9 @@ abbrev pub item_codes : List Item → List ItemCode
 item_codes items = map item_code items
 
 -- what members give, from number m on, one after the other or from the last one back
-abbrev pub in_turn : (ℕ → Option (Member ClassId) → List Item) → ℕ → List (Member ClassId) → List Item
-in_turn give m [] = []
-in_turn give m (x ∷ xs) = give m (Some x) ++ in_turn give (suc m) xs
+abbrev pub items_in_turn : (ℕ → Option (Member ClassId) → List Item) → ℕ → List (Member ClassId) → List Item
+items_in_turn give m [] = []
+items_in_turn give m (x ∷ xs) = give m (Some x) ++ items_in_turn give (suc m) xs
 
 abbrev pub from_the_end : (ℕ → Option (Member ClassId) → List Item) → ℕ → List (Member ClassId) → List Item
 from_the_end give m [] = []
@@ -42,4 +42,4 @@ from_the_end give m (x ∷ xs) = from_the_end give (suc m) xs ++ give m (Some x)
 pub record ArePlans (h : Classes) (program : TypedProgram) (index : BodyIndex) (orders : List ClassNumbers) : Type 0 where
   pub keeps : IsHierarchy h
   pub is_index : IsIndexOf program index
-  pub are_orders : AreNumbers h orders
+  pub are_orders : AreClassNumbers h orders

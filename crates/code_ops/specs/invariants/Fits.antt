@@ -25,18 +25,18 @@ use Rattle.abi_slots.specs.Slots.{AreSlots}
 use Rattle.code_ops.specs.Operands.{operand_class}
 
 -- how many locals a body may have, so that registers have numbers of 32 bits
-abbrev pub most_locals : ℕ
-most_locals = 2 ^ 31
+abbrev pub most_local_registers : ℕ
+most_local_registers = 2 ^ 31
 
 -- where the statements of a body stand
-pub record IsSite (h : Classes) (rows : List ClassLayout) (slots : Slots) (body : TypedBody) : Type 0 where
+pub record IsStatementSite (h : Classes) (rows : List ClassLayout) (slots : Slots) (body : TypedBody) : Type 0 where
   pub keeps : IsHierarchy h
   pub are_slots : AreSlots h (places_of h rows) slots
-  pub few_locals : length body.locals < most_locals
+  pub few_locals : length body.locals < most_local_registers
 
 abbrev pub FitsVariable : Variable → Type 0
 FitsVariable (Global n) = n < 2 ^ 32
-FitsVariable (Local n) = n < most_locals
+FitsVariable (Local n) = n < most_local_registers
 
 abbrev pub FitsOperand : TypedOperand → Type 0
 FitsOperand (VariableOperand x) = FitsVariable x

@@ -8,7 +8,7 @@ use Rattle.code_ops.specs.declared.sites.Site.{Site}
 use Rattle.code_ops.specs.Setups.{Setup, setup, Routine}
 use Rattle.code_ops.specs.Routines.{start_by}
 use Rattle.code_ops.specs.Arguments.{Block, block_in}
-use Rattle.code_ops.specs.invariants.Fits.{IsSite}
+use Rattle.code_ops.specs.invariants.Fits.{IsStatementSite}
 
 -- the classes, the rows of the layout and the program of a site
 abbrev pub site_setup : {L : Type 0} → (L → List ClassLayout) → Site L → Setup
@@ -32,7 +32,7 @@ site_start rows site = start_by (site_setup rows site) site.numbers.now
 
 -- its numbers are within the limits, and its slots are those of its classes
 abbrev pub IsSiteAt : {L : Type 0} → (L → List ClassLayout) → Site L → Type 0
-IsSiteAt rows site = IsSite site.h.now (rows site.layout.now) site.slots.now site.body.now
+IsSiteAt rows site = IsStatementSite site.h.now (rows site.layout.now) site.slots.now site.body.now
 
 -- the same, and its layout is one of its classes
 pub record IsLaidSite {L : Type 0} (lays_out : L → Classes → Type 0) (rows : L → List ClassLayout) (here : Site L) : Type 0 where

@@ -7,10 +7,10 @@ use Rattle.cxx_program.specs.declared.operand.Conversion.TheVariants.{Number as 
 use Rattle.cxx_program.specs.declared.program.TypedInit.{TypedInit}
 
 -- the operand is a number
-abbrev pub IsNumber : TypedOperand → Type 0
-IsNumber (Variable x) = ⊥
-IsNumber This = ⊥
-IsNumber (Number z) = Unit {0}
+abbrev pub IsNumberOperand : TypedOperand → Type 0
+IsNumberOperand (Variable x) = ⊥
+IsNumberOperand This = ⊥
+IsNumberOperand (Number z) = Unit {0}
 
 -- the conversion is none to a base, and one to bits fits a register
 abbrev pub IsPlain : Conversion → Type 0
@@ -22,5 +22,5 @@ IsPlain (ToBase i) = ⊥
 
 -- the initializer gives a number, by a conversion that is none to a base
 pub record IsConstant (init : TypedInit) : Type 0 where
-  pub operand : IsNumber init.operand
+  pub operand : IsNumberOperand init.operand
   pub conversion : IsPlain init.conversion

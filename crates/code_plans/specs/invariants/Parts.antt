@@ -17,8 +17,8 @@ is_event_code (InheritsCode b) = false
 is_event_code (HoldsCode way m d n) = false
 
 -- a part is a virtual base, a direct base that is not virtual, or a class member of class c, whose first element is there
-abbrev pub IsPartOf : Classes → ClassId → ItemCode → Type 0
-IsPartOf h c (DoesCode k) = Unit {0}
-IsPartOf h c (SharesCode v) = HasVirtualBase h c v
-IsPartOf h c (InheritsCode b) = IsDirectBase h c false b
-IsPartOf h c (HoldsCode way m d n) = IsElement h c m (first_index way n) (Object d)
+abbrev pub IsItemOfClass : Classes → ClassId → ItemCode → Type 0
+IsItemOfClass h c (DoesCode k) = Unit {0}
+IsItemOfClass h c (SharesCode v) = HasVirtualBase h c v
+IsItemOfClass h c (InheritsCode b) = IsDirectBase h c false b
+IsItemOfClass h c (HoldsCode way m d n) = IsElement h c m (first_index way n) (Object d)

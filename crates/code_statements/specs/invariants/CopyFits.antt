@@ -11,13 +11,13 @@ use Rattle.cxx_subobject.specs.declared.locations.Hop.{Hop}
 use Rattle.cxx_subobject.specs.Locations.{LeadsTo}
 use Rattle.abi_sound.specs.declared.class_layout.ClassLayout.{ClassLayout}
 use Rattle.abi_sound.specs.Places.{Places, size_of_value}
-use Rattle.abi_sound.specs.Locations.{place_at}
+use Rattle.abi_sound.specs.Locations.{place_along_hops}
 use Rattle.code_ops.specs.declared.sites.Site.{Site}
 use Rattle.code_ops.specs.invariants.Sites.{IsLaidSite}
 
 -- all that lies in an object of class d, so many bytes behind a register, is near
 pub record FitsObject (h : Classes) (l : Places) (d : ClassId) (offset : ℕ) : Type 0 where
-  pub within : (hops : List Hop) (type : FieldType ClassId) → LeadsTo h d hops type → offset + place_at h l d hops < 2 ^ 21
+  pub within : (hops : List Hop) (type : FieldType ClassId) → LeadsTo h d hops type → offset + place_along_hops h l d hops < 2 ^ 21
 
 -- each element of a member of class b, of which the first one lies so many bytes behind a register
 pub record FitsMember (h : Classes) (l : Places) (b : ClassId) (member : Member ClassId) (start : ℕ) : Type 0 where

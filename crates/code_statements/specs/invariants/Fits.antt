@@ -28,7 +28,7 @@ use Rattle.cxx_program.specs.declared.program.Owner.TheVariants.{Main, Function,
 use Rattle.path_plan.specs.Plans.{InFull}
 use Rattle.code_ops.specs.declared.routines.Course.TheVariants.{Constructs, Destroys}
 use Rattle.code_ops.specs.Setups.{Routine, MainCode, FunctionCode, PlanCode}
-use Rattle.code_ops.specs.invariants.Fits.{most_locals, FitsVariable, FitsOperand, FitsBase, FitsConversion, FitsArgument, FitsPlace}
+use Rattle.code_ops.specs.invariants.Fits.{most_local_registers, FitsVariable, FitsOperand, FitsBase, FitsConversion, FitsArgument, FitsPlace}
 
 abbrev pub FitsCast : Classes → ClassId → TypedCast → Type 0
 FitsCast h c SameClass = Unit {0}
@@ -81,13 +81,13 @@ abbrev pub FitsDeclared : Classes → Scope → Option Converted → Type 0
 FitsDeclared h e None = Unit {0}
 FitsDeclared h e (Some v) = FitsConverted h e v
 
-abbrev pub FitsReturn : Classes → Scope → Option Argument → Type 0
-FitsReturn h e None = Unit {0}
-FitsReturn h e (Some a) = FitsArgument h e a
+abbrev pub FitsReturnedValue : Classes → Scope → Option Argument → Type 0
+FitsReturnedValue h e None = Unit {0}
+FitsReturnedValue h e (Some a) = FitsArgument h e a
 
 -- statement n of a body, whose numbers are at most `most`
 abbrev pub FitsKind : Classes → Scope → (most n : ℕ) → TypedKind → Type 0
-FitsKind h e most n (Declare m v) = (m < most_locals) × FitsDeclared h e v
+FitsKind h e most n (Declare m v) = (m < most_local_registers) × FitsDeclared h e v
 FitsKind h e most n (Assign variable v) = FitsVariable variable × FitsConverted h e v
 FitsKind h e most n (Write place a) = FitsPlace h place × FitsArgument h e a
 FitsKind h e most n (Copy to from c) = FitsOperand to × FitsOperand from × (c.0 < length h)
@@ -95,7 +95,7 @@ FitsKind h e most n (CallKind call) = FitsCall h e call
 FitsKind h e most n (Delete p c) = FitsOperand p × (c.0 < length h)
 FitsKind h e most n (If p other behind) = FitsOperand p × (n < most) × (other ≤ most) × (behind ≤ most)
 FitsKind h e most n (While p behind) = FitsOperand p × (n < most) × (behind ≤ most)
-FitsKind h e most n (Return a) = FitsReturn h e a
+FitsKind h e most n (Return a) = FitsReturnedValue h e a
 FitsKind h e most n (Print p) = FitsOperand p
 FitsKind h e most n (PrintType p c) = FitsOperand p
 FitsKind h e most n (PrintView p c) = FitsOperand p

@@ -34,28 +34,28 @@ pub record PutsMembers {A : Type 0} (give : (n m : ℕ) (at : ℕ → ℕ) → O
   pub adds : (n : ℕ) → b.0 ≤ n → new ≡ old ++ flat_map (λ m. give n m (λ i. offset + element_place x.h (places x) (Some b) m i) (slice_get (members_of x.h b) m)) (upto k)
 
 -- the leaves of the first k of some objects of class d
-abbrev pub AddsObjects : Setup → Sides → ClassId → (start stride k : ℕ) → List Op → List Op → Type 0
-AddsObjects x sides d start stride k old new = PutsObjects (λ n at. object_copies x sides n d at) d start stride k old new
+abbrev pub CopiesObjects : Setup → Sides → ClassId → (start stride k : ℕ) → List Op → List Op → Type 0
+CopiesObjects x sides d start stride k old new = PutsObjects (λ n at. object_copies x sides n d at) d start stride k old new
 
 -- those of a member of class b
-abbrev pub AddsMember : Setup → Sides → ClassId → LeafWidth → Member ClassId → (start : ℕ) → List Op → List Op → Type 0
-AddsMember x sides b leaf member start old new = PutsMember (λ n at indices ty. typed_copies (object_copies x sides n) sides leaf at indices ty) x b member start old new
+abbrev pub CopiesMember : Setup → Sides → ClassId → LeafWidth → Member ClassId → (start : ℕ) → List Op → List Op → Type 0
+CopiesMember x sides b leaf member start old new = PutsMember (λ n at indices ty. typed_copies (object_copies x sides n) sides leaf at indices ty) x b member start old new
 
 -- those of the first k members of class b
-abbrev pub AddsMembers : Setup → Sides → ClassId → (offset k : ℕ) → List Op → List Op → Type 0
-AddsMembers x sides b offset k old new = PutsMembers (λ n m at o. member_copies (object_copies x sides n) sides (leaf_width x b m) at o) x b offset k old new
+abbrev pub CopiesMembers : Setup → Sides → ClassId → (offset k : ℕ) → List Op → List Op → Type 0
+CopiesMembers x sides b offset k old new = PutsMembers (λ n m at o. member_copies (object_copies x sides n) sides (leaf_width x b m) at o) x b offset k old new
 
 -- those of all members
-abbrev pub AddsOwn : Setup → Sides → ClassId → ℕ → List Op → List Op → Type 0
-AddsOwn x sides b offset old new = AddsMembers x sides b offset (length (members_of x.h b)) old new
+abbrev pub CopiesOwn : Setup → Sides → ClassId → ℕ → List Op → List Op → Type 0
+CopiesOwn x sides b offset old new = CopiesMembers x sides b offset (length (members_of x.h b)) old new
 
 -- those of some subobjects of an object of class d
-pub record AddsBases (x : Setup) (sides : Sides) (d : ClassId) (offset : ℕ) (bases : List Subobject) (old new : List Op) : Type 0 where
+pub record CopiesBases (x : Setup) (sides : Sides) (d : ClassId) (offset : ℕ) (bases : List Subobject) (old new : List Op) : Type 0 where
   pub adds : (n : ℕ) → d.0 ≤ n → new ≡ old ++ flat_map (λ s. own_copies x (object_copies x sides n) sides (class_of s) (offset + (places x).place d s)) bases
 
 -- those of all
-abbrev pub AddsObject : Setup → Sides → ClassId → ℕ → List Op → List Op → Type 0
-AddsObject x sides d offset old new = AddsBases x sides d offset (preorder x.h d) old new
+abbrev pub CopiesWholeObject : Setup → Sides → ClassId → ℕ → List Op → List Op → Type 0
+CopiesWholeObject x sides d offset old new = CopiesBases x sides d offset (preorder x.h d) old new
 
 -- the tests of the first k of some objects of class d, and of the class members inside them
 abbrev pub CoversObjects : Setup → (r : ℕ) → ClassId → (start stride k : ℕ) → List Used → List Used → Type 0

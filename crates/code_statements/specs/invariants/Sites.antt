@@ -56,7 +56,7 @@ pub record IsCallSite {L : Type 0} (lays_out : L → Classes → Type 0) (rows :
   pub fits : FitsCall here.site.now.h.now (site_scope here.site.now) here.call.now
 
 -- a statement fits its site, and its numbers of blocks are within the limit
-pub record Stands {L : Type 0} (lays_out : L → Classes → Type 0) (rows : L → List ClassLayout) (here : StatementSite L) (kind : TypedKind) : Type 0 where
+pub record FitsSite {L : Type 0} (lays_out : L → Classes → Type 0) (rows : L → List ClassLayout) (here : StatementSite L) (kind : TypedKind) : Type 0 where
   pub laid : IsLaidSite lays_out rows here.site.now
   pub overriders : AreOverriders here.site.now.h.now here.site.now.overriders.now
   pub fits : FitsKind here.site.now.h.now (site_scope here.site.now) (2 ^ 32 - (here.flow.base + 1)) here.flow.number kind

@@ -13,22 +13,22 @@ use Rattle.cxxabi_words.specs.declared.command.Command.TheVariants.{Foreign}
 use Rattle.cxxabi_cmd.specs.Commands.{IsOnBytes, RunsMain}
 use Rattle.cxxabi_cmd.specs.Divided.{IsLayoutOf}
 use Rattle.cxxabi_cmd.specs.Output.{Answer, Yields, source_limit}
-use Rattle.cxxabi_cmd.specs.Handed.{Seen, seen_of, IsMachineOf}
+use Rattle.cxxabi_cmd.specs.Handed.{SeenMachine, seen_machine, IsMachineOf}
 
 -- what was read of a source is all of it, or passes the limit as the source does
-pub record IsRead (read all : List ℕ) : Type 0 where
+pub record IsReadToLimit (read all : List ℕ) : Type 0 where
   pub whole : length read ≤ source_limit → read ≡ all
   pub more : source_limit < length read → source_limit < length all
 
-abbrev pub answer_of : Reply → Answer
-answer_of reply = record { text = reply.text.items; status = reply.status }
+abbrev pub as_answer : Reply → Answer
+as_answer reply = record { text = reply.text.items; status = reply.status }
 
 -- what is seen of the machine of a reply
-abbrev pub machine_of : Reply → Option Seen
-machine_of reply = option_map (λ m. seen_of m) reply.machine
+abbrev pub machine_of : Reply → Option SeenMachine
+machine_of reply = option_map (λ m. seen_machine m) reply.machine
 
 -- the machine of the run of a source's program
-pub record IsRunBy (command : Command) (front : List ℕ) (source : SourceText) (h : Classes) (program : TypedProgram) (machine : Seen) : Type 0 where
+pub record IsRunBy (command : Command) (front : List ℕ) (source : SourceText) (h : Classes) (program : TypedProgram) (machine : SeenMachine) : Type 0 where
   pub trace : Bool
   pub steps : ℕ
   pub runs : RunsMain command steps trace
@@ -40,10 +40,10 @@ pub record IsRunBy (command : Command) (front : List ℕ) (source : SourceText) 
   pub is_machine : IsMachineOf h rows program trace steps machine
 
 -- the machine of the run that a command makes, or none where it makes none
-abbrev pub HandsBy : Command → List ℕ → SourceText → Classes → TypedProgram → Option Seen → Type 0
+abbrev pub HandsBy : Command → List ℕ → SourceText → Classes → TypedProgram → Option SeenMachine → Type 0
 HandsBy command front source h program None = (trace : Bool) (steps : ℕ) (tree : BodyTree) (rows : List ClassLayout) → RunsMain command steps trace → IsOnBytes command → source.main ≡ Some tree → IsLayoutOf command front h rows → ⊥
 HandsBy command front source h program (Some machine) = IsRunBy command front source h program machine
 
 -- the reply is one that `foreign` gives to this listing and an accepted source
 abbrev pub YieldsForeign : Accepted → List ℕ → (size steps : ℕ) → Reply → Type 0
-YieldsForeign accepted listing size steps reply = Yields listing size accepted.source accepted.hierarchy accepted.program (Foreign steps) (answer_of reply)
+YieldsForeign accepted listing size steps reply = Yields listing size accepted.source accepted.hierarchy accepted.program (Foreign steps) (as_answer reply)

@@ -6,7 +6,7 @@ use Rattle.std.specs.Str.{bytes_eq}
 use Rattle.std.specs.Str.Parse.{digits_value}
 use Rattle.clap.specs.Words.{Text}
 use Rattle.cxx_text.specs.Bytes.{begins, is_letter, is_word_byte}
-use Rattle.cxxabi_words.specs.Commands.{Given, budget, most_classes, most_elements, most_steps}
+use Rattle.cxxabi_words.specs.Commands.{Given, budget, most_asked_classes, most_asked_elements, most_steps}
 use Rattle.cxxabi_words.specs.declared.command.Command.{Command}
 use Rattle.cxxabi_words.specs.declared.command.Command.TheVariants.{Check, Layout, LayoutOf, Tables, TablesOf, Run, Paths, Gen, Array, MemberPointer, Inspect, Foreign}
 
@@ -15,16 +15,16 @@ abbrev pub is_count : ℕ → ℕ → Text → Bool
 is_count places most digits =
     nat_le (length digits) places && (list_all is_ascii_digit digits && (nat_le 1 (digits_value 10 digits) && nat_le (digits_value 10 digits) most))
 
-unfoldable pub counted : ℕ → ℕ → Text → Option ℕ
-counted places most digits = if is_count places most digits then Some (digits_value 10 digits) else None
+unfoldable pub count_in_digits : ℕ → ℕ → Text → Option ℕ
+count_in_digits places most digits = if is_count places most digits then Some (digits_value 10 digits) else None
 
 abbrev pub budgeted : Option Text → Option ℕ
 budgeted None = Some budget
-budgeted (Some digits) = counted 7 most_steps digits
+budgeted (Some digits) = count_in_digits 7 most_steps digits
 
 -- a word is a name
-unfoldable pub is_name : Text → Bool
-is_name text = begins is_letter text && (list_all is_word_byte text && nat_le (length text) 255)
+unfoldable pub is_name_word : Text → Bool
+is_name_word text = begins is_letter text && (list_all is_word_byte text && nat_le (length text) 255)
 
 -- what stands before the first byte of this kind, and behind it
 unfoldable pub cut_at : ℕ → Text → Option (Text × Text)
@@ -32,13 +32,13 @@ cut_at c [] = None
 cut_at c (b ∷ bs) = if b == c then Some ([], bs) else option_map (λ p. (b ∷ p.0, p.1)) (cut_at c bs)
 
 -- what stands behind a byte of this kind, where the text begins with it
-abbrev pub behind : ℕ → Text → Option Text
-behind c [] = None
-behind c (b ∷ bs) = if b == c then Some bs else None
+abbrev pub behind_byte : ℕ → Text → Option Text
+behind_byte c [] = None
+behind_byte c (b ∷ bs) = if b == c then Some bs else None
 
 -- what stands before the first colon, and behind it and a second one
 abbrev pub cut_scope : Text → Option (Text × Text)
-cut_scope text = option_and_then (λ p. option_map (λ member. (p.0, member)) (behind 58 p.1)) (cut_at 58 text)
+cut_scope text = option_and_then (λ p. option_map (λ member. (p.0, member)) (behind_byte 58 p.1)) (cut_at 58 text)
 
 abbrev pub check_form : Option Text → Option Command
 check_form None = Some Check
@@ -54,26 +54,26 @@ tables_form (Some class) = TablesOf class
 
 abbrev pub gen_form : Option Text → Option Command
 gen_form None = None
-gen_form (Some digits) = option_map Gen (counted 4 most_classes digits)
+gen_form (Some digits) = option_map Gen (count_in_digits 4 most_asked_classes digits)
 
 abbrev pub array_of : Text → Text → Option Command
-array_of class digits = if is_name class then option_map (λ n. Array class n) (counted 4 most_elements digits) else None
+array_of class digits = if is_name_word class then option_map (λ n. Array class n) (count_in_digits 4 most_asked_elements digits) else None
 
 abbrev pub array_form : Option Text → Option Command
 array_form None = None
 array_form (Some arg) = option_and_then (λ p. array_of p.0 p.1) (cut_at 64 arg)
 
-abbrev pub member_of : Text → Text → Text → Option Command
-member_of class member whole =
-    if is_name class && (is_name member && is_name whole) then Some (MemberPointer (record { class = class; member = member; whole = whole })) else None
+abbrev pub member_pointer_command : Text → Text → Text → Option Command
+member_pointer_command class member whole =
+    if is_name_word class && (is_name_word member && is_name_word whole) then Some (MemberPointer (record { class = class; member = member; whole = whole })) else None
 
 -- a qualified name, and the class that the pointer is for, which may be left out
-abbrev pub member_in : Text → Option Text → Option Command
-member_in name whole = option_and_then (λ p. member_of p.0 p.1 (unwrap_or whole p.0)) (cut_scope name)
+abbrev pub qualified_member_command : Text → Option Text → Option Command
+qualified_member_command name whole = option_and_then (λ p. member_pointer_command p.0 p.1 (unwrap_or whole p.0)) (cut_scope name)
 
 abbrev pub member_cut : Text → Option (Text × Text) → Option Command
-member_cut arg None = member_in arg None
-member_cut arg (Some p) = member_in p.0 (Some p.1)
+member_cut arg None = qualified_member_command arg None
+member_cut arg (Some p) = qualified_member_command p.0 (Some p.1)
 
 abbrev pub member_form : Option Text → Option Command
 member_form None = None
@@ -108,12 +108,12 @@ foreign_form None steps false = option_map Foreign (budgeted steps)
 foreign_form None steps true = None
 foreign_form (Some arg) steps trace = None
 
-abbrev pub form_of : Text → Option Text → Option Text → Bool → Option Command
-form_of word arg steps trace =
+abbrev pub command_form : Text → Option Text → Option Text → Bool → Option Command
+command_form word arg steps trace =
     if bytes_eq word (codes "run") then run_form arg steps trace
     else (if bytes_eq word (codes "paths") then paths_form arg steps trace
     else (if bytes_eq word (codes "foreign") then foreign_form arg steps trace
     else (if is_some steps || trace then None else plain_form word arg)))
 
 abbrev pub asked : Given → Option Command
-asked g = option_and_then (λ word. form_of word g.arg g.steps g.trace) g.command
+asked g = option_and_then (λ word. command_form word g.arg g.steps g.trace) g.command

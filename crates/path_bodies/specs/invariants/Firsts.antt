@@ -6,7 +6,7 @@ use Rattle.cxx_program.specs.declared.program.Owner.TheVariants.{Function, Const
 use Rattle.cxx_program.specs.declared.program.TypedBody.{TypedBody}
 use Rattle.path_model.specs.States.{inits_in}
 use Rattle.path_bodies.specs.declared.index.BodyIndex.{BodyIndex}
-use Rattle.path_bodies.specs.Places.{place_of, first_place, key, is_of, sets}
+use Rattle.path_bodies.specs.Places.{place_by_key, first_place, member_key, is_of, sets}
 
 -- the first place, or else the second
 abbrev pub first_or : Option ℕ → Option ℕ → Option ℕ
@@ -19,13 +19,13 @@ only_if true n = Some n
 only_if false n = None
 
 -- the item at a place that may be there
-abbrev pub item_at : {X : Type 0} → List X → Option ℕ → Option X
-item_at items None = None
-item_at items (Some place) = slice_get items place
+abbrev pub item_at_place : {X : Type 0} → List X → Option ℕ → Option X
+item_at_place items None = None
+item_at_place items (Some place) = slice_get items place
 
 -- the index has the first places among these bodies
 pub record IndexesBodies (bodies : List TypedBody) (index : BodyIndex) : Type 0 where
-  pub functions : (f : FunctionId) → place_of index.functions (key f.class f.index) ≡ first_place (is_of (Function f)) bodies
-  pub constructors : (c : ClassId) → place_of index.constructors (key c 0) ≡ first_place (is_of (Constructor c)) bodies
-  pub destructors : (c : ClassId) → place_of index.destructors (key c 0) ≡ first_place (is_of (Destructor c)) bodies
-  pub inits : (c : ClassId) (m : ℕ) → place_of index.inits (key c m) ≡ first_place (sets m) (inits_in (find (is_of (Constructor c)) bodies))
+  pub functions : (f : FunctionId) → place_by_key index.functions (member_key f.class f.index) ≡ first_place (is_of (Function f)) bodies
+  pub constructors : (c : ClassId) → place_by_key index.constructors (member_key c 0) ≡ first_place (is_of (Constructor c)) bodies
+  pub destructors : (c : ClassId) → place_by_key index.destructors (member_key c 0) ≡ first_place (is_of (Destructor c)) bodies
+  pub inits : (c : ClassId) (m : ℕ) → place_by_key index.inits (member_key c m) ≡ first_place (sets m) (inits_in (find (is_of (Constructor c)) bodies))

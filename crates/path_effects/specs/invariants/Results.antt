@@ -6,8 +6,8 @@ use Rattle.cxx_hierarchy.specs.declared.records.ReturnType.TheVariants.{Void, Va
 use Rattle.cxx_hierarchy.specs.declared.records.ValueType.TheVariants.{Number, Pointer}
 
 -- the class, where the result is a pointer
-abbrev pub pointee : Option (ReturnType ClassId) → Option ClassId
-pointee None = None
-pointee (Some Void) = None
-pointee (Some (Value (Number t))) = None
-pointee (Some (Value (Pointer c))) = Some c
+abbrev pub pointee_of_result : Option (ReturnType ClassId) → Option ClassId
+pointee_of_result None = None
+pointee_of_result (Some Void) = None
+pointee_of_result (Some (Value (Number t))) = None
+pointee_of_result (Some (Value (Pointer c))) = Some c

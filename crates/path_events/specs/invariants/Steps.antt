@@ -6,9 +6,9 @@ use Rattle.cxx_hierarchy.specs.Declarations.{elements_of}
 use Rattle.cxx_hierarchy.specs.Classes.{Classes, members_of}
 use Rattle.cxx_program.specs.declared.program.TypedProgram.{TypedProgram}
 use Rattle.path_plan.specs.Places.{ObjectPart}
-use Rattle.path_plan.specs.Phases.{Event}
+use Rattle.path_plan.specs.Phases.{PartEvent}
 use Rattle.path_plan.specs.Pieces.{Piece, Own, Sub}
-use Rattle.path_model.specs.States.{bodies_of}
+use Rattle.path_model.specs.States.{plan_bodies}
 use Rattle.path_heap.specs.declared.state.Part.{Part}
 use Rattle.path_bodies.specs.declared.index.BodyIndex.{BodyIndex}
 use Rattle.path_bodies.specs.Places.{IsIndexOf}
@@ -26,7 +26,7 @@ use Rattle.path_events.specs.Plans.{IsEvent}
 
 -- an event of the part itself, and what is left behind it
 pub record IsOwnStep (h : Classes) (program : TypedProgram) (classes : List ClassId) (code : PlanEvent) (left rest : List Piece) : Type 0 where
-  pub e : Event
+  pub e : PartEvent
   pub means : IsEvent h program classes code e
   pub is : left ≡ Own e ∷ rest
 
@@ -44,11 +44,11 @@ IsStep h program classes at left (OpenStep kid form stage) = IsOpenStep h classe
 
 -- what is left of a frame's part at a stage
 abbrev pub left_at : Classes → TypedProgram → Bool → Frame → ObjectPart → Stage → List Piece
-left_at h program is_building frame p stage = left_of h (bodies_of program) is_building (form_of frame.form) frame.part.class p stage
+left_at h program is_building frame p stage = left_of h (plan_bodies program) is_building (form_of frame.form) frame.part.class p stage
 
 -- the step is what the frame gives at this stage
-abbrev pub Gives : Classes → BodyIndex → Bool → Frame → Stage → Step → Type 0
-Gives h index is_building frame stage step =
+abbrev pub GivesStep : Classes → BodyIndex → Bool → Frame → Stage → Step → Type 0
+GivesStep h index is_building frame stage step =
     (program : TypedProgram) (classes : List ClassId) (p : ObjectPart) → IsIndexOf program index → StandsAs h classes frame.part (form_of frame.form) p → IsStep h program classes (left_at h program is_building frame p) (left_at h program is_building frame p stage) step
 
 -- as much is left at one stage as at the other
@@ -58,11 +58,11 @@ IsSameLeft h index is_building frame stage next = (program : TypedProgram) (p : 
 -- the step is what the frame gives at this stage, or it gives nothing before the next
 abbrev pub MayGive : Classes → BodyIndex → Bool → Frame → (stage next : Stage) → Option Step → Type 0
 MayGive h index is_building frame stage next None = IsSameLeft h index is_building frame stage next
-MayGive h index is_building frame stage next (Some step) = Gives h index is_building frame stage step
+MayGive h index is_building frame stage next (Some step) = GivesStep h index is_building frame stage step
 
 -- the same of the part that is open
 abbrev pub GivesNext : Course → Bool → Stage → Step → Type 0
-GivesNext course is_building stage step = Gives course.h.now course.index.now is_building course.frame stage step
+GivesNext course is_building stage step = GivesStep course.h.now course.index.now is_building course.frame stage step
 
 abbrev pub MayGiveNext : Course → Bool → (stage next : Stage) → Option Step → Type 0
 MayGiveNext course is_building stage next step = MayGive course.h.now course.index.now is_building course.frame stage next step

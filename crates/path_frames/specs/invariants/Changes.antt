@@ -3,7 +3,7 @@ use Rattle.std.specs.Prelude.{◌≡◌, ℕ, Option, Some, None, List, [], ◌�
 use Rattle.cxx_hierarchy.specs.declared.records.ClassId.{ClassId}
 use Rattle.cxx_hierarchy.specs.Classes.{Classes}
 use Rattle.cxx_program.specs.declared.program.TypedProgram.{TypedProgram}
-use Rattle.path_model.specs.States.{State, Frame, with_frames}
+use Rattle.path_model.specs.States.{ProgramState, Frame, with_frames}
 use Rattle.path_model.specs.Runs.{open_count}
 use Rattle.path_events.specs.declared.plan.Plan.{Plan}
 use Rattle.path_frames.specs.declared.frames.BodyFrame.{BodyFrame}
@@ -14,7 +14,7 @@ use Rattle.path_frames.specs.Frames.{FrameStands, depth_in}
 use Rattle.path_frames.specs.Machines.{MachineStands}
 
 -- the frame that was taken stands for the first of the frames, and the machine for the state with the others
-abbrev pub Pops : Classes → (ClassId → ℕ) → TypedProgram → Machine → State → Option FrameCode → List Frame → Type 0
+abbrev pub Pops : Classes → (ClassId → ℕ) → TypedProgram → Machine → ProgramState → Option FrameCode → List Frame → Type 0
 Pops h sizes program machine s None [] = Unit {0}
 Pops h sizes program machine s None (f ∷ below) = ⊥
 Pops h sizes program machine s (Some code) [] = ⊥
@@ -25,7 +25,7 @@ abbrev pub at_next : BodyFrame → ℕ → BodyFrame
 at_next frame next = record { owner = frame.owner; this = frame.this; locals = frame.locals; next = next; found = frame.found; target = frame.target; depth = frame.depth }
 
 -- only the locals of a body differ
-pub record IsSameBut (code new : BodyFrame) : Type 0 where
+pub record DiffersInLocals (code new : BodyFrame) : Type 0 where
   pub owner : new.owner ≡ code.owner
   pub this : new.this ≡ code.this
   pub next : new.next ≡ code.next

@@ -3,25 +3,25 @@ use Rattle.std.specs.Prelude.{◌≡◌, ℕ, suc, ◌-◌, ◌<◌, ◌≤◌, 
 use Rattle.path_heap.specs.declared.state.ObjectRow.{ObjectRow}
 
 -- the row before place i begins at n or before it
-abbrev pub IsBefore : List ObjectRow → ℕ → ℕ → Type 0
-IsBefore rows n i = (j : ℕ) (row : ObjectRow) → suc j ≡ i → slice_get rows j ≡ Some row → row.start ≤ n
+abbrev pub BeginsBefore : List ObjectRow → ℕ → ℕ → Type 0
+BeginsBefore rows n i = (j : ℕ) (row : ObjectRow) → suc j ≡ i → slice_get rows j ≡ Some row → row.start ≤ n
 
 -- the row at place i begins behind n
-abbrev pub IsBehind : List ObjectRow → ℕ → ℕ → Type 0
-IsBehind rows n i = (row : ObjectRow) → slice_get rows i ≡ Some row → n < row.start
+abbrev pub BeginsBehind : List ObjectRow → ℕ → ℕ → Type 0
+BeginsBehind rows n i = (row : ObjectRow) → slice_get rows i ≡ Some row → n < row.start
 
 -- the rows before place i are those that begin at n or before it, where each begins behind those before it
 pub record IsCut (rows : List ObjectRow) (n i : ℕ) : Type 0 where
   pub within : i ≤ length rows
-  pub before : IsBefore rows n i
-  pub behind : IsBehind rows n i
+  pub before : BeginsBefore rows n i
+  pub behind : BeginsBehind rows n i
 
 -- the cut is between two places
 pub record IsBetween (rows : List ObjectRow) (n low high : ℕ) : Type 0 where
   pub ordered : low ≤ high
   pub within : high ≤ length rows
-  pub before : IsBefore rows n low
-  pub behind : IsBehind rows n high
+  pub before : BeginsBefore rows n low
+  pub behind : BeginsBehind rows n high
 
 -- k is the last of those rows
 pub record IsObjectAt (rows : List ObjectRow) (n k : ℕ) : Type 0 where

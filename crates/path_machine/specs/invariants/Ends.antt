@@ -14,25 +14,25 @@ use Rattle.path_machine.specs.Tellings.{TellsMore}
 use Rattle.path_machine.specs.Turns.{IsAtStep, ending_of}
 
 -- one step more is counted
-abbrev pub counted : PathState → PathState
-counted state = record { machine = state.machine; answers = state.answers; taken = state.taken + 1; budget = state.budget; end = state.end; failed = state.failed }
+abbrev pub step_counted : PathState → PathState
+step_counted state = record { machine = state.machine; answers = state.answers; taken = state.taken + 1; budget = state.budget; end = state.end; failed = state.failed }
 
 -- a step was taken: once it is counted the machine is at the next one, and what the step tells is told
 pub record Steps (h : Classes) (sizes : ClassId → ℕ) (program : TypedProgram) (before after : PathState) (told telling : Telling) : Type 0 where
-  pub at : IsAtStep h sizes program (counted after)
+  pub at : IsAtStep h sizes program (step_counted after)
   pub tells : TellsMore told telling (outs_in (move h sizes program (state_at h sizes program before.taken)))
 
 -- the run ends with this answer after so many steps more, and nothing more is told
-pub record Ends (h : Classes) (sizes : ClassId → ℕ) (program : TypedProgram) (before : PathState) (turn : Turn) (more : ℕ) (told telling : Telling) : Type 0 where
+pub record EndsRun (h : Classes) (sizes : ClassId → ℕ) (program : TypedProgram) (before : PathState) (turn : Turn) (more : ℕ) (told telling : Telling) : Type 0 where
   pub run : run_of h sizes program before.budget ≡ record { outs = outs_at h sizes program before.taken; ending = ending_of turn; steps = before.taken + more }
   pub same : telling ≡ told
 
 -- what a step leaves behind, by what it came to; no step of a run goes wrong
 abbrev pub Leaves : Classes → (ClassId → ℕ) → TypedProgram → (before after : PathState) → (told telling : Telling) → NextCode → Type 0
 Leaves h sizes program before after told telling GoesCode = Steps h sizes program before after told telling
-Leaves h sizes program before after told telling (RefusesCode rule line) = Ends h sizes program before (Refused rule line) 0 told telling
-Leaves h sizes program before after told telling (Limited limit) = Ends h sizes program before (Limit limit) 0 told telling
-Leaves h sizes program before after told telling EndsCode = Ends h sizes program before Ended 1 told telling
+Leaves h sizes program before after told telling (RefusesCode rule line) = EndsRun h sizes program before (Refused rule line) 0 told telling
+Leaves h sizes program before after told telling (Limited limit) = EndsRun h sizes program before (Limit limit) 0 told telling
+Leaves h sizes program before after told telling EndsCode = EndsRun h sizes program before Ended 1 told telling
 Leaves h sizes program before after told telling WrongCode = ⊥
 
 -- a step that is not counted yet: the counts and the answer that ended the run are as before

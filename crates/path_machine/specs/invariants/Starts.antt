@@ -7,6 +7,6 @@ use Rattle.path_heap.specs.declared.state.Value.{Value}
 use Rattle.path_heap.specs.declared.state.Value.TheVariants.{Number, Null}
 
 -- 0, or null
-abbrev pub first_code : ValueType ClassId → Value
-first_code (NumberType t) = Number (pos 0)
-first_code (PointerType c) = Null
+abbrev pub start_code : ValueType ClassId → Value
+start_code (NumberType t) = Number (pos 0)
+start_code (PointerType c) = Null

@@ -10,8 +10,8 @@ use Rattle.path_machine.specs.declared.telling.Telling.{Telling}
 use Rattle.path_machine.specs.declared.run.Run.{Run}
 use Rattle.path_machine.specs.Tellings.{TellsMore}
 use Rattle.path_model.specs.Values.{Value}
-use Rattle.path_model.specs.States.{Target, Running, Frame, InBody, State, at_statement, sight, wanted, with_frames}
-use Rattle.path_model.specs.Rules.{refusal}
+use Rattle.path_model.specs.States.{Target, RunningBody, Frame, InBody, ProgramState, at_statement, sight, wanted_result, with_frames}
+use Rattle.path_model.specs.Rules.{statement_refusal}
 use Rattle.path_model.specs.Effects.{Next, Goes, Refuses, Ends, Wrong}
 use Rattle.path_model.specs.Runs.{Demand, limit_of, Move, Moves, IsRefused, IsLimited, IsOver, IsWrong, open_count}
 use Rattle.path_values.specs.Given.{IsGiven}
@@ -43,21 +43,21 @@ MoveAgrees h sizes program IsOver machine before after next = (next ≡ EndsCode
 MoveAgrees h sizes program IsWrong machine before after next = Unit {0}
 
 -- the frame f is taken from the top: the machine stands for the state with the frames below it
-pub record IsTaken (h : Classes) (sizes : ClassId → ℕ) (program : TypedProgram) (machine : Machine) (frame : BodyFrame) (s : State) (f : Running) (below : List Frame) : Type 0 where
+pub record IsTaken (h : Classes) (sizes : ClassId → ℕ) (program : TypedProgram) (machine : Machine) (frame : BodyFrame) (s : ProgramState) (f : RunningBody) (below : List Frame) : Type 0 where
   pub machine_stands : MachineStands h sizes program machine (with_frames s below)
   pub body_stands : BodyStands h s.objects.classes frame f
   pub counts : frame.depth ≡ open_count (InBody f ∷ below)
 
 -- the state in which a frame goes on at the statement `next`
-abbrev pub gone_on : State → Running → (next : ℕ) → (below : List Frame) → State
+abbrev pub gone_on : ProgramState → RunningBody → (next : ℕ) → (below : List Frame) → ProgramState
 gone_on s f next below = with_frames s (InBody (at_statement f next) ∷ below)
 
 -- the limit that a statement of the frame meets, by what it asks for
-abbrev pub limit_met : Run → State → Running → (below : List Frame) → Demand → Option LimitNo
+abbrev pub limit_met : Run → ProgramState → RunningBody → (below : List Frame) → Demand → Option LimitNo
 limit_met run s f below demand = limit_of (size_in run.sizes.now) (with_frames s (InBody f ∷ below)) demand
 
 -- these three in a run
-abbrev pub IsTakenIn : Run → Machine → BodyFrame → State → Running → (below : List Frame) → Type 0
+abbrev pub IsTakenIn : Run → Machine → BodyFrame → ProgramState → RunningBody → (below : List Frame) → Type 0
 IsTakenIn run = IsTaken run.world.h.now (size_in run.sizes.now) run.program.now
 
 abbrev pub StepAgreesIn : Run → Next → Machine → (before after : Telling) → NextCode → Type 0
@@ -67,11 +67,11 @@ abbrev pub MoveAgreesIn : Run → Move → Machine → (before after : Telling) 
 MoveAgreesIn run = MoveAgrees run.world.h.now (size_in run.sizes.now) run.program.now
 
 -- a statement of the frame that no rule refuses
-pub record IsClear (h : Classes) (e : Scope) (s : State) (f : Running) (kind : TypedKind) : Type 0 where
-  pub given : IsGiven h e (sight s f) (wanted f) kind
-  pub clear : refusal h (sight s f) (wanted f) kind ≡ None
+pub record IsClear (h : Classes) (e : Scope) (s : ProgramState) (f : RunningBody) (kind : TypedKind) : Type 0 where
+  pub given : IsGiven h e (sight s f) (wanted_result f) kind
+  pub clear : statement_refusal h (sight s f) (wanted_result f) kind ≡ None
 
 -- a value can be converted for who waits for it
-abbrev pub CanGive : Classes → State → Value → Option Target → Type 0
+abbrev pub CanGive : Classes → ProgramState → Value → Option Target → Type 0
 CanGive h s v None = Unit {0}
 CanGive h s v (Some target) = CanConvert h s.objects v target.conversion

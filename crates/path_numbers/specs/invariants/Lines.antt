@@ -14,10 +14,10 @@ pub record IsLineTo {X : Type 0} (f : X → ℕ) (start : ℕ) (xs : List X) (n 
   pub end : line.end ≡ start + before f n xs
 
 -- the offsets of all, and where the last one ends
-pub record IsLine {X : Type 0} (f : X → ℕ) (start : ℕ) (xs : List X) (line : Line) : Type 0 where
+pub record IsLinedUp {X : Type 0} (f : X → ℕ) (start : ℕ) (xs : List X) (line : Line) : Type 0 where
   pub each : (i : ℕ) → i < length xs → get_or line.offsets.items i 0 ≡ start + before f i xs
   pub end : line.end ≡ start + total f xs
 
 -- no object has more numbers than the limit on parts
-pub record AreSmall (h : Classes) : Type 0 where
+pub record HaveFewParts (h : Classes) : Type 0 where
   pub each : (c : ClassId) → c.0 < length h → sizes_of h InFull c ≤ most_parts

@@ -26,7 +26,7 @@ abbrev pub IsBaseRest : Classes → ClassId → ℕ → ℕ → Base ClassId →
 IsBaseRest h c n i b None = b.is_virtual ≡ false → IsRest n (base_offset h (sizes_of h) c i) (sizes_of h AsBase b.class) None
 IsBaseRest h c n i b (Some r) = (b.is_virtual ≡ false) × IsRest n (base_offset h (sizes_of h) c i) (sizes_of h AsBase b.class) (Some r)
 
-pub record IsBaseKid (h : Classes) (c : ClassId) (n : ℕ) (kid : Kid) : Type 0 where
+pub record IsDirectBaseKid (h : Classes) (c : ClassId) (n : ℕ) (kid : Kid) : Type 0 where
   pub index : ℕ
   pub base : Base ClassId
   pub listed : slice_get (bases_of h c) index ≡ Some base
@@ -36,7 +36,7 @@ pub record IsBaseKid (h : Classes) (c : ClassId) (n : ℕ) (kid : Kid) : Type 0 
 
 abbrev pub IsBaseFound : Classes → ClassId → ℕ → Option Kid → Type 0
 IsBaseFound h c n None = (i : ℕ) (b : Base ClassId) → slice_get (bases_of h c) i ≡ Some b → IsBaseRest h c n i b None
-IsBaseFound h c n (Some kid) = IsBaseKid h c n kid
+IsBaseFound h c n (Some kid) = IsDirectBaseKid h c n kid
 
 -- an element of the member m, where it is an object
 pub record IsElementKid (h : Classes) (c : ClassId) (n m : ℕ) (member : Member ClassId) (kid : Kid) : Type 0 where

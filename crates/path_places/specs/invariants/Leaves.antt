@@ -37,7 +37,7 @@ abbrev pub leaves_in : Classes → ClassId → ObjectPart → ℕ → List Leaf
 leaves_in h c p m = member_leaves (leaves_of h) p m (slice_get (members_of h c) m)
 
 -- a part of class c with the number k, over objects whose numbers have 32 bits
-pub record IsNumbered (h : Classes) (classes : List ClassId) (c : ClassId) (k : ℕ) (y : Node) : Type 0 where
+pub record IsNumberedPart (h : Classes) (classes : List ClassId) (c : ClassId) (k : ℕ) (y : Node) : Type 0 where
   pub few : total (sizes_of h InFull) classes ≤ 2 ^ 32
   pub at : IsAt h (sizes_of h) classes y
   pub class : y.class ≡ c
@@ -45,11 +45,11 @@ pub record IsNumbered (h : Classes) (classes : List ClassId) (c : ClassId) (k : 
 
 -- those of some subobjects of a complete object
 pub record ListsBases (h : Classes) (c : ClassId) (k : ℕ) (bases : List Subobject) (old new : List ℕ) : Type 0 where
-  pub lists : (classes : List ClassId) (y : Node) → IsNumbered h classes c k y → y.form ≡ InFull → Grows (PointsLeaf h classes) old new (flat_map (base_leaves h y.part) bases)
+  pub lists : (classes : List ClassId) (y : Node) → IsNumberedPart h classes c k y → y.form ≡ InFull → Grows (PointsLeaf h classes) old new (flat_map (base_leaves h y.part) bases)
 
 -- those of the first n members
 pub record ListsMembers (h : Classes) (c : ClassId) (k n : ℕ) (old new : List ℕ) : Type 0 where
-  pub lists : (classes : List ClassId) (y : Node) → IsNumbered h classes c k y → Grows (PointsLeaf h classes) old new (flat_map (leaves_in h c y.part) (upto n))
+  pub lists : (classes : List ClassId) (y : Node) → IsNumberedPart h classes c k y → Grows (PointsLeaf h classes) old new (flat_map (leaves_in h c y.part) (upto n))
 
 -- the member m of a part of class c, whose element 0 has the number k
 pub record IsMemberAt (h : Classes) (classes : List ClassId) (c : ClassId) (k m : ℕ) (member : Member ClassId) (y : Node) : Type 0 where

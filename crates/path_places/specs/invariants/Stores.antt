@@ -10,8 +10,8 @@ use Rattle.path_heap.specs.Points.{PointsLeaf}
 use Rattle.path_heap.specs.Stands.{HeapStands, Means}
 
 -- the first leaf of each pair has the old value of the second; of pairs with the same first leaf the first one counts
-abbrev pub moved : Objects → List (Leaf × Leaf) → Objects
-moved s pairs = record {
+abbrev pub with_moved_leaves : Objects → List (Leaf × Leaf) → Objects
+with_moved_leaves s pairs = record {
   classes = s.classes;
   is_closed = s.is_closed;
   phases = s.phases;
@@ -28,7 +28,7 @@ pub record ReadsAll (heap : Heap) (numbers : List ℕ) (values : List ValueCode)
 
 -- the leaves from number i on have their values
 pub record StoresFrom (old new : Heap) (numbers : List ℕ) (values : List ValueCode) (i : ℕ) : Type 0 where
-  pub stores : (h : Classes) (s : Objects) (leaves sources : List Leaf) → HeapStands h old s → AllZip (PointsLeaf h s.classes) numbers leaves → AllZip (MeansLeaf h s) values sources → HeapStands h new (moved s (drop i (zip leaves sources)))
+  pub stores : (h : Classes) (s : Objects) (leaves sources : List Leaf) → HeapStands h old s → AllZip (PointsLeaf h s.classes) numbers leaves → AllZip (MeansLeaf h s) values sources → HeapStands h new (with_moved_leaves s (drop i (zip leaves sources)))
 
 -- all leaves have theirs
 abbrev pub StoresAll : Heap → Heap → List ℕ → List ValueCode → Type 0

@@ -11,9 +11,9 @@ use Rattle.path_numbers.specs.Nodes.{Node, Under}
 use Rattle.path_places.specs.declared.locations.Spot.{Spot}
 
 -- a complete object, or a base
-abbrev pub form_of : Bool → Form
-form_of true = InFull
-form_of false = AsBase
+abbrev pub full_or_base : Bool → Form
+full_or_base true = InFull
+full_or_base false = AsBase
 
 -- the part as a hop
 abbrev pub hop_of : Spot → Hop
@@ -22,7 +22,7 @@ hop_of spot = Inherit (subobject spot.root spot.path.items)
 -- the code names the part x
 pub record IsSpot (spot : Spot) (x : Node) : Type 0 where
   pub class : x.class ≡ spot.class
-  pub form : x.form ≡ form_of spot.is_full
+  pub form : x.form ≡ full_or_base spot.is_full
   pub is_at : x.part.at ≡ subobject spot.root spot.path.items
 
 -- behind the hops to the complete object of a part stand those to the part n numbers on

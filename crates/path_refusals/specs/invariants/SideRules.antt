@@ -23,7 +23,7 @@ use Rattle.path_model.specs.Values.{Value, Pointer, Objects, Sight}
 use Rattle.path_model.specs.Places.{leaf_value, address_value}
 use Rattle.path_model.specs.Uses.{Passes, Wanted, arrow, cast_value, convert, return_uses, right_uses}
 use Rattle.path_model.specs.Order.{asked_covers}
-use Rattle.path_model.specs.Rules.{is_clear, is_unready, names, refused, refusal}
+use Rattle.path_model.specs.Rules.{is_clear, is_unready, names, refused, statement_refusal}
 use Rattle.path_model.specs.Typed.{AllSettled, IsReturn}
 use Rattle.path_heap.specs.declared.heap.Heap.{Heap}
 use Rattle.path_heap.specs.declared.state.Value.{Value as ValueCode}
@@ -32,26 +32,26 @@ use Rattle.path_heap.specs.Stands.{HeapStands, Means}
 use Rattle.path_values.specs.declared.scene.Scene.{Scene}
 use Rattle.path_values.specs.Scenes.{SceneStands}
 use Rattle.path_values.specs.Given.{IsGiven}
-use Rattle.path_refusals.specs.invariants.Pieces.{Stands, IsReadyPart, IsValueOf, IsFound, Covers, way_asked, found_asked, way_uses}
+use Rattle.path_refusals.specs.invariants.Pieces.{SightStands, IsReadyPart, MeansValueOf, IsFoundCall, TellsReadiness, way_asked, found_asked, way_uses}
 
 -- calls
 
 -- of a call, from the subobject of the class before `::`, or of the pointer's, on: it is no pointer to a part that is not ready
 abbrev pub FoundRefuses : Classes → Heap → ValueCode → TypedCall → Option Undefined → Type 0
 FoundRefuses h heap v call rule = (s : Objects) (x : Value) (through : ClassId) →
-    IsValueOf h heap s v x through → names (is_unready s) x ≡ false → IsFound h through call →
+    MeansValueOf h heap s v x through → names (is_unready s) x ≡ false → IsFoundCall h through call →
     rule ≡ refused h s (found_asked call x)
 
 -- of a call, behind the arrow of its pointer: this is no pointer to a part that is not ready
 abbrev pub WayRefuses : Classes → Heap → ValueCode → TypedCall → Option Undefined → Type 0
 WayRefuses h heap v call rule = (s : Objects) (x : Value) (through : ClassId) →
-    IsValueOf h heap s v x call.class → names (is_unready s) x ≡ false → IsWay h call.class call.qualifier through → IsFound h through call →
+    MeansValueOf h heap s v x call.class → names (is_unready s) x ≡ false → IsWay h call.class call.qualifier through → IsFoundCall h through call →
     rule ≡ refused h s (way_asked call x)
 
 -- of a call, with the arrow of its pointer
 abbrev pub CallPointerRefuses : Classes → Heap → ValueCode → TypedCall → Option Undefined → Type 0
 CallPointerRefuses h heap v call rule = (s : Objects) (x : Value) (through : ClassId) →
-    IsValueOf h heap s v x call.class → IsWay h call.class call.qualifier through → IsFound h through call →
+    MeansValueOf h heap s v x call.class → IsWay h call.class call.qualifier through → IsFoundCall h through call →
     rule ≡ refused h s (arrow x ++ way_asked call x)
 
 -- casts
@@ -68,44 +68,44 @@ PartCastRefuses h heap n how c rule = (s : Objects) (p : ObjectPart) (from to : 
 abbrev pub IsElementCovered : Classes → Heap → (e : ℕ) → ClassId → Bool → Type 0
 IsElementCovered h heap e d is_covered = (s : Objects) (p : ObjectPart) (k : ℕ) →
     HeapStands h heap s → Points h s.classes e p → Settled h p.object s.phases → class_of p.at ≡ Some d → d.0 < k →
-    Covers h s is_covered (Passes p ∷ asked_covers h k d p)
+    TellsReadiness h s is_covered (Passes p ∷ asked_covers h k d p)
 
 -- right sides
 
 -- the value of the leaf to which a place leads that breaks no rule
 abbrev pub IsLeafReached : Classes → Heap → ValueCode → TypedPlace → ValueCode → Type 0
 IsLeafReached h heap v place code = (e : Scope) (s : Sight) (x : Value) (t : ValueType ClassId) →
-    IsValueOf h heap s.objects v x place.class → IsPlace h e place (ValueField t) → None ≡ refused h s.objects (way_uses place x) →
+    MeansValueOf h heap s.objects v x place.class → IsPlace h e place (ValueField t) → None ≡ refused h s.objects (way_uses place x) →
     Means h s.objects.classes code (leaf_value s place x)
 
 -- a pointer to the class member to which a place leads that breaks no rule
 abbrev pub IsAddressReached : Classes → Heap → ValueCode → TypedPlace → ValueCode → Type 0
 IsAddressReached h heap v place code = (e : Scope) (s : Sight) (x : Value) (d : ClassId) →
-    IsValueOf h heap s.objects v x place.class → IsPlace h e place (Object d) → None ≡ refused h s.objects (way_uses place x) →
+    MeansValueOf h heap s.objects v x place.class → IsPlace h e place (Object d) → None ≡ refused h s.objects (way_uses place x) →
     Means h s.objects.classes code (address_value place d x)
 
 -- of a leaf that is read, and of its conversion
 abbrev pub ReadRefuses : Classes → Heap → Scene → TypedPlace → Conversion → Option Undefined → Type 0
 ReadRefuses h heap scene place c rule = (e : Scope) (s : Sight) (t : ValueType ClassId) →
-    Stands h heap scene e s → IsPlace h e place (ValueField t) →
+    SightStands h heap scene e s → IsPlace h e place (ValueField t) →
     rule ≡ refused h s.objects (right_uses h (is_clear h s.objects) s (Read place) c)
 
 -- of the address of a class member, and of its conversion
 abbrev pub AddressRefuses : Classes → Heap → Scene → TypedPlace → Conversion → Option Undefined → Type 0
 AddressRefuses h heap scene place c rule = (e : Scope) (s : Sight) (d : ClassId) →
-    Stands h heap scene e s → IsPlace h e place (Object d) →
+    SightStands h heap scene e s → IsPlace h e place (Object d) →
     rule ≡ refused h s.objects (right_uses h (is_clear h s.objects) s (Address place d) c)
 
 -- of a cast, and of the conversion of what it gives
 abbrev pub CastedRefuses : Classes → Heap → Scene → TypedCast → TypedOperand → Conversion → Option Undefined → Type 0
 CastedRefuses h heap scene how x c rule = (e : Scope) (s : Sight) (from to : ClassId) →
-    Stands h heap scene e s → HasType e x (PointerType from) → Casts h from how to →
+    SightStands h heap scene e s → HasType e x (PointerType from) → Casts h from how to →
     rule ≡ refused h s.objects (right_uses h (is_clear h s.objects) s (Cast how x) c)
 
 -- of a right side, and of its conversion
 abbrev pub RightRefuses : Classes → Heap → Scene → TypedRight → Conversion → Option Undefined → Type 0
 RightRefuses h heap scene right c rule = (e : Scope) (s : Sight) (t : ValueType ClassId) →
-    Stands h heap scene e s → HasRight h e right t →
+    SightStands h heap scene e s → HasRight h e right t →
     rule ≡ refused h s.objects (right_uses h (is_clear h s.objects) s right c)
 
 -- results
@@ -120,4 +120,4 @@ ResultRefuses h heap scene a found target rule = (s : Sight) (w : Wanted) →
 abbrev pub ReturnRefuses : Classes → Heap → Scene → Option Argument → (found target : Conversion) → Option Undefined → Type 0
 ReturnRefuses h heap scene from found target rule = (e : Scope) (s : Sight) (w : Wanted) →
     SceneStands h heap scene s → IsGiven h e s w (Return from) → w.found ≡ found → w.target ≡ target →
-    rule ≡ refusal h s w (Return from)
+    rule ≡ statement_refusal h s w (Return from)

@@ -12,23 +12,23 @@ use Rattle.path_machine.specs.Turns.{IsAtStep, taken_by, budget_of, ended_with}
 use Rattle.abi_sound.specs.Places.{Places}
 use Rattle.text_told.specs.declared.ending.End.{End}
 use Rattle.text_told.specs.declared.ending.End.TheVariants.{Done, Undefined, OutOfSteps, Limit}
-use Rattle.text_told.specs.Told.{IsRun, ending_of, passes, text_at, text_limit}
+use Rattle.text_told.specs.Told.{IsRun, told_ending, passes_text_limit, text_at, text_limit}
 
 -- the end that an answer is; none of a step that was taken
-abbrev pub end_by : Turn → Option End
-end_by Went = None
-end_by EndedTurn = Some Done
-end_by (Refused rule line) = Some (Undefined rule line)
-end_by NoSteps = Some OutOfSteps
-end_by (LimitTurn limit) = Some (Limit limit)
+abbrev pub turn_end : Turn → Option End
+turn_end Went = None
+turn_end EndedTurn = Some Done
+turn_end (Refused rule line) = Some (Undefined rule line)
+turn_end NoSteps = Some OutOfSteps
+turn_end (LimitTurn limit) = Some (Limit limit)
 
 -- the machine is at a step, and the text is that of the steps before, none of which passed the limit
-pub record IsGoing (h : Classes) (l : Places) (program : TypedProgram) (trace : Bool) (state : PathState) (text : List ℕ) : Type 0 where
+pub record RunGoesOn (h : Classes) (l : Places) (program : TypedProgram) (trace : Bool) (state : PathState) (text : List ℕ) : Type 0 where
   pub at_step : IsAtStep h l.size program state
   pub going : ended_with state ≡ None
   pub text_is : text ≡ text_at h l program trace (taken_by state)
   pub small : length text ≤ text_limit
-  pub room : (k : ℕ) → k < taken_by state → passes h l program trace k ≡ false
+  pub room : (k : ℕ) → k < taken_by state → passes_text_limit h l program trace k ≡ false
 
 -- what the next step tells, with what a trace alone shows
 abbrev pub all_told : Classes → Places → TypedProgram → PathState → List Out
@@ -43,18 +43,18 @@ pub record HasGoneOn (h : Classes) (l : Places) (program : TypedProgram) (trace 
   pub tells : telling ≡ filter (is_told trace) (all_told h l program before)
 
 -- the run has ended before this step
-pub record IsOver (h : Classes) (l : Places) (program : TypedProgram) (before : PathState) (end_is : End) : Type 0 where
+pub record HasEndedBefore (h : Classes) (l : Places) (program : TypedProgram) (before : PathState) (end_is : End) : Type 0 where
   pub outs : (run_of h l.size program (budget_of before)).outs ≡ outs_at h l.size program (taken_by before)
-  pub ending : (run_of h l.size program (budget_of before)).ending ≡ ending_of end_is
+  pub ending : (run_of h l.size program (budget_of before)).ending ≡ told_ending end_is
 
 -- what one step came to
 abbrev pub Stepped : Classes → Places → TypedProgram → (trace : Bool) → (before after : PathState) → List Out → Option End → Type 0
 Stepped h l program trace before after telling None = HasGoneOn h l program trace before after telling
-Stepped h l program trace before after telling (Some end_is) = IsOver h l program before end_is
+Stepped h l program trace before after telling (Some end_is) = HasEndedBefore h l program before end_is
 
 -- one step more, with its lines
 pub record IsTurned (h : Classes) (l : Places) (program : TypedProgram) (trace : Bool) (before after : PathState) (text : List ℕ) : Type 0 where
-  pub goes : IsGoing h l program trace after text
+  pub goes : RunGoesOn h l program trace after text
   pub taken : taken_by after ≡ taken_by before + 1
   pub budget : budget_of after ≡ budget_of before
 

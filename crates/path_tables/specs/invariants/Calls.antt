@@ -8,7 +8,7 @@ use Rattle.cxx_overrider.specs.declared.FunctionId.{FunctionId}
 use Rattle.cxx_overrider.specs.Overriding.{IsVirtual}
 
 -- the view x and the source y are subobjects of class c, and f is a virtual function of the class of y
-pub record IsCall (h : Classes) (c : ClassId) (x y : Subobject) (f : FunctionId) : Type 0 where
+pub record IsVirtualCall (h : Classes) (c : ClassId) (x y : Subobject) (f : FunctionId) : Type 0 where
   pub known : c.0 < length h
   pub view : IsSubobject h c x
   pub source : IsSubobject h c y

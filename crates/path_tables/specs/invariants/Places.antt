@@ -7,9 +7,9 @@ use Rattle.cxx_subobject.specs.Subobjects.{Leads}
 use Rattle.path_numbers.specs.Numbers.{base_number, path_number}
 
 -- the number stands there; None: nowhere
-abbrev pub IsPlace : List ℕ → ℕ → Option ℕ → Type 0
-IsPlace numbers x None = (j : ℕ) → j < length numbers → get_or numbers j 0 ≡ x → ⊥
-IsPlace numbers x (Some i) = (i < length numbers) × (get_or numbers i 0 ≡ x)
+abbrev pub IsPlaceOfNumber : List ℕ → ℕ → Option ℕ → Type 0
+IsPlaceOfNumber numbers x None = (j : ℕ) → j < length numbers → get_or numbers j 0 ≡ x → ⊥
+IsPlaceOfNumber numbers x (Some i) = (i < length numbers) × (get_or numbers i 0 ≡ x)
 
 -- how far the direct base b stands behind a part of class c; None: b is no such base
 abbrev pub IsBaseAt : Classes → ClassId → ClassId → Option ℕ → Type 0

@@ -19,13 +19,13 @@ IsWanted h target x y true t = IsTargetOver h target x y t
 IsWanted h target x y false t = IsTarget h target x t
 
 -- this place is passed over
-abbrev pub is_at : Option ℕ → ℕ → Bool
-is_at None i = false
-is_at (Some place) i = nat_eq place i
+abbrev pub is_passed_over : Option ℕ → ℕ → Bool
+is_passed_over None i = false
+is_passed_over (Some place) i = nat_eq place i
 
 -- P holds, at a place that is not passed over
 abbrev pub IsOther : (Subobject → Type 0) → Option ℕ → ℕ → Subobject → Type 0
-IsOther P skip i t = (is_at skip i ≡ false) × P t
+IsOther P skip i t = (is_passed_over skip i ≡ false) × P t
 
 -- another one of which P holds stands there; None: there is none
 abbrev pub IsOtherAt : (Subobject → Type 0) → List Subobject → Option ℕ → Option ℕ → Type 0

@@ -9,9 +9,9 @@ use Rattle.cxx_subobject.specs.Subobjects.{IsSubobject, class_of}
 use Rattle.abi_sound.specs.Locations.{element_class}
 
 -- the class is one of the hierarchy, where there is one
-abbrev pub IsKnown : Classes → Option ClassId → Type 0
-IsKnown h None = Unit {0}
-IsKnown h (Some c) = c.0 < length h
+abbrev pub IsKnownClass : Classes → Option ClassId → Type 0
+IsKnownClass h None = Unit {0}
+IsKnownClass h (Some c) = c.0 < length h
 
 -- the subobject is one of the class, which is known, where there is one
 abbrev pub IsBaseOf : Classes → Option ClassId → Subobject → Type 0
@@ -19,7 +19,7 @@ IsBaseOf h None s = Unit {0}
 IsBaseOf h (Some c) s = (c.0 < length h) × IsSubobject h c s
 
 -- each hop into a base goes from a known class into a subobject of it, and each hop into a member goes from a known class
-abbrev pub GoAlong : Classes → Option ClassId → List Hop → Type 0
-GoAlong h c [] = Unit {0}
-GoAlong h c (Inherit s ∷ hops) = IsBaseOf h c s × GoAlong h (class_of s) hops
-GoAlong h c (MemberHop m i ∷ hops) = IsKnown h c × GoAlong h (element_class h c m) hops
+abbrev pub AreKnownHops : Classes → Option ClassId → List Hop → Type 0
+AreKnownHops h c [] = Unit {0}
+AreKnownHops h c (Inherit s ∷ hops) = IsBaseOf h c s × AreKnownHops h (class_of s) hops
+AreKnownHops h c (MemberHop m i ∷ hops) = IsKnownClass h c × AreKnownHops h (element_class h c m) hops

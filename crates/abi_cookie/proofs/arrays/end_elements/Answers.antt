@@ -2,7 +2,7 @@ use Rattle.std.proofs.Common.{◌≡◌, ◌<◌, ◌-◌, inr, refl, arith}
 use Rattle.std.specs.Prelude.{Ok}
 use Rattle.std.proofs.lemmas.Result.{on_ok_weaker, IfErr-weaker}
 use Rattle.byte_memory.specs.declared.memory.MemoryFault.TheVariants.{NoMemory}
-use Rattle.abi_cookie.specs.Arrays.{IsRefusal}
+use Rattle.abi_cookie.specs.Arrays.{IsCloseRefusal}
 use Rattle.abi_cookie.proofs.Ending.{loaded-count, below-count, ended-by-count}
 use Rattle.abi_cookie.proofs.arrays.end_elements.Goals as goal
 
@@ -31,7 +31,7 @@ returns-clause-reached g c =
 pub returns-clause-refused : goal.returns-clause-refused
 returns-clause-refused g c =
     let some : 0 < c.args.cookie = omega arith in
-    IfErr-weaker c.append_ended.result (λ fault. fault ≡ NoMemory) (IsRefusal (g.M.Memory.meaning c.args.memory.now) (c.args.first - c.args.cookie)) (λ fault is. inr (
+    IfErr-weaker c.append_ended.result (λ fault. fault ≡ NoMemory) (IsCloseRefusal (g.M.Memory.meaning c.args.memory.now) (c.args.first - c.args.cookie)) (λ fault is. inr (
       (loaded-count (g.M.Memory.meaning c.args.memory.now) c.args.size c.args.cookie c.requires.array.0 c.args.first c.in-Ok.count (Ok c.in-Ok.count)
           (g.met.M.Memory.ascends c.args.memory.now) c.requires.multiple some c.requires.array.1 c.in-Ok.ensures refl).1,
       is,

@@ -1,6 +1,6 @@
 use Rattle.std.proofs.Common.{◌+◌, ◌∙◌, ap, refl}
 use Rattle.byte_memory.specs.Store.{Store}
-use Rattle.abi_cookie.specs.Arrays.{counted}
+use Rattle.abi_cookie.specs.Arrays.{count_stored}
 use Rattle.abi_cookie.proofs.Stores.{reached-count, made-array, made-opened}
 use Rattle.abi_cookie.proofs.arrays.new_array.Goals as goal
 
@@ -17,7 +17,7 @@ returns-clause-array g c = λ are.
       start = c.in-Ok.start;
       room = c.in-Ok.ensures.0;
       behind = refl;
-      new_is = c.store_count.ensures ∙ ap (λ (memory : Store). counted memory c.args.cookie c.args.count (c.in-Ok.start + c.args.cookie)) c.in-Ok.ensures.1;
+      new_is = c.store_count.ensures ∙ ap (λ (memory : Store). count_stored memory c.args.cookie c.args.count (c.in-Ok.start + c.args.cookie)) c.in-Ok.ensures.1;
     })
 
 pub returns-clause-opened : goal.returns-clause-opened
@@ -28,5 +28,5 @@ returns-clause-opened g c = λ are.
       start = c.in-Ok.start;
       room = c.in-Ok.ensures.0;
       behind = refl;
-      new_is = c.store_count.ensures ∙ ap (λ (memory : Store). counted memory c.args.cookie c.args.count (c.in-Ok.start + c.args.cookie)) c.in-Ok.ensures.1;
+      new_is = c.store_count.ensures ∙ ap (λ (memory : Store). count_stored memory c.args.cookie c.args.count (c.in-Ok.start + c.args.cookie)) c.in-Ok.ensures.1;
     })

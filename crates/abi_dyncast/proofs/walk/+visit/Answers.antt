@@ -7,9 +7,9 @@ use Rattle.abi_dyncast.specs.declared.parts.Edge.{Edge}
 use Rattle.abi_dyncast.specs.declared.work.Entry.{Entry}
 use Rattle.abi_dyncast.specs.Graph.{graph_of, info_at}
 use Rattle.abi_dyncast.specs.Casts.{CanStep}
-use Rattle.abi_dyncast.specs.invariants.Chain.{entry, link_for}
-use Rattle.abi_dyncast.specs.invariants.Finding.{Tells}
-use Rattle.abi_dyncast.specs.invariants.Walks.{IsReady, Visited, HasRead}
+use Rattle.abi_dyncast.specs.invariants.Chain.{part_entry, link_for}
+use Rattle.abi_dyncast.specs.invariants.Finding.{TellsBelow}
+use Rattle.abi_dyncast.specs.invariants.Walks.{MayBeginWalk, Visited, HasRead}
 use Rattle.abi_dyncast.proofs.Findings.{TellsTo, tells_end}
 use Rattle.abi_dyncast.proofs.Going.{Going, found_tells, found_visited, going_from, going_next, going_ready, going_new, going_room, going_end}
 use Rattle.abi_dyncast.proofs.Reading.{nothing_read, reading_from, reading_next, reading_end}
@@ -64,7 +64,7 @@ visit-below-requires g t c κs within =
     let falls = c.requires.are.falls c.args.part c.loop-number.number c.requires.has lt in
     let lower : gr.class c.edge_at-way.result.part ≡ gr.class (gr.edge c.args.part c.loop-number.number).part = ap (λ (w : Edge). gr.class w.part) way in
     let there : (graph_of (word_at (image_of c.edge_at-way.new.reader)) memory).class c.edge_at-way.result.part ≡ gr.class c.edge_at-way.result.part = ap (λ (i : ImageBytes). (graph_of (word_at i) memory).class c.edge_at-way.result.part) (sym back) in
-    (omega (arith, c.decreases), (within, subst (λ (i : ImageBytes). IsReady (word_at i) memory c.args.goal c.loop-number.work.parts c.loop-number.work.entries.items c.edge_at-way.result.part) back (subst (λ (w : Edge). IsReady (word_at image) memory c.args.goal c.loop-number.work.parts c.loop-number.work.entries.items w.part) (sym way) (subst (λ n. IsReady (word_at image) memory c.args.goal n c.loop-number.work.entries.items (gr.edge c.args.part c.loop-number.number).part) (sym c.loop-number.invariant.parts) ready))))
+    (omega (arith, c.decreases), (within, subst (λ (i : ImageBytes). MayBeginWalk (word_at i) memory c.args.goal c.loop-number.work.parts c.loop-number.work.entries.items c.edge_at-way.result.part) back (subst (λ (w : Edge). MayBeginWalk (word_at image) memory c.args.goal c.loop-number.work.parts c.loop-number.work.entries.items w.part) (sym way) (subst (λ n. MayBeginWalk (word_at image) memory c.args.goal n c.loop-number.work.entries.items (gr.edge c.args.part c.loop-number.number).part) (sym c.loop-number.invariant.parts) ready))))
 
 pub loop-number-preserved : goal.loop-number-preserved
 loop-number-preserved g t c =
@@ -77,7 +77,7 @@ loop-number-preserved g t c =
     let falls = c.requires.are.falls c.args.part c.loop-number.number c.requires.has lt in
     let way : c.edge_at-way.result ≡ gr.edge c.args.part c.loop-number.number = subst (λ (i : ImageBytes). c.edge_at-way.result ≡ (graph_of (word_at i) memory).edge c.args.part c.loop-number.number) c.loop-number.invariant.image c.edge_at-way.ensures.edge in
     let on : image_of c.edge_at-way.new.reader ≡ image = c.edge_at-way.ensures.image ∙ c.loop-number.invariant.image in
-    let tells = subst (λ (i : ImageBytes). Tells (graph_of (word_at i) memory) c.args.goal c.edge_at-way.result.part c.visit-below.result) on c.visit-below.ensures.tells in
+    let tells = subst (λ (i : ImageBytes). TellsBelow (graph_of (word_at i) memory) c.args.goal c.edge_at-way.result.part c.visit-below.result) on c.visit-below.ensures.tells in
     let visited = subst (λ (i : ImageBytes). Visited (graph_of (word_at i) memory) c.args.goal c.edge_at-way.result.part c.loop-number.work.entries.items c.visit-below.new.work.entries.items) on c.visit-below.ensures.visited in
     let read = subst (λ (i : ImageBytes). HasRead (graph_of (word_at i) memory) c.loop-number.work.entries.items c.visit-below.new.work.entries.items (visits_of c.edge_at-way.new.reader) (visits_of c.visit-below.new.reader)) on c.visit-below.ensures.read in
     record {
@@ -109,7 +109,7 @@ returns-clause-visited g t c =
     let info = c.info-info.ensures (info_at (word_at (image_of c.args.reader.now)) c.args.part.info) (c.requires.read.info c.args.part c.requires.has) in
     let bases : c.info-info.result.bases ≡ gr.count c.args.part = ap (λ (i : InfoRecord). i.bases) info in
     let all : c.loop-number.number ≡ gr.count c.args.part = omega (arith, c.loop-number-test.false, c.loop-number.auto.number-end) in
-    let x : Entry = entry c.args.part c.info-info.result.class c.loop-number.found (link_for c.loop-number.work.heads.items c.loop-number.work.entries.items c.args.part) in
+    let x : Entry = part_entry c.args.part c.info-info.result.class c.loop-number.found (link_for c.loop-number.work.heads.items c.loop-number.work.entries.items c.args.part) in
     let going = subst (λ k. Going gr c.args.goal c.args.part k c.loop-number.found c.args.work.now.entries.items c.loop-number.work.entries.items) all c.loop-number.invariant.going in
     subst (λ xs. Visited gr c.args.goal c.args.part c.args.work.now.entries.items xs) (sym c.add.ensures.entries) (going_end gr c.args.goal x c.args.work.now.entries.items c.loop-number.work.entries.items going (ap (λ (i : InfoRecord). i.class) info))
 
@@ -119,5 +119,5 @@ returns-clause-read g t c =
     let info = c.info-info.ensures (info_at (word_at (image_of c.args.reader.now)) c.args.part.info) (c.requires.read.info c.args.part c.requires.has) in
     let bases : c.info-info.result.bases ≡ gr.count c.args.part = ap (λ (i : InfoRecord). i.bases) info in
     let all : c.loop-number.number ≡ gr.count c.args.part = omega (arith, c.loop-number-test.false, c.loop-number.auto.number-end) in
-    let x : Entry = entry c.args.part c.info-info.result.class c.loop-number.found (link_for c.loop-number.work.heads.items c.loop-number.work.entries.items c.args.part) in
+    let x : Entry = part_entry c.args.part c.info-info.result.class c.loop-number.found (link_for c.loop-number.work.heads.items c.loop-number.work.entries.items c.args.part) in
     reading_end gr c.loop-number.number c.args.work.now.entries.items c.loop-number.work.entries.items _ x _ _ c.loop-number.invariant.reading all c.add.ensures.entries

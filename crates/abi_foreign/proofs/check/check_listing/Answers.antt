@@ -1,6 +1,6 @@
 use Rattle.std.proofs.Common.{List, arith, refl, sym, subst, inl, inr}
 use Rattle.abi_sound.specs.declared.class_layout.ClassLayout.{ClassLayout}
-use Rattle.abi_judge.specs.Rules.{IsNext}
+use Rattle.abi_judge.specs.Rules.{MayBeJudged}
 use Rattle.abi_print.specs.LayoutTexts.{proper}
 use Rattle.abi_foreign.specs.declared.listing_stop.ListingStop.TheVariants.{NoMemory}
 use Rattle.abi_foreign.specs.declared.said.ClassSaid.{ClassSaid}
@@ -49,7 +49,7 @@ fault_of-requires-clause-next c =
     let all : AreSaid c.args.h.now c.args.listing.now c.as_slice-saids.result.now = subst (λ (saids : List ClassSaid). AreSaid c.args.h.now c.args.listing.now saids) (sym c.as_slice-saids.ensures) c.in_ok-read.ensures.ok in
     let lt = c.loop-n-test.true in
     let len = c.len-n-end.ensures in
-    subst (λ (r : List ClassLayout). IsNext c.args.h.now r (record { 0 = c.loop-n.n })) (sym c.deref.ensures.value) (next_of c.args.h.now c.keeps.ensures c.args.listing.now c.as_slice-saids.result.now all c.in_ok-rows.rows.items c.in_ok-rows.ensures c.loop-n.n (omega (arith, lt, len)) c.loop-n.invariant)
+    subst (λ (r : List ClassLayout). MayBeJudged c.args.h.now r (record { 0 = c.loop-n.n })) (sym c.deref.ensures.value) (next_of c.args.h.now c.keeps.ensures c.args.listing.now c.as_slice-saids.result.now all c.in_ok-rows.rows.items c.in_ok-rows.ensures c.loop-n.n (omega (arith, lt, len)) c.loop-n.invariant)
 
 pub fault_of-requires-clause-each : goal.fault_of-requires-clause-each
 fault_of-requires-clause-each c =

@@ -9,7 +9,7 @@ use Rattle.abi_print.specs.LayoutTexts.{proper}
 use Rattle.abi_foreign.specs.declared.listing_stop.ListingStop.TheVariants.{NoMemory}
 use Rattle.abi_foreign.specs.declared.said.ClassSaid.{ClassSaid}
 use Rattle.abi_foreign.specs.Lines.{sizes_line, primary_line, base_line, member_line}
-use Rattle.abi_foreign.specs.invariants.Reading.{StopsIn, no_memory}
+use Rattle.abi_foreign.specs.invariants.Reading.{StopsReading, no_memory}
 use Rattle.abi_foreign.specs.invariants.Said.{AreBasesRead, AreMembersRead}
 use Rattle.abi_foreign.proofs.Found.{err_ok, err_stop}
 use Rattle.abi_foreign.proofs.ReadLines.{one_read}
@@ -88,7 +88,7 @@ returns-in_err-places-clause-err c =
     let n2 = c.in_ok-primary.ensures.ok.1 in
     err_stop _ c.from_residual-in_err-places.result c.in_err-places.field-0.0 c.from_residual-in_err-places.ensures.1
     (bases_stop c.args.h.now c.args.c c.args.start.rest.now c.in_ok-sizes.cursor.rest.now c.in_ok-sizes.sizes c.in_ok-sizes.ensures.ok.0 c.args.start.line c.in_ok-primary.primary c.in_ok-primary.cursor.rest.now c.in_ok-primary.ensures.ok.0 c.in_ok-primary.cursor.line c.in_err-places.field-0.0 (omega (arith, n1, n2))
-    (subst (λ (l : List Subobject). StopsIn c.args.h.now (map base_line l) c.in_ok-primary.cursor.rest.now c.in_ok-primary.cursor.line c.in_err-places.field-0.0) list c.in_err-places.ensures.err))
+    (subst (λ (l : List Subobject). StopsReading c.args.h.now (map base_line l) c.in_ok-primary.cursor.rest.now c.in_ok-primary.cursor.line c.in_err-places.field-0.0) list c.in_err-places.ensures.err))
 
 pub class-requires : goal.class-requires
 class-requires c = c.requires.known
@@ -128,7 +128,7 @@ returns-in_err-members-clause-err c =
     let members : c.as_slice-2.result.now ≡ members_of c.args.h.now c.args.c = c.as_slice-2.ensures ∙ sym (ap members_in c.class.ensures) in
     err_stop _ c.from_residual-in_err-members.result c.in_err-members.field-0.0 c.from_residual-in_err-members.ensures.1
     (members_stop c.args.h.now c.args.c c.args.start.rest.now c.in_ok-sizes.cursor.rest.now c.in_ok-sizes.sizes c.in_ok-sizes.ensures.ok.0 c.args.start.line c.in_ok-primary.primary c.in_ok-primary.cursor.rest.now c.in_ok-primary.ensures.ok.0 c.in_ok-places.places c.in_ok-places.cursor.rest.now third c.in_ok-places.cursor.line c.in_err-members.field-0.0 (omega (arith, n1, n2, n3, bases))
-    (subst (λ (l : List (Member ClassId)). StopsIn c.args.h.now (map member_line l) c.in_ok-places.cursor.rest.now c.in_ok-places.cursor.line c.in_err-members.field-0.0) members c.in_err-members.ensures.err))
+    (subst (λ (l : List (Member ClassId)). StopsReading c.args.h.now (map member_line l) c.in_ok-places.cursor.rest.now c.in_ok-places.cursor.line c.in_err-members.field-0.0) members c.in_err-members.ensures.err))
 
 pub returns-clause-said : goal.returns-clause-said
 returns-clause-said c =

@@ -3,7 +3,7 @@ use Rattle.abi_foreign.specs.declared.listing_stop.ListingStop.{ListingStop}
 use Rattle.abi_foreign.specs.declared.listing_stop.ListingStop.TheVariants.{NoMemory}
 use Rattle.abi_foreign.specs.Lines.{member_line}
 use Rattle.abi_foreign.specs.invariants.Pieces.{IsApart}
-use Rattle.abi_foreign.specs.invariants.Reading.{StopsIn, no_memory}
+use Rattle.abi_foreign.specs.invariants.Reading.{StopsReading, no_memory}
 use Rattle.abi_foreign.specs.invariants.Said.{HasNoMember, IsMember, IsMemberRead}
 use Rattle.abi_foreign.proofs.Found.{err_ok, err_stop}
 use Rattle.abi_foreign.proofs.ReadLines.{stops_here}
@@ -33,5 +33,5 @@ returns-in-Some-clause-ok c =
 pub returns-clause-err : goal.returns-clause-err
 returns-clause-err c =
     let none = no_member_line c.args.h.now c.args.member.now c.args.start.rest.now (subst (λ (t : List ℕ). HasNoMember c.args.member.now.width c.args.start.rest.now t) (c.deref.ensures.value ∙ c.in_ok-tail.ensures) c.in-None.ensures) in
-    subst (λ (stop : ListingStop). StopsIn c.args.h.now (member_line c.args.member.now ∷ []) c.args.start.rest.now c.args.start.line stop) (sym c.refused.ensures)
+    subst (λ (stop : ListingStop). StopsReading c.args.h.now (member_line c.args.member.now ∷ []) c.args.start.rest.now c.args.start.line stop) (sym c.refused.ensures)
     (stops_here c.args.h.now (member_line c.args.member.now) c.args.start.rest.now c.args.start.line none)

@@ -1,7 +1,7 @@
 use Rattle.std.proofs.Common.{List, ℕ, [], ◌∷◌, subst, sym}
 use Rattle.abi_foreign.specs.declared.listing_stop.ListingStop.{ListingStop}
 use Rattle.abi_foreign.specs.Lines.{primary_line}
-use Rattle.abi_foreign.specs.invariants.Reading.{StopsIn}
+use Rattle.abi_foreign.specs.invariants.Reading.{StopsReading}
 use Rattle.abi_foreign.specs.invariants.Said.{IsPrimaryRead}
 use Rattle.abi_foreign.proofs.ReadLines.{stops_here}
 use Rattle.abi_foreign.proofs.ClassReads.{room_next}
@@ -15,5 +15,5 @@ returns-in-Some-clause-ok c = (subst (λ (r : List ℕ). IsPrimaryRead c.args.h.
 
 pub returns-in-None-clause-err : goal.returns-in-None-clause-err
 returns-in-None-clause-err c =
-    subst (λ (stop : ListingStop). StopsIn c.args.h.now (primary_line ∷ []) c.args.start.rest.now c.args.start.line stop) (sym c.refused.ensures)
+    subst (λ (stop : ListingStop). StopsReading c.args.h.now (primary_line ∷ []) c.args.start.rest.now c.args.start.line stop) (sym c.refused.ensures)
     (stops_here c.args.h.now primary_line c.args.start.rest.now c.args.start.line c.in-None.ensures)

@@ -2,7 +2,7 @@ use Rattle.std.proofs.Common.{◌∙◌, List, ℕ, [], ◌∷◌, subst, sym}
 use Rattle.abi_foreign.specs.declared.listing_stop.ListingStop.{ListingStop}
 use Rattle.abi_foreign.specs.declared.listing_stop.ListingStop.TheVariants.{NoMemory}
 use Rattle.abi_foreign.specs.Lines.{sizes_line}
-use Rattle.abi_foreign.specs.invariants.Reading.{StopsIn, no_memory}
+use Rattle.abi_foreign.specs.invariants.Reading.{StopsReading, no_memory}
 use Rattle.abi_foreign.specs.invariants.Said.{AreSizes, AreSizesRead, HasNoSizes}
 use Rattle.abi_foreign.proofs.Found.{err_ok, err_stop}
 use Rattle.abi_foreign.proofs.ReadLines.{stops_here}
@@ -29,5 +29,5 @@ returns-in-Some-clause-ok c =
 pub returns-clause-err : goal.returns-clause-err
 returns-clause-err c =
     let none = no_sizes_line c.args.h.now c.args.c c.args.start.rest.now (subst (λ (t : List ℕ). HasNoSizes c.args.start.rest.now t) (c.deref.ensures.value ∙ c.in_ok-head.ensures) c.in-None.ensures) in
-    subst (λ (stop : ListingStop). StopsIn c.args.h.now (sizes_line c.args.c ∷ []) c.args.start.rest.now c.args.start.line stop) (sym c.refused.ensures)
+    subst (λ (stop : ListingStop). StopsReading c.args.h.now (sizes_line c.args.c ∷ []) c.args.start.rest.now c.args.start.line stop) (sym c.refused.ensures)
     (stops_here c.args.h.now (sizes_line c.args.c) c.args.start.rest.now c.args.start.line none)

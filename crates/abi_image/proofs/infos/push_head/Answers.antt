@@ -1,13 +1,13 @@
 use Rattle.std.proofs.Common.{◌≡◌, ◌+◌, ◌*◌, ◌<◌, ◌^◌, length, rules, arith, ◌∙◌, ap, refl}
 use Rattle.abi_image.specs.declared.TheConstants.{BASE}
-use Rattle.abi_image.specs.invariants.Drafts.{class_id, first_base}
+use Rattle.abi_image.specs.invariants.Drafts.{class_id, first_base_address}
 use Rattle.abi_image.proofs.InfoWords.{puts_head}
 use Rattle.abi_image.proofs.infos.push_head.Goals as goal
 
 pub returns : goal.returns
 returns c =
     let place : c.in_ok-at.at ≡ BASE + 8 * length c.args.draft.now.words.items = search rules in
-    let first : c.in_ok-first.first ≡ first_base (BASE + 8 * length c.args.draft.now.words.items) c.base_count-bases.result = c.in_ok-first.ensures ∙ ap (λ n. first_base n c.base_count-bases.result) place in
+    let first : c.in_ok-first.first ≡ first_base_address (BASE + 8 * length c.args.draft.now.words.items) c.base_count-bases.result = c.in_ok-first.ensures ∙ ap (λ n. first_base_address n c.base_count-bases.result) place in
     let class_fits : c.args.c < 2 ^ 32 = search rules in
     let flags_fit : c.info_flags.result < 2 ^ 32 = search rules in
     let count_fits : c.base_count-bases.result < 2 ^ 32 = omega arith in

@@ -1,7 +1,7 @@
 use Rattle.std.proofs.Common.{◌≡◌, ◌+◌, ◌*◌, take, subst, sym, ap, ◌∙◌, rules, get_or, []}
 use Rattle.std.proofs.lemmas.List.{take_all}
 use Rattle.foundation.proofs.Places.{any_default}
-use Rattle.abi_image.specs.invariants.Drafts.{total}
+use Rattle.abi_image.specs.invariants.Drafts.{sum_of_sizes}
 use Rattle.abi_image.specs.invariants.Parts.{AreAt}
 use Rattle.abi_image.proofs.Placing.{at_none, region_more, end_more}
 use Rattle.abi_image.proofs.regions.region_of.Goals as goal
@@ -22,5 +22,5 @@ returns c =
     let all : take c.loop-size.size-index c.args.sizes.now ≡ c.args.sizes.now = take_all c.loop-size.size-index c.args.sizes.now c.loop-size-test.false in
     record {
       each = subst (λ l. AreAt c.args.start l c.loop-size.at.items) all c.loop-size.invariant.each;
-      end_is = c.loop-size.invariant.end_is ∙ ap (λ l. c.args.start + 8 * total l) all;
+      end_is = c.loop-size.invariant.end_is ∙ ap (λ l. c.args.start + 8 * sum_of_sizes l) all;
     }

@@ -1,6 +1,6 @@
 use Rattle.std.proofs.Common.{◌<◌, sym, subst}
 use Rattle.abi_slots.specs.Images.{HasWord}
-use Rattle.abi_image.specs.invariants.Drafts.{class_in, one_word}
+use Rattle.abi_image.specs.invariants.Drafts.{class_address, one_word}
 use Rattle.abi_image.proofs.Filling.{fills_next, fills_words}
 use Rattle.abi_image.proofs.table_words.push_words.Goals as goal
 
@@ -8,7 +8,7 @@ pub push_word-requires-clause-place : goal.push_word-requires-clause-place
 push_word-requires-clause-place c = subst (λ n. 0 < n) (sym c.loop-word.invariant.puts.same_place) c.requires.place
 
 pub loop-word-preserved : goal.loop-word-preserved
-loop-word-preserved c = fills_next one_word (λ image i word at. HasWord image c.args.codes.now (class_in c.args.infos.now) at word) c.args.words.now c.loop-word.word-index _ c.args.draft.now c.loop-word.draft c.push_word.new.draft c.loop-word-test.true c.loop-word.invariant c.in_ok-push_word.ensures
+loop-word-preserved c = fills_next one_word (λ image i word at. HasWord image c.args.codes.now (class_address c.args.infos.now) at word) c.args.words.now c.loop-word.word-index _ c.args.draft.now c.loop-word.draft c.push_word.new.draft c.loop-word-test.true c.loop-word.invariant c.in_ok-push_word.ensures
 
 pub returns : goal.returns
-returns c = fills_words (λ image at word. HasWord image c.args.codes.now (class_in c.args.infos.now) at word) c.args.words.now c.loop-word.word-index c.args.draft.now c.loop-word.draft c.loop-word-test.false c.loop-word.invariant
+returns c = fills_words (λ image at word. HasWord image c.args.codes.now (class_address c.args.infos.now) at word) c.args.words.now c.loop-word.word-index c.args.draft.now c.loop-word.draft c.loop-word-test.false c.loop-word.invariant

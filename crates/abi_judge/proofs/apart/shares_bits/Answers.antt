@@ -3,7 +3,7 @@ use Rattle.std.specs.Prelude.{◌↔◌, IsTrue}
 use Rattle.std.specs.List.Sorted.{IsNonDecreasingBy}
 use Rattle.std.proofs.lemmas.List.Sorted.{IsNonDecreasingBy-from_sort_by_key}
 use Rattle.abi_judge.specs.declared.apart.BitSpan.{BitSpan}
-use Rattle.abi_judge.specs.invariants.Apart.{LieApart, AreApart, AreLong}
+use Rattle.abi_judge.specs.invariants.Apart.{LieApart, ShareNoBit, AreLong}
 use Rattle.abi_judge.proofs.Sorted.{long_permuted, tells_permuted}
 use Rattle.abi_judge.proofs.apart.shares_bits.Goals as goal
 
@@ -19,6 +19,6 @@ goes_on-requires-clause-long c =
 
 pub returns : goal.returns
 returns c =
-    let told : IsTrue c.goes_on.result ↔ (AreApart c.sort_unstable_by_key.new.self.items → ⊥) = subst (λ (l : List BitSpan). IsTrue c.goes_on.result ↔ (AreApart l → ⊥)) c.deref.ensures.value c.goes_on.ensures in
-    subst (λ (l : List BitSpan). IsTrue c.goes_on.result ↔ (AreApart l → ⊥)) c.in_ok-spans.ensures
+    let told : IsTrue c.goes_on.result ↔ (ShareNoBit c.sort_unstable_by_key.new.self.items → ⊥) = subst (λ (l : List BitSpan). IsTrue c.goes_on.result ↔ (ShareNoBit l → ⊥)) c.deref.ensures.value c.goes_on.ensures in
+    subst (λ (l : List BitSpan). IsTrue c.goes_on.result ↔ (ShareNoBit l → ⊥)) c.in_ok-spans.ensures
     (tells_permuted LieApart c.in_ok-spans.spans.items c.sort_unstable_by_key.new.self.items c.goes_on.result c.sort_unstable_by_key.ensures.permutation told)

@@ -4,7 +4,7 @@ use Rattle.abi_layout.specs.Limits.{size_limit}
 use Rattle.abi_layout.specs.declared.component.Stage.{Stage}
 use Rattle.std.specs.Prelude.{All}
 use Rattle.abi_emptybase.specs.declared.Part.{Part}
-use Rattle.abi_layout.specs.Placements.{ArePlaced, after_all, parts_at}
+use Rattle.abi_layout.specs.Placements.{ArePlaced, stage_after_all, parts_at}
 use Rattle.abi_layout.specs.invariants.Alignments.{IsPastLimit}
 use Rattle.abi_layout.specs.Layouts.{start_stage}
 use Rattle.abi_layout.proofs.algorithm.ArrangeLemmas.{fronts_past, members_past_by, frees_past, placed_little, arranged_within}
@@ -33,7 +33,7 @@ returns-in_err-member_places-clause-limit c =
       past.0,
       members_past_by (start_stage c.args.c c.args.has_pointer) c.place_bases.new.placing.stage fs c.args.members.now c.args.frees.now c.args.is_pod places
           (subst (λ (s : Stage). ArePlaced s fs places) first c.in_ok-front_places.ensures.placed)
-          (c.in_ok-front_places.ensures.after ∙ ap (λ (s : Stage). after_all s fs places) first) past.1,
+          (c.in_ok-front_places.ensures.after ∙ ap (λ (s : Stage). stage_after_all s fs places) first) past.1,
     ))
     c.in_err-member_places.ensures.limit)
 
@@ -48,7 +48,7 @@ returns-in_err-free_places-clause-limit c =
       past.0,
       frees_past (start_stage c.args.c c.args.has_pointer) c.place_bases.new.placing.stage c.place_all.new.placing.stage fs c.args.members.now c.args.frees.now c.args.is_pod places c.in_ok-member_places.field-0.places
           (subst (λ (s : Stage). ArePlaced s fs places) first c.in_ok-front_places.ensures.placed)
-          (c.in_ok-front_places.ensures.after ∙ ap (λ (s : Stage). after_all s fs places) first)
+          (c.in_ok-front_places.ensures.after ∙ ap (λ (s : Stage). stage_after_all s fs places) first)
           c.in_ok-member_places.ensures.placed c.in_ok-member_places.ensures.after past.1,
     ))
     c.in_err-free_places.ensures.limit)
@@ -56,7 +56,7 @@ returns-in_err-free_places-clause-limit c =
 pub push_placed-requires-clause-places : goal.push_placed-requires-clause-places
 push_placed-requires-clause-places c =
     let small = c.in_ok-member_places.ensures.placing.size in
-    let is : c.place_all.new.placing.stage.size ≡ (after_all c.place_bases.new.placing.stage c.args.members.now c.in_ok-member_places.field-0.places).size = ap (λ (s : Stage). s.size) c.in_ok-member_places.ensures.after in
+    let is : c.place_all.new.placing.stage.size ≡ (stage_after_all c.place_bases.new.placing.stage c.args.members.now c.in_ok-member_places.field-0.places).size = ap (λ (s : Stage). s.size) c.in_ok-member_places.ensures.after in
     subst (λ (ps : List ℕ). All (λ (p : ℕ). p ≤ size_limit) ps) (sym c.as_slice.ensures) (placed_little c.place_bases.new.placing.stage c.args.members.now c.in_ok-member_places.field-0.places c.in_ok-member_places.ensures.placed (omega arith))
 
 pub returns-clause-within : goal.returns-clause-within

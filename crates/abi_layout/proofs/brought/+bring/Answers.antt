@@ -4,11 +4,11 @@ use Rattle.std.proofs.lemmas.Option.{slice_get_read}
 use Rattle.std.proofs.lemmas.List.{take_all}
 use Rattle.cxx_hierarchy.specs.Classes.{bases_in, bases_of}
 use Rattle.abi_emptybase.specs.declared.Part.{Part}
-use Rattle.abi_layout.specs.Placements.{part_at, nvsize_in}
-use Rattle.abi_layout.specs.invariants.Alignments.{AreWithin}
-use Rattle.abi_layout.specs.invariants.Known.{parts_in}
+use Rattle.abi_layout.specs.Placements.{placed_part, nvsize_in}
+use Rattle.abi_layout.specs.invariants.Alignments.{LieUpTo}
+use Rattle.abi_layout.specs.invariants.Known.{known_parts_of}
 use Rattle.abi_layout.specs.Holding.{held_base}
-use Rattle.abi_layout.specs.Brought.{member_parts, base_brings, virtual_brings, brought_by}
+use Rattle.abi_layout.specs.Brought.{parts_in_members, base_brings, virtual_brings, brought_by}
 use Rattle.abi_layout.proofs.rules.Parts.{within_fits}
 use Rattle.abi_layout.proofs.rules.BroughtLemmas.{brought_is, begun, finished, base_brought}
 use Rattle.abi_layout.proofs.brought.+bring.Goals as goal
@@ -22,7 +22,7 @@ bring-push_moved-requires t c =
     let there = slice_get_read x.members.now (length x.members.now) c.args.d.0 own refl (omega arith) c.index-scene-d.is in
     let within = c.requires.scene.inside.by_members c.args.d own there in
     let fits = c.requires.fits in
-    within_fits (nvsize_in (slice_get x.rows.now c.args.d.0)) c.args.at c.as_slice.result.now (omega arith) (subst (λ (ps : List Part). AreWithin (nvsize_in (slice_get x.rows.now c.args.d.0)) ps) (sym (c.as_slice.ensures ∙ sym c.index-scene-d.is)) within)
+    within_fits (nvsize_in (slice_get x.rows.now c.args.d.0)) c.args.at c.as_slice.result.now (omega arith) (subst (λ (ps : List Part). LieUpTo (nvsize_in (slice_get x.rows.now c.args.d.0)) ps) (sym (c.as_slice.ensures ∙ sym c.index-scene-d.is)) within)
 
 pub bring-loop-base-init : goal.bring-loop-base-init
 bring-loop-base-init t c =
@@ -31,7 +31,7 @@ bring-loop-base-init t c =
     let count = c.requires.scene.member_each in
     let before = c.requires.before in
     let there = slice_get_read x.members.now (length x.members.now) c.args.d.0 own refl (omega arith) c.index-scene-d.is in
-    begun c.args.at c.args.d c.args.parts.now c.push.new.self c.push_moved.new.list c.as_slice.result.now (member_parts x.h.now x.rows.now (parts_in x.known.now) c.args.d)
+    begun c.args.at c.args.d c.args.parts.now c.push.new.self c.push_moved.new.list c.as_slice.result.now (parts_in_members x.h.now x.rows.now (known_parts_of x.known.now) c.args.d)
     c.in_ok-push.ensures.ok c.in_ok-push_moved.ensures (c.as_slice.ensures ∙ (sym c.index-scene-d.is ∙ c.requires.scene.brings c.args.d own there))
 
 pub bring_base-bring-requires : goal.bring_base-bring-requires
@@ -46,15 +46,15 @@ bring_base-bring-requires t c =
 pub bring_base-returns : goal.bring_base-returns
 bring_base-returns t c =
     let x = c.args.scene.now in
-    base_brought x.h.now x.rows.now (brought_by x.h.now x.rows.now x.primaries.now (parts_in x.known.now) x.c) c.args.s.now c.put_below.new.inner c.args.d c.args.base.now c.args.at c.base_place-place.result c.args.parts.now c.bring.new.parts
+    base_brought x.h.now x.rows.now (brought_by x.h.now x.rows.now x.primaries.now (known_parts_of x.known.now) x.c) c.args.s.now c.put_below.new.inner c.args.d c.args.base.now c.args.at c.base_place-place.result c.args.parts.now c.bring.new.parts
     c.if-base.false c.in_ok-put_below.ensures c.base_place-place.ensures c.in_ok-bring.ensures
 
 pub bring-returns : goal.bring-returns
 bring-returns t c =
     let x = c.args.scene.now in
-    let by = brought_by x.h.now x.rows.now x.primaries.now (parts_in x.known.now) x.c in
+    let by = brought_by x.h.now x.rows.now x.primaries.now (known_parts_of x.known.now) x.c in
     let items = c.as_slice-base-items.result.now in
     let bases : items ≡ bases_of x.h.now c.args.d = c.as_slice-base-items.ensures ∙ sym (ap bases_in c.class.ensures) in
-    finished c.args.at c.args.parts.now c.loop-base.parts c.bring_virtual.new.parts (part_at c.args.d 0 ∷ member_parts x.h.now x.rows.now (parts_in x.known.now) c.args.d) (flat_map (base_brings x.h.now x.rows.now by c.args.s.now c.args.d) (take c.loop-base.base-index items)) (flat_map (base_brings x.h.now x.rows.now by c.args.s.now c.args.d) (bases_of x.h.now c.args.d))
+    finished c.args.at c.args.parts.now c.loop-base.parts c.bring_virtual.new.parts (placed_part c.args.d 0 ∷ parts_in_members x.h.now x.rows.now (known_parts_of x.known.now) c.args.d) (flat_map (base_brings x.h.now x.rows.now by c.args.s.now c.args.d) (take c.loop-base.base-index items)) (flat_map (base_brings x.h.now x.rows.now by c.args.s.now c.args.d) (bases_of x.h.now c.args.d))
     (virtual_brings by (held_base x.h.now x.primaries.now x.c c.args.s.now c.args.d)) (by c.args.s.now c.args.d)
-    c.loop-base.invariant c.in_ok-bring_virtual.ensures (ap (flat_map (base_brings x.h.now x.rows.now by c.args.s.now c.args.d)) (take_all c.loop-base.base-index items c.loop-base-test.false ∙ bases)) (brought_is x.h.now x.rows.now x.primaries.now (parts_in x.known.now) x.c c.keeps.ensures c.requires.scene.before c.args.s.now c.args.d)
+    c.loop-base.invariant c.in_ok-bring_virtual.ensures (ap (flat_map (base_brings x.h.now x.rows.now by c.args.s.now c.args.d)) (take_all c.loop-base.base-index items c.loop-base-test.false ∙ bases)) (brought_is x.h.now x.rows.now x.primaries.now (known_parts_of x.known.now) x.c c.keeps.ensures c.requires.scene.before c.args.s.now c.args.d)

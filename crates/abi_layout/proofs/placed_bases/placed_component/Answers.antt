@@ -2,10 +2,10 @@ use Rattle.std.proofs.Common.{◌<◌, ◌∙◌, ◌++◌, List, length, get_or
 use Rattle.std.proofs.lemmas.Option.{slice_get_read}
 use Rattle.cxx_hierarchy.specs.declared.records.ClassId.{ClassId}
 use Rattle.abi_emptybase.specs.declared.Part.{Part}
-use Rattle.abi_emptybase.specs.Table.{moved}
+use Rattle.abi_emptybase.specs.Table.{moved_part}
 use Rattle.abi_sound.specs.declared.class_layout.ClassLayout.{ClassLayout}
 use Rattle.abi_layout.specs.declared.known.Known.{Known}
-use Rattle.abi_layout.specs.invariants.Known.{parts_in}
+use Rattle.abi_layout.specs.invariants.Known.{known_parts_of}
 use Rattle.abi_layout.specs.Brought.{brought_by}
 use Rattle.abi_layout.specs.PlacedBases.{subobject_of, component_of_row}
 use Rattle.abi_layout.proofs.rules.PlacedLemmas.{placed_by}
@@ -29,4 +29,4 @@ returns c =
     ∙ (ap (λ (r : ClassLayout). component_of_row r (get_or x.known.now b.0 known).is_empty parts) (sym c.index-scene-b.is)
     ∙ (ap (λ (k : Known). component_of_row row k.is_empty parts) (sym c.index-scene-b-2.is)
     ∙ placed_by x.h.now x.rows.now x.known.now x.primaries.now x.c b c.args.base (subobject_of x.c c.args.base) row known parts same refl row_there known_there
-    (c.in_ok-bring_placed.ensures ∙ ap (λ (t : List Part). t ++ map (moved 0) (brought_by x.h.now x.rows.now x.primaries.now (parts_in x.known.now) x.c (subobject_of x.c c.args.base) b)) c.new-parts.ensures)))
+    (c.in_ok-bring_placed.ensures ∙ ap (λ (t : List Part). t ++ map (moved_part 0) (brought_by x.h.now x.rows.now x.primaries.now (known_parts_of x.known.now) x.c (subobject_of x.c c.args.base) b)) c.new-parts.ensures)))

@@ -7,7 +7,7 @@ use Rattle.cxx_hierarchy.specs.declared.stop.LimitNo.TheVariants.{L6}
 use Rattle.cxx_hierarchy.specs.declared.stop.Stop.TheVariants.{NoMemory, Limit}
 use Rattle.abi_layout.specs.Placements.{member_component}
 use Rattle.abi_layout.specs.invariants.Alignments.{AreFit, AreLittle}
-use Rattle.abi_layout.specs.invariants.Known.{parts_in, members_by, HasLarge}
+use Rattle.abi_layout.specs.invariants.Known.{known_parts_of, members_by, HasLarge}
 use Rattle.abi_layout.specs.Layouts.{start_stage}
 use Rattle.abi_layout.specs.invariants.Arrangements.{components_by}
 use Rattle.abi_layout.specs.Repeats.{SomeRepeats}
@@ -41,8 +41,8 @@ returns-in_err-members-clause-refused c =
     rw (p.1, p.2)
     (member_refuses (start_stage x.c c.args.has_pointer) (components_by x.h.now x.rows.now x.known.now x.primaries.now x.c c.args.front.now) (members_by x.rows.now x.known.now c.args.class.now)
     (components_by x.h.now x.rows.now x.known.now x.primaries.now x.c c.args.free.now) c.args.is_pod c.args.class.now.at c.in_err-members.field-0.0
-    (fields_small x.rows.now (parts_in x.known.now) c.args.class.now.members (bit_fields x.h.now x.c c.args.class.now c.keeps.ensures c.requires.class))
-    (subst (λ (xs : List (Member ClassId)). (c.in_err-members.field-0.0 ≡ NoMemory) ⊎ ((c.in_err-members.field-0.0 ≡ Limit L6) × HasLarge (map (member_component x.rows.now (parts_in x.known.now)) xs))) c.as_slice.ensures c.in_err-members.ensures.limit))
+    (fields_small x.rows.now (known_parts_of x.known.now) c.args.class.now.members (bit_fields x.h.now x.c c.args.class.now c.keeps.ensures c.requires.class))
+    (subst (λ (xs : List (Member ClassId)). (c.in_err-members.field-0.0 ≡ NoMemory) ⊎ ((c.in_err-members.field-0.0 ≡ Limit L6) × HasLarge (map (member_component x.rows.now (known_parts_of x.known.now)) xs))) c.as_slice.ensures c.in_err-members.ensures.limit))
 
 pub arrange-requires-clause-fronts : goal.arrange-requires-clause-fronts
 arrange-requires-clause-fronts c =
@@ -53,7 +53,7 @@ pub arrange-requires-clause-members : goal.arrange-requires-clause-members
 arrange-requires-clause-members c =
     let x = c.args.scene.now in
     let class = c.args.class.now in
-    let are : c.in_ok-members.members.items ≡ members_by x.rows.now x.known.now class = c.in_ok-members.ensures.components ∙ ap (λ (xs : List (Member ClassId)). map (member_component x.rows.now (parts_in x.known.now)) xs) c.as_slice.ensures in
+    let are : c.in_ok-members.members.items ≡ members_by x.rows.now x.known.now class = c.in_ok-members.ensures.components ∙ ap (λ (xs : List (Member ClassId)). map (member_component x.rows.now (known_parts_of x.known.now)) xs) c.as_slice.ensures in
     let same : length x.known.now ≡ length x.rows.now = c.requires.scene.known_each ∙ sym c.requires.scene.row_each in
     subst AreFit (sym (c.deref-2.ensures.value ∙ are))
     (members_fit x.rows.now x.known.now class.members c.requires.sized same
@@ -82,7 +82,7 @@ returns-in_err-arrangement-clause-refused c =
     let members = members_by x.rows.now x.known.now c.args.class.now in
     let frees = components_by x.h.now x.rows.now x.known.now x.primaries.now x.c c.args.free.now in
     let fronts_are = c.deref.ensures.value ∙ c.in_ok-bases.ensures in
-    let members_are = c.deref-2.ensures.value ∙ (c.in_ok-members.ensures.components ∙ ap (λ (xs : List (Member ClassId)). map (member_component x.rows.now (parts_in x.known.now)) xs) c.as_slice.ensures) in
+    let members_are = c.deref-2.ensures.value ∙ (c.in_ok-members.ensures.components ∙ ap (λ (xs : List (Member ClassId)). map (member_component x.rows.now (known_parts_of x.known.now)) xs) c.as_slice.ensures) in
     let frees_are = c.deref-3.ensures.value ∙ c.in_ok-frees.ensures in
     rw (p.1, p.2)
     (size_refuses (start_stage x.c c.args.has_pointer) c.deref.result.now fronts c.deref-2.result.now members c.deref-3.result.now frees c.args.is_pod c.args.class.now.at c.in_err-arrangement.field-0.0
@@ -96,7 +96,7 @@ returns-in_err-refuse_repeated-clause-refused c =
     let members = members_by x.rows.now x.known.now c.args.class.now in
     let frees = components_by x.h.now x.rows.now x.known.now x.primaries.now x.c c.args.free.now in
     let fronts_are = c.deref.ensures.value ∙ c.in_ok-bases.ensures in
-    let members_are = c.deref-2.ensures.value ∙ (c.in_ok-members.ensures.components ∙ ap (λ (xs : List (Member ClassId)). map (member_component x.rows.now (parts_in x.known.now)) xs) c.as_slice.ensures) in
+    let members_are = c.deref-2.ensures.value ∙ (c.in_ok-members.ensures.components ∙ ap (λ (xs : List (Member ClassId)). map (member_component x.rows.now (known_parts_of x.known.now)) xs) c.as_slice.ensures) in
     let frees_are = c.deref-3.ensures.value ∙ c.in_ok-frees.ensures in
     let again = c.deref-4.ensures.value ∙ c.in_ok-bases.ensures in
     rw (p.1, p.2)
@@ -113,7 +113,7 @@ returns-in_err-refuse_repeated-2-clause-refused c =
     let members = members_by x.rows.now x.known.now c.args.class.now in
     let frees = components_by x.h.now x.rows.now x.known.now x.primaries.now x.c c.args.free.now in
     let fronts_are = c.deref.ensures.value ∙ c.in_ok-bases.ensures in
-    let members_are = c.deref-2.ensures.value ∙ (c.in_ok-members.ensures.components ∙ ap (λ (xs : List (Member ClassId)). map (member_component x.rows.now (parts_in x.known.now)) xs) c.as_slice.ensures) in
+    let members_are = c.deref-2.ensures.value ∙ (c.in_ok-members.ensures.components ∙ ap (λ (xs : List (Member ClassId)). map (member_component x.rows.now (known_parts_of x.known.now)) xs) c.as_slice.ensures) in
     let frees_are = c.deref-3.ensures.value ∙ c.in_ok-frees.ensures in
     let again = c.deref-5.ensures.value ∙ c.in_ok-frees.ensures in
     rw (p.1, p.2)

@@ -1,7 +1,7 @@
 use Rattle.std.proofs.Common.{◌≡◌, ℕ, ◌+◌, ◌-◌, ◌≤◌, false}
 use Rattle.abi_emptybase.specs.Table.{has_conflict}
 use Rattle.abi_layout.specs.Limits.{size_limit}
-use Rattle.abi_layout.specs.Placements.{IsCandidate}
+use Rattle.abi_layout.specs.Placements.{IsCandidatePlace}
 use Rattle.abi_sound.specs.Sound.{Divides}
 use Rattle.abi_layout.proofs.placing.find_place.Given as goal
 
@@ -10,7 +10,7 @@ abbrev pub invariant-loop-at : goal.invariant-loop-at
 invariant-loop-at l = record {
   behind : l.placing.stage.dsize ≤ l.at;
   multiple : Divides l.component.align l.at;
-  least : (other : ℕ) → IsCandidate l.placing.stage l.component other → has_conflict l.placing.stage.parts l.component.parts other ≡ false → l.at ≤ other;
+  least : (other : ℕ) → IsCandidatePlace l.placing.stage l.component other → has_conflict l.placing.stage.parts l.component.parts other ≡ false → l.at ≤ other;
 }
 
 abbrev pub decreases-loop-at : goal.decreases-loop-at

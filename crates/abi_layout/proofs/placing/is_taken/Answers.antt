@@ -4,14 +4,14 @@ use Rattle.abi_emptybase.specs.declared.Part.{Part}
 use Rattle.abi_emptybase.specs.Table.{has_conflict}
 use Rattle.abi_layout.specs.Limits.{size_limit}
 use Rattle.abi_layout.specs.declared.component.Component.{Component}
-use Rattle.abi_layout.specs.invariants.Alignments.{AreWithin, IsFit}
+use Rattle.abi_layout.specs.invariants.Alignments.{LieUpTo, IsFit}
 use Rattle.abi_layout.proofs.rules.Parts.{within_fits, conflict_ready}
 use Rattle.abi_layout.proofs.placing.is_taken.Goals as goal
 
 is_fit : (component : Component) (parts : List Part) (at : ℕ) → IsFit component → parts ≡ component.parts → at ≤ size_limit → All (λ (part : Part). part.place + at < 2 ^ 32) parts
 is_fit component parts at fit is bounded =
     let takes = fit.takes in
-    within_fits component.takes at parts (omega arith) (subst (λ (ps : List Part). AreWithin component.takes ps) (sym is) fit.parts)
+    within_fits component.takes at parts (omega arith) (subst (λ (ps : List Part). LieUpTo component.takes ps) (sym is) fit.parts)
 
 pub is_among-requires : goal.is_among-requires
 is_among-requires c = is_fit c.args.component.now c.as_slice.result.now c.args.at c.requires.component c.as_slice.ensures c.requires.bounded

@@ -1,7 +1,7 @@
 use Rattle.std.proofs.Common.{List, length, take, ap, subst, sym, ◌∙◌, arith}
 use Rattle.abi_emptybase.specs.declared.Part.{Part}
 use Rattle.abi_emptybase.specs.Table.{holds}
-use Rattle.abi_layout.specs.invariants.Alignments.{AreWithin}
+use Rattle.abi_layout.specs.invariants.Alignments.{LieUpTo}
 use Rattle.abi_layout.proofs.rules.Parts.{within_fits, within_rest, rest_is, table_of_all}
 use Rattle.abi_layout.proofs.placing.make_ready.Goals as goal
 
@@ -10,7 +10,7 @@ add-requires c =
     let stage = c.args.placing.now.stage in
     let size = c.requires.size in
     within_fits stage.size 0 _ (omega arith)
-    (subst (λ (parts : List Part). AreWithin stage.size parts) (sym (rest_is c.args.placing.now.listed c.as_slice-parts.result.now stage.parts c.as_slice-parts.ensures)) (within_rest c.args.placing.now.listed stage.size stage.parts c.requires.parts))
+    (subst (λ (parts : List Part). LieUpTo stage.size parts) (sym (rest_is c.args.placing.now.listed c.as_slice-parts.result.now stage.parts c.as_slice-parts.ensures)) (within_rest c.args.placing.now.listed stage.size stage.parts c.requires.parts))
 
 pub returns-clause-placing : goal.returns-clause-placing
 returns-clause-placing c =

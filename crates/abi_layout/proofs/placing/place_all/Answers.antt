@@ -5,7 +5,7 @@ use Rattle.std.proofs.lemmas.List.{drop_all}
 use Rattle.abi_sound.specs.declared.class_layout.Bits.{Bits}
 use Rattle.abi_layout.specs.declared.component.Component.{Component}
 use Rattle.abi_layout.specs.declared.component.Stage.{Stage}
-use Rattle.abi_layout.specs.Placements.{IsPlaced, after, end_of, bits_by}
+use Rattle.abi_layout.specs.Placements.{IsComponentAt, stage_after, component_end, bits_by}
 use Rattle.abi_layout.proofs.rules.PlacingLemmas.{Completes, completes_more, completes_past, completes_all, completes_stage, HasBits, bits_more, bits_all, fit_at, placed_is_one, place_before_end}
 use Rattle.abi_layout.proofs.placing.place_all.Goals as goal
 
@@ -35,7 +35,7 @@ returns-in-None-clause-limit c = inr (
       (subst (λ (xs : List Component). Completes c.args.placing.now.stage c.args.components.now c.loop-component.places c.loop-component.placing.stage xs)
       (rest_from c.args.components.now c.loop-component.component-index c.component-item.result c.loop-component-test.true c.component-item.is) c.loop-component.invariant.completes)
       (λ p place.
-      let far = c.in-None.ensures.past.past p (subst (λ (s : Stage). IsPlaced s c.component-item.result p) (sym c.in_ok-make_ready.ensures.stage) place) in
+      let far = c.in-None.ensures.past.past p (subst (λ (s : Stage). IsComponentAt s c.component-item.result p) (sym c.in_ok-make_ready.ensures.stage) place) in
       let ends = place_before_end c.loop-component.placing.stage c.component-item.result p in
       omega (arith, far, ends)),
 )
@@ -47,9 +47,9 @@ returns-then-end_of-gt-SIZE_LIMIT-clause-limit c = inr (
       (subst (λ (xs : List Component). Completes c.args.placing.now.stage c.args.components.now c.loop-component.places c.loop-component.placing.stage xs)
       (rest_from c.args.components.now c.loop-component.component-index c.component-item.result c.loop-component-test.true c.component-item.is) c.loop-component.invariant.completes)
       (λ p place.
-      let same = placed_is_one c.loop-component.placing.stage c.component-item.result p c.in-Some.at place (subst (λ (s : Stage). IsPlaced s c.component-item.result c.in-Some.at) c.in_ok-make_ready.ensures.stage c.in-Some.ensures.place) in
+      let same = placed_is_one c.loop-component.placing.stage c.component-item.result p c.in-Some.at place (subst (λ (s : Stage). IsComponentAt s c.component-item.result c.in-Some.at) c.in_ok-make_ready.ensures.stage c.in-Some.ensures.place) in
       let past = c.if-end_of-gt-SIZE_LIMIT.true in
-      let ends : c.end_of.result ≡ end_of c.loop-component.placing.stage c.component-item.result p = c.end_of.ensures ∙ (ap (λ (s : Stage). end_of s c.component-item.result c.in-Some.at) c.in_ok-make_ready.ensures.stage ∙ ap (end_of c.loop-component.placing.stage c.component-item.result) (sym same)) in
+      let ends : c.end_of.result ≡ component_end c.loop-component.placing.stage c.component-item.result p = c.end_of.ensures ∙ (ap (λ (s : Stage). component_end s c.component-item.result c.in-Some.at) c.in_ok-make_ready.ensures.stage ∙ ap (component_end c.loop-component.placing.stage c.component-item.result) (sym same)) in
       omega (arith, past, ends)),
 )
 
@@ -62,10 +62,10 @@ loop-component-preserved c =
     let ready = c.make_ready.new.placing.stage in
     let todo = drop (c.loop-component.component-index + 1) cs in
     let rest = rest_from cs c.loop-component.component-index item c.loop-component-test.true c.component-item.is in
-    let is_after : c.put.new.placing.stage ≡ after old item c.in-Some.at = c.in_ok-put-in-Some.ensures.after ∙ ap (λ (s : Stage). after s item c.in-Some.at) c.in_ok-make_ready.ensures.stage in
+    let is_after : c.put.new.placing.stage ≡ stage_after old item c.in-Some.at = c.in_ok-put-in-Some.ensures.after ∙ ap (λ (s : Stage). stage_after s item c.in-Some.at) c.in_ok-make_ready.ensures.stage in
     let here = completes_more first cs c.loop-component.places old item todo c.in-Some.at
     (subst (λ (xs : List Component). Completes first cs c.loop-component.places old xs) rest c.loop-component.invariant.completes)
-    (subst (λ (s : Stage). IsPlaced s item c.in-Some.at) c.in_ok-make_ready.ensures.stage c.in-Some.ensures.place) in
+    (subst (λ (s : Stage). IsComponentAt s item c.in-Some.at) c.in_ok-make_ready.ensures.stage c.in-Some.ensures.place) in
     let held = bits_more first cs c.loop-component.places c.loop-component.bits old item todo c.in-Some.at
     (subst (λ (xs : List Component). HasBits first cs c.loop-component.places c.loop-component.bits old xs) rest c.loop-component.invariant.bits) in
     let bits_are : c.loop-component.bits ++ bits_by item.width old item c.in-Some.at ∷ [] ≡ c.push.new.self =

@@ -2,7 +2,7 @@ use Rattle.std.proofs.Common.{◌∙◌, ◌++◌, ◌∷◌, [], List, map, tak
 use Rattle.std.proofs.lemmas.Result.{err_from_is_err_and}
 use Rattle.abi_layout.specs.declared.component.Component.{Component}
 use Rattle.abi_layout.specs.Placements.{member_component}
-use Rattle.abi_layout.specs.invariants.Known.{parts_in}
+use Rattle.abi_layout.specs.invariants.Known.{known_parts_of}
 use Rattle.abi_layout.specs.invariants.Alignments.{AreLittle}
 use Rattle.abi_layout.proofs.algorithm.RowLemmas.{little_more, map_more, get_map}
 use Rattle.abi_layout.proofs.rows.member_components.Goals as goal
@@ -13,7 +13,7 @@ member_component-requires-clause-earlier c = c.requires.earlier c.member-item.re
 pub returns-in_err-member_component-clause-limit : goal.returns-in_err-member_component-clause-limit
 returns-in_err-member_component-clause-limit c =
     let p = err_from_is_err_and c.from_residual.result c.from_residual.ensures.1 in
-    let f = member_component c.args.rows.now (parts_in c.args.known.now) in
+    let f = member_component c.args.rows.now (known_parts_of c.args.known.now) in
     rw (p.1, p.2) (⊎_elim (λ e. inl e)
     (λ large. inr (
       large.0,
@@ -28,7 +28,7 @@ returns-in_err-member_component-clause-limit c =
 
 pub loop-member-preserved : goal.loop-member-preserved
 loop-member-preserved c =
-    let f = member_component c.args.rows.now (parts_in c.args.known.now) in
+    let f = member_component c.args.rows.now (known_parts_of c.args.known.now) in
     let xs = c.args.members.now in
     let i = c.loop-member.member-index in
     let made = c.in_ok-member_component.field-0 in

@@ -1,6 +1,6 @@
 use Rattle.std.proofs.Common.{ap, subst, sym, ◌∙◌}
 use Rattle.abi_sound.specs.Places.{places_of, primary_in}
-use Rattle.abi_slots.specs.invariants.SlotRows.{IsBefore}
+use Rattle.abi_slots.specs.invariants.SlotRows.{IsPrimaryBefore}
 use Rattle.abi_slots.proofs.CallRooms.{own_declared}
 use Rattle.abi_slots.proofs.ClassEntries.{own_known, keys_known, old_known, class_entries_are, class_listings_are}
 use Rattle.abi_slots.proofs.ClassOffsets.{primaries_of, primary_before}
@@ -16,7 +16,7 @@ pub old_entries-old-requires : goal.old_entries-old-requires
 old_entries-old-requires g c =
     let rows = g.L.SoundLayout.rows c.args.site.now.layout.now in
     let sound = g.met.L.SoundLayout.sound c.args.site.now.layout.now c.args.site.now.h.now c.requires.site.layout in
-    subst (λ n. IsBefore n c.layout-row.result.now.primary) (sym c.requires.size) (primary_before c.args.site.now.h.now (places_of c.args.site.now.h.now rows) c.keeps.ensures (primaries_of c.args.site.now.h.now rows sound) c.args.c c.layout-row.result.now.primary c.requires.known (sym (ap primary_in c.layout-row.ensures)))
+    subst (λ n. IsPrimaryBefore n c.layout-row.result.now.primary) (sym c.requires.size) (primary_before c.args.site.now.h.now (places_of c.args.site.now.h.now rows) c.keeps.ensures (primaries_of c.args.site.now.h.now rows sound) c.args.c c.layout-row.result.now.primary c.requires.known (sym (ap primary_in c.layout-row.ensures)))
 
 pub entries_of-requires-clause-old : goal.entries_of-requires-clause-old
 entries_of-requires-clause-old g c =

@@ -3,7 +3,7 @@ use Rattle.abi_sound.specs.Places.{places_of, primary_in}
 use Rattle.abi_slots.specs.declared.words.Offset.TheVariants.{ToBase}
 use Rattle.abi_slots.specs.Limits.{most_offsets}
 use Rattle.abi_slots.specs.Listing.{push_all}
-use Rattle.abi_slots.specs.invariants.SlotRows.{IsBefore}
+use Rattle.abi_slots.specs.invariants.SlotRows.{IsPrimaryBefore}
 use Rattle.abi_slots.proofs.ClassOffsets.{primaries_of, primary_before, primary_shared, bases_within, virtuals_within, plain_are, plain_few}
 use Rattle.abi_slots.proofs.class_rows.class_offsets.Goals as goal
 
@@ -11,7 +11,7 @@ pub old_offsets-old-requires : goal.old_offsets-old-requires
 old_offsets-old-requires g c =
     let rows = g.L.SoundLayout.rows c.args.site.now.layout.now in
     let sound = g.met.L.SoundLayout.sound c.args.site.now.layout.now c.args.site.now.h.now c.requires.site.layout in
-    subst (λ n. IsBefore n c.layout-row.result.now.primary) (sym c.requires.size) (primary_before c.args.site.now.h.now (places_of c.args.site.now.h.now rows) c.keeps.ensures (primaries_of c.args.site.now.h.now rows sound) c.args.c c.layout-row.result.now.primary c.requires.known (sym (ap primary_in c.layout-row.ensures)))
+    subst (λ n. IsPrimaryBefore n c.layout-row.result.now.primary) (sym c.requires.size) (primary_before c.args.site.now.h.now (places_of c.args.site.now.h.now rows) c.keeps.ensures (primaries_of c.args.site.now.h.now rows sound) c.args.c c.layout-row.result.now.primary c.requires.known (sym (ap primary_in c.layout-row.ensures)))
 
 pub base_table-requires-clause-within : goal.base_table-requires-clause-within
 base_table-requires-clause-within g c =

@@ -1,8 +1,8 @@
 use Rattle.std.proofs.Common.{◌+◌, map, false, length, ap, subst, sym, ◌∙◌, arith}
 use Rattle.cxx_hierarchy.specs.Classes.{functions_in}
 use Rattle.abi_sound.specs.Places.{places_of}
-use Rattle.abi_slots.specs.Rows.{declared_in, AreEntryNumbers, HaveOneEntry}
-use Rattle.abi_slots.specs.invariants.OffsetWords.{base_number, AreWords}
+use Rattle.abi_slots.specs.Rows.{listed_function, AreEntryNumbers, HaveOneEntry}
+use Rattle.abi_slots.specs.invariants.OffsetWords.{virtual_base_number, AreWords}
 use Rattle.abi_slots.specs.invariants.SlotRows.{ListsShared}
 use Rattle.abi_slots.proofs.Bounds.{few_entries}
 use Rattle.abi_slots.proofs.OffsetBounds.{few_offsets}
@@ -53,9 +53,9 @@ returns g c =
     row_is c.args.site.now.h.now l c.keeps.ensures are c.args.site.now.numbering.now.rows.items c.args.site.now.numbering.now.count c.requires.site.numbering c.args.c c.requires.known _ listings
     entries_are
     c.in_ok-all.ensures.listings
-    (c.in_ok-declared.ensures ∙ ap (λ xs. map (declared_in xs) c.as_slice-3.result.now) c.as_slice-2.ensures.value ∙ ap (map (declared_in listings)) (c.as_slice-3.ensures.value ∙ sym c.from_vec.ensures))
+    (c.in_ok-declared.ensures ∙ ap (λ xs. map (listed_function xs) c.as_slice-3.result.now) c.as_slice-2.ensures.value ∙ ap (map (listed_function listings)) (c.as_slice-3.ensures.value ∙ sym c.from_vec.ensures))
     (subst (λ xs. AreEntryNumbers xs listings c.in_ok-numbers.numbers) (c.as_slice-5.ensures.value ∙ sym c.from_vec.ensures) (subst (λ xs. AreEntryNumbers c.as_slice-5.result.now xs c.in_ok-numbers.numbers) c.as_slice-4.ensures.value c.in_ok-numbers.ensures))
     (c.from_vec-2.ensures ∙ c.in_ok-bases.ensures.offsets)
     (ap length c.from_vec-3.ensures ∙ c.in_ok-bases.ensures.size)
-    (subst (λ xs. AreWords base_number xs c.from_vec-3.result) (sym c.from_vec-2.ensures) (subst (λ ws. AreWords base_number c.in_ok-bases.bases.offsets.items ws) (sym c.from_vec-3.ensures) c.in_ok-bases.ensures.words))
+    (subst (λ xs. AreWords virtual_base_number xs c.from_vec-3.result) (sym c.from_vec-2.ensures) (subst (λ ws. AreWords virtual_base_number c.in_ok-bases.bases.offsets.items ws) (sym c.from_vec-3.ensures) c.in_ok-bases.ensures.words))
     (subst (λ xs. ListsShared c.args.site.now.h.now l c.args.site.now.numbering.now.rows.items c.args.site.now.numbering.now.count c.args.c xs c.from_vec-5.result) (sym c.from_vec-4.ensures) (subst (λ ws. ListsShared c.args.site.now.h.now l c.args.site.now.numbering.now.rows.items c.args.site.now.numbering.now.count c.args.c c.in_ok-calls.calls.offsets.items ws) (sym c.from_vec-5.ensures) c.in_ok-calls.ensures))

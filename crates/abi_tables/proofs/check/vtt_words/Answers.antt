@@ -1,5 +1,5 @@
 use Rattle.std.proofs.Common.{◌≡◌, ◌≤◌, subst, length, arith}
-use Rattle.abi_tables.specs.Counts.{words_to}
+use Rattle.abi_tables.specs.Counts.{words_before_class}
 use Rattle.abi_tables.proofs.CheckLemmas.{vtt_within}
 use Rattle.abi_tables.proofs.check.vtt_words.Goals as goal
 
@@ -14,4 +14,4 @@ loop-n-preserved c = λ p are.
 pub returns : goal.returns
 returns c = λ p are.
     let all : c.loop-n.n ≡ length c.args.h.now = let low = c.loop-n-test.false in let high = c.loop-n.auto.n-end in let e = c.len-n-end.ensures in omega arith in
-    subst (λ n. c.loop-n.sum ≤ words_to c.args.h.now p n) all (c.loop-n.invariant p are)
+    subst (λ n. c.loop-n.sum ≤ words_before_class c.args.h.now p n) all (c.loop-n.invariant p are)

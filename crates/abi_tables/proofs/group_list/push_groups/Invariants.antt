@@ -1,8 +1,8 @@
 use Rattle.std.proofs.Common.{map, take}
 use Rattle.abi_sound.specs.Places.{places_of}
 use Rattle.abi_tables.specs.Tables.{IsNamed, group_name}
-use Rattle.abi_tables.specs.invariants.Growing.{Grows}
+use Rattle.abi_tables.specs.invariants.Growing.{GrowsByEach}
 use Rattle.abi_tables.proofs.group_list.push_groups.Given as goal
 
 abbrev pub invariant-loop-view : goal.invariant-loop-view
-invariant-loop-view g l = Grows (IsNamed l.h (places_of l.h (g.L.SoundLayout.rows l.layout))) (map (group_name l.c) (take l.view-index l.view-items)) l.initial.groups l.groups
+invariant-loop-view g l = GrowsByEach (IsNamed l.h (places_of l.h (g.L.SoundLayout.rows l.layout))) (map (group_name l.c) (take l.view-index l.view-items)) l.initial.groups l.groups

@@ -1,7 +1,7 @@
 use Rattle.std.proofs.Common.{arith, ap, sym, ◌∙◌, ◌+◌, List, ℕ}
 use Rattle.cxx_hierarchy.specs.Classes.{bases_in}
 use Rattle.cxx_subobject.specs.invariants.Counts.{own_bases, own_of}
-use Rattle.abi_tables.specs.invariants.Weights.{cut, number_of}
+use Rattle.abi_tables.specs.invariants.Weights.{cut, number_by_class}
 use Rattle.abi_tables.proofs.NumberLemmas.{numbers_end, numbers_none, numbers_push, own_cut}
 use Rattle.abi_tables.proofs.numbers.own_sums.Goals as goal
 
@@ -13,7 +13,7 @@ loop-n-preserved c = λ f are.
     let h = c.args.h.now in
     numbers_push c.loop-n.n (own_of f h) c.loop-n.sums.items c.push.new.self.items c.capped-sum.result
     (own_cut h c.keeps.ensures f c.args.weights.now c.loop-n.sums.items (record { 0 = c.loop-n.n }) c.as_slice.result.now c.base_sum-below.result c.capped-sum.result are (c.loop-n.invariant f are) (let lt = c.loop-n-test.true in let e = c.len-n-end.ensures in omega arith) (c.as_slice.ensures ∙ sym (ap bases_in c.class-class.ensures))
-    (c.base_sum-below.ensures ∙ ap (λ (ks : List ℕ). cut (own_bases (number_of ks) c.as_slice.result.now)) c.deref.ensures.value)
+    (c.base_sum-below.ensures ∙ ap (λ (ks : List ℕ). cut (own_bases (number_by_class ks) c.as_slice.result.now)) c.deref.ensures.value)
     (c.capped-sum.ensures ∙ ap (λ k. cut (k + c.base_sum-below.result)) c.number_of.ensures))
     c.in_ok-push.ensures.items (c.loop-n.invariant f are)
 

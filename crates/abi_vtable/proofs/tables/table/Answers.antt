@@ -5,7 +5,7 @@ use Rattle.abi_slots.specs.declared.words.EntryWord.{EntryWord}
 use Rattle.abi_slots.specs.declared.words.TableWord.{TableWord}
 use Rattle.abi_slots.specs.declared.words.TableWord.TheVariants.{Top, Info, Entry}
 use Rattle.cxx_subobject.specs.Preorder.{preorder}
-use Rattle.abi_vtable.specs.invariants.Parts.{view_in}
+use Rattle.abi_vtable.specs.invariants.Parts.{view_of_parts}
 use Rattle.abi_vtable.proofs.Over.{part_place}
 use Rattle.abi_vtable.proofs.TableWords.{read_part, part_of, part_known, part_number, told_offsets, part_named, part_keys, part_along, part_table}
 use Rattle.abi_vtable.proofs.tables.table.Goals as goal
@@ -28,7 +28,7 @@ offset_words-requires g c =
       site = c.requires.site;
       view = c.requires.view;
       part = part_of at;
-      start = part_place h l (view_in c.args.x.now) (preorder h c.args.x.now.class) c.index-as_slice-number.result c.place_of_part-place.result (part_of at) c.place_of_part-place.ensures;
+      start = part_place h l (view_of_parts c.args.x.now) (preorder h c.args.x.now.class) c.index-as_slice-number.result c.place_of_part-place.result (part_of at) c.place_of_part-place.ensures;
       named = part_named at c.offsets-offsets.result.now (told_offsets at c.is_shared_base.result c.offsets-offsets.result.now c.is_shared_base.ensures (c.offsets-offsets.ensures.offsets h l c.requires.site.are_slots));
     }
 
@@ -70,5 +70,5 @@ returns-clause-table g c = λ t here.
     let size : length c.as_slice-2.result.now ≡ length offset_items = ap length c.as_slice-2.ensures.value in
     let before : c.len.result + 2 ≡ length offset_items + 2 = ap (λ n. n + 2) (c.len.ensures ∙ sym c.as_slice-2.ensures.len ∙ size) in
     part_table at t here c.place_of_part-place.result c.offsets-offsets.result.now c.entries-entries.result.now offset_items entry_items top (c.len.result + 2) c.in_ok-words.words
-    (part_place h (places_of h rows) (view_in v) (preorder h v.class) part c.place_of_part-place.result (part_of at) c.place_of_part-place.ensures) listed keys
+    (part_place h (places_of h rows) (view_of_parts v) (preorder h v.class) part c.place_of_part-place.result (part_of at) c.place_of_part-place.ensures) listed keys
     c.in_ok-offset_words.ensures (c.in_ok-entry_words.ensures.words part.at (part_number at)) c.distance-top.ensures words before

@@ -3,7 +3,7 @@ use Rattle.std.specs.Prelude.{IfSome}
 use Rattle.cxx_subobject.specs.Preorder.{preorder}
 use Rattle.abi_slots.specs.Views.{next}
 use Rattle.abi_slots.specs.Groups.{declares_at}
-use Rattle.abi_vtable.specs.invariants.Parts.{view_in}
+use Rattle.abi_vtable.specs.invariants.Parts.{view_of_parts}
 use Rattle.abi_vtable.specs.invariants.Words.{IsDeclaredBy, nowhere}
 use Rattle.abi_vtable.proofs.Declaring.{number_none, first_zero, first_none}
 use Rattle.abi_vtable.proofs.Steps.{next_within, found_here, found_below}
@@ -12,13 +12,13 @@ use Rattle.abi_vtable.proofs.words.+declarer_below.Goals as goal
 pub returns-then-steps-eq0 : goal.returns-then-steps-eq0
 returns-then-steps-eq0 t c = λ l k s view slots number along.
     let h = c.args.h.now in
-    let x = view_in c.args.x.now in
+    let x = view_of_parts c.args.x.now in
     subst (λ o. IsDeclaredBy h l x c.args.x.now.parts k o None) (sym (first_zero (declares_at h l k) (next l x) c.args.steps s c.if-steps-eq0.true)) nowhere
 
 pub returns-in-None : goal.returns-in-None
 returns-in-None t c = λ l k s view slots number along.
     let h = c.args.h.now in
-    let x = view_in c.args.x.now in
+    let x = view_of_parts c.args.x.now in
     let none : s ≡ None = number_none (preorder h c.args.x.now.class) c.args.at s c.in-None.is number in
     subst (λ o. IsDeclaredBy h l x c.args.x.now.parts k o None) (sym (ap (Rattle.abi_slots.specs.Views.first_in (declares_at h l k) (next l x) c.args.steps) none ∙ first_none (declares_at h l k) (next l x) c.args.steps)) nowhere
 

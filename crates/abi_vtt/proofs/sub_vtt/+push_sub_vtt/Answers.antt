@@ -6,10 +6,10 @@ use Rattle.cxx_subobject.proofs.TestLemmas.{class_below}
 use Rattle.foundation.proofs.Places.{any_default}
 use Rattle.cxx_subobject.proofs.PathLemmas.{class_inside}
 use Rattle.abi_sound.specs.Places.{places_of}
-use Rattle.abi_vtable.specs.invariants.Parts.{view_in}
-use Rattle.abi_vtt.specs.Vtts.{below, is_built_base, sub_items}
+use Rattle.abi_vtable.specs.invariants.Parts.{view_of_parts}
+use Rattle.abi_vtt.specs.Vtts.{extended_by, is_built_base, sub_items}
 use Rattle.abi_vtt.specs.invariants.Served.{AreServing}
-use Rattle.abi_vtt.specs.invariants.Growing.{Grows}
+use Rattle.abi_vtt.specs.invariants.Growing.{GrowsByVttWords}
 use Rattle.abi_vtt.proofs.MarkLemmas.{some_has}
 use Rattle.abi_vtt.proofs.ViewLemmas.{no_base, nth, nth_before, built_is}
 use Rattle.abi_vtt.proofs.ValidViews.{nth_edge, built_virtual, below_valid}
@@ -26,7 +26,7 @@ push_word-requires g t c =
     let h = c.args.h.now in
     let l = places_of h (g.L.SoundLayout.rows c.args.layout.now) in
     let v = c.in_ok-x.x in
-    whole_noted h l v c.deref.result.now c.in_ok-x.ensures.parts (subst (λ ts. AreServing h l (view_in v) ts) (sym c.deref.ensures.value) c.in_ok-tables.ensures)
+    whole_noted h l v c.deref.result.now c.in_ok-x.ensures.parts (subst (λ ts. AreServing h l (view_of_parts v) ts) (sym c.deref.ensures.value) c.in_ok-tables.ensures)
 
 pub class-requires : goal.class-requires
 class-requires g t c = class_inside c.args.h.now c.keeps.ensures c.args.name.now.complete c.args.d c.args.name.now.view c.requires.known c.requires.view c.requires.class
@@ -50,7 +50,7 @@ push_sub_vtt-requires g t c κs within =
     let less : base.class.0 < d.0 = nth_before h c.keeps.ensures d bases i is c.loop-base-test.true in
     let known : base.class.0 < length h = omega arith in
     let test : is_built_base h base ≡ true = built_is h c.args.marks.now base c.is_built.result c.requires.marks known c.is_built.ensures ∙ c.if-is_built.true in
-    let there : c.in_ok-subobject_below.field-0 ≡ below view base.class = c.in_ok-subobject_below.ensures in
+    let there : c.in_ok-subobject_below.field-0 ≡ extended_by view base.class = c.in_ok-subobject_below.ensures in
     let valid : IsSubobject h c.args.name.now.complete c.in_ok-subobject_below.field-0 = subst (λ s. IsSubobject h c.args.name.now.complete s) (sym there) (below_valid h c.args.name.now.complete d view base.class c.requires.view c.requires.class (nth_edge h d bases i is c.loop-base-test.true test)) in
     let class : class_of c.in_ok-subobject_below.field-0 ≡ Some base.class = ap class_of there ∙ class_below view.path d base.class c.requires.class in
     let has = some_has h c.keeps.ensures base.class (built_virtual h base test) in
@@ -75,7 +75,7 @@ loop-base-preserved g t c = λ n lt.
     let test : is_built_base h base ≡ c.is_built.result = built_is h c.args.marks.now base c.is_built.result c.requires.marks known c.is_built.ensures in
     elim c.if-is_built.branch [
       | then-is_built+in_ok-subobject_below+in_ok-push_sub_vtt w ↦ rw w.words-is (base_more h l complete n view bases i base true _ c.push_word.new.words c.loop-base.words w.push_sub_vtt.new.words c.loop-base-test.true at (test ∙ w.if-is_built.true)
-          (subst (λ (s : Subobject). Grows h l complete (sub_items h l n s base.class) c.loop-base.words w.push_sub_vtt.new.words) w.in_ok-subobject_below.ensures (w.in_ok-push_sub_vtt.ensures n small)) (c.loop-base.invariant n lt))
+          (subst (λ (s : Subobject). GrowsByVttWords h l complete (sub_items h l n s base.class) c.loop-base.words w.push_sub_vtt.new.words) w.in_ok-subobject_below.ensures (w.in_ok-push_sub_vtt.ensures n small)) (c.loop-base.invariant n lt))
       | else-is_built w ↦ base_more h l complete n view bases i base false _ c.push_word.new.words c.loop-base.words c.if-is_built.words c.loop-base-test.true at (test ∙ w.if-is_built.false)
           (grows_none h l complete c.loop-base.words c.if-is_built.words w.words-is) (c.loop-base.invariant n lt)
     ]
@@ -85,6 +85,6 @@ returns g t c =
     let h = c.args.h.now in
     let l = places_of h (g.L.SoundLayout.rows c.args.layout.now) in
     let v = c.in_ok-x.x in
-    let serving = subst (λ ts. AreServing h l (view_in v) ts) (sym c.deref.ensures.value) c.in_ok-tables.ensures in
+    let serving = subst (λ ts. AreServing h l (view_of_parts v) ts) (sym c.deref.ensures.value) c.in_ok-tables.ensures in
     sub_done h l c.args.name.now.complete c.args.name.now.view c.args.d v c.as_slice-base-items.result.now c.loop-base.base-index c.args.words.now c.push_word.new.words c.loop-base.words c.push_base_words.new.words c.in_ok-x.ensures.parts c.in_ok-x.ensures.complete c.in_ok-x.ensures.at c.requires.class
     (c.in_ok-push_word.ensures h l (whole_of v.class) c.in_ok-x.ensures.parts serving (first_there h v.class)) c.loop-base.invariant c.loop-base-test.false (c.as_slice-base-items.ensures ∙ sym (ap bases_in c.class.ensures)) c.in_ok-push_base_words.ensures

@@ -1,7 +1,7 @@
 use Rattle.std.proofs.Common.{true, false, sym, ◌∙◌}
 use Rattle.cxx_subobject.specs.Preorder.{preorder}
 use Rattle.abi_sound.specs.Places.{places_of}
-use Rattle.abi_vtable.specs.invariants.Parts.{view_in}
+use Rattle.abi_vtable.specs.invariants.Parts.{view_of_parts}
 use Rattle.abi_vtt.proofs.KnownParts.{known_part, part_there, subobject_there, word_noted}
 use Rattle.abi_vtt.proofs.WordSteps.{part_more, grows_none}
 use Rattle.abi_vtt.proofs.sub_vtt.push_base_words.Goals.{then-needs_word+in_ok-push_word, else-needs_word}
@@ -13,7 +13,7 @@ needs_word-requires-clause-part g c =
     let l = places_of h (g.L.SoundLayout.rows c.args.layout.now) in
     let v = c.args.x.now in
     let part = c.part-item.result in
-    known_part h c.keeps.ensures l (view_in v) c.requires.view.view (preorder h v.class) part (c.requires.view.parts.each c.loop-n.n part (part_there h l v c.requires.view c.as_slice-part-items.result.now c.loop-n.n part c.as_slice-part-items.ensures c.loop-n-test.true c.part-item.is))
+    known_part h c.keeps.ensures l (view_of_parts v) c.requires.view.view (preorder h v.class) part (c.requires.view.parts.each c.loop-n.n part (part_there h l v c.requires.view c.as_slice-part-items.result.now c.loop-n.n part c.as_slice-part-items.ensures c.loop-n-test.true c.part-item.is))
 
 pub push_word-requires : goal.push_word-requires
 push_word-requires g c =

@@ -1,6 +1,6 @@
 use Rattle.std.proofs.Common.{sym, subst, ◌∙◌}
 use Rattle.abi_sound.specs.Places.{places_of}
-use Rattle.abi_vtt.specs.invariants.Growing.{Grows}
+use Rattle.abi_vtt.specs.invariants.Growing.{GrowsByVttWords}
 use Rattle.abi_vtt.proofs.ValidViews.{shared_has}
 use Rattle.abi_vtt.proofs.WordSteps.{of_shared, grows_none, shared_more, vtt_done}
 use Rattle.abi_vtt.proofs.vtt_list.vtt.Goals.{in-Some+in_ok-push_shared_vtt-in-Some, in-None}
@@ -16,9 +16,9 @@ loop-s-preserved g c =
     let list = c.as_slice-s-items.result.now in
     elim c.match-shared_class.branch [
       | in-Some+in_ok-push_shared_vtt-in-Some w ↦ rw w.words-is (shared_more h l c.args.c list c.loop-s.s-index c.s-item.result c.shared_class.result _ c.push_sub_vtt.new.words c.loop-s.words w.push_shared_vtt.new.words c.loop-s-test.true c.s-item.is c.shared_class.ensures
-          (subst (λ o. Grows h l c.args.c (of_shared h l o) c.loop-s.words w.push_shared_vtt.new.words) (sym w.in-Some.is) w.in_ok-push_shared_vtt-in-Some.ensures) c.loop-s.invariant)
+          (subst (λ o. GrowsByVttWords h l c.args.c (of_shared h l o) c.loop-s.words w.push_shared_vtt.new.words) (sym w.in-Some.is) w.in_ok-push_shared_vtt-in-Some.ensures) c.loop-s.invariant)
       | in-None w ↦ shared_more h l c.args.c list c.loop-s.s-index c.s-item.result c.shared_class.result _ c.push_sub_vtt.new.words c.loop-s.words c.match-shared_class.words c.loop-s-test.true c.s-item.is c.shared_class.ensures
-          (subst (λ o. Grows h l c.args.c (of_shared h l o) c.loop-s.words c.match-shared_class.words) (sym w.in-None.is) (grows_none h l c.args.c c.loop-s.words c.match-shared_class.words w.words-is)) c.loop-s.invariant
+          (subst (λ o. GrowsByVttWords h l c.args.c (of_shared h l o) c.loop-s.words c.match-shared_class.words) (sym w.in-None.is) (grows_none h l c.args.c c.loop-s.words c.match-shared_class.words w.words-is)) c.loop-s.invariant
     ]
 
 pub returns : goal.returns

@@ -1,6 +1,6 @@
 use Rattle.std.proofs.Common.{◌≡◌, ℕ, Option, Some, None, subst, sym, ◌∙◌, arith}
 use Rattle.std.specs.Prelude.{IsSome}
-use Rattle.byte_machine.specs.invariants.States.{fixed_by, running_of, refusal}
+use Rattle.byte_machine.specs.invariants.States.{fixed_by, running_of, refusal_stop}
 use Rattle.byte_machine.specs.Running.{Running, Returned, Goes}
 use Rattle.byte_machine.specs.Calls.{result_checked, result_moved, returned_to, returned_with}
 use Rattle.byte_machine.specs.Runs.{Did, Allows}
@@ -12,7 +12,7 @@ unwrap-word-requires g c =
     let f = fixed_by c.args.setup.now in
     let s = running_of c.args.running.now in
     let word = c.operand-word.result in
-    let passes : Did f (result_checked s word s.top.kept.class c.args.class (Goes s)) s s None = subst (λ (r : Option ℕ). Did f (result_checked s word s.top.kept.class c.args.class (Goes s)) s s (refusal s.line r)) c.in_default.is c.check_result.ensures.did in
+    let passes : Did f (result_checked s word s.top.kept.class c.args.class (Goes s)) s s None = subst (λ (r : Option ℕ). Did f (result_checked s word s.top.kept.class c.args.class (Goes s)) s s (refusal_stop s.line r)) c.in_default.is c.check_result.ensures.did in
     let moves : result_moved f s word ≡ c.moved_result.result = subst (λ (t : Running). result_moved f t word ≡ c.moved_result.result) c.check_result.ensures.same (sym c.moved_result.ensures) in
     let may = returned_allows f s c.args.from c.args.class word (λ next. Unit {0}) c.requires.allowed (omega arith) c.operand-word.ensures passes in
     subst (λ (o : Option (Option ℕ)). IsSome o) moves (moved_there f s (result_moved f s word) (λ next. Unit {0}) may)
@@ -22,7 +22,7 @@ leave-finish-requires g c =
     let f = fixed_by c.args.setup.now in
     let s = running_of c.args.running.now in
     let word = c.operand-word.result in
-    let passes : Did f (result_checked s word s.top.kept.class c.args.class (Goes s)) s s None = subst (λ (r : Option ℕ). Did f (result_checked s word s.top.kept.class c.args.class (Goes s)) s s (refusal s.line r)) c.in_default.is c.check_result.ensures.did in
+    let passes : Did f (result_checked s word s.top.kept.class c.args.class (Goes s)) s s None = subst (λ (r : Option ℕ). Did f (result_checked s word s.top.kept.class c.args.class (Goes s)) s s (refusal_stop s.line r)) c.in_default.is c.check_result.ensures.did in
     let moves : result_moved f s word ≡ Some c.unwrap-word.result = subst (λ (t : Running). result_moved f t word ≡ Some c.unwrap-word.result) c.check_result.ensures.same (sym c.moved_result.ensures ∙ c.unwrap-word.ensures) in
     let may = returned_allows f s c.args.from c.args.class word (λ next. Unit {0}) c.requires.allowed (omega arith) c.operand-word.ensures passes in
     let given : Allows f (returned_to s c.unwrap-word.result s.below) s (λ next. Unit {0}) = subst (λ (o : Option (Option ℕ)). Allows f (returned_with s o) s (λ next. Unit {0})) moves may in
@@ -34,7 +34,7 @@ returns-clause-did g c =
     let s = running_of c.args.running.now in
     let new = running_of c.leave-finish.new.running in
     let word = c.operand-word.result in
-    let passes : Did f (result_checked s word s.top.kept.class c.args.class (Goes s)) s s None = subst (λ (r : Option ℕ). Did f (result_checked s word s.top.kept.class c.args.class (Goes s)) s s (refusal s.line r)) c.in_default.is c.check_result.ensures.did in
+    let passes : Did f (result_checked s word s.top.kept.class c.args.class (Goes s)) s s None = subst (λ (r : Option ℕ). Did f (result_checked s word s.top.kept.class c.args.class (Goes s)) s s (refusal_stop s.line r)) c.in_default.is c.check_result.ensures.did in
     let moves : result_moved f s word ≡ Some c.unwrap-word.result = subst (λ (t : Running). result_moved f t word ≡ Some c.unwrap-word.result) c.check_result.ensures.same (sym c.moved_result.ensures ∙ c.unwrap-word.ensures) in
     let left : Did f (returned_to s c.unwrap-word.result s.below) s new (Some (Returned c.leave-finish.result)) = subst (λ (t : Running). Did f (returned_to t c.unwrap-word.result t.below) t new (Some (Returned c.leave-finish.result))) c.check_result.ensures.same c.leave-finish.ensures.did in
     returned_did f s new c.args.from c.args.class word c.unwrap-word.result (Some (Returned c.leave-finish.result)) (λ next. Unit {0}) c.requires.allowed (omega arith) c.operand-word.ensures passes moves left

@@ -3,11 +3,11 @@ use Rattle.std.specs.Prelude.{if◌then◌else◌}
 use Rattle.cxx_hierarchy.specs.declared.records.ClassId.{ClassId}
 use Rattle.cxx_subobject.specs.declared.Root.TheVariants.{Whole}
 use Rattle.cxx_subobject.specs.Subobjects.{subobject}
-use Rattle.abi_sound.specs.Places.{places_of, place_of}
+use Rattle.abi_sound.specs.Places.{places_of, place_in_class}
 use Rattle.code_ops.specs.Setups.{setup}
 use Rattle.code_ops.specs.Routines.{start_by}
 use Rattle.abi_vtt.specs.Blocks.{block_distance}
-use Rattle.abi_vtt.specs.Vtts.{has_virtual}
+use Rattle.abi_vtt.specs.Vtts.{has_vtt}
 use Rattle.code_plans.specs.invariants.Frames.{base_frame}
 use Rattle.code_plans.proofs.Known.{base_known, base_whole}
 use Rattle.code_plans.proofs.OpeningNumbers.{frame_same}
@@ -26,8 +26,8 @@ returns g c = λ base e.
     let l = places_of h rows in
     let at = start_by (setup h rows c.args.site.now.program.now) c.args.site.now.numbers.now in
     let plan = c.args.plan in
-    let whole = place_of h rows plan.class (subobject Whole (plan.class ∷ c.args.b ∷ [])) in
-    let vtt_of = λ (b : ClassId). if has_virtual h b then Some (block_distance h l plan.class b) else None in
+    let whole = place_in_class h rows plan.class (subobject Whole (plan.class ∷ c.args.b ∷ [])) in
+    let vtt_of = λ (b : ClassId). if has_vtt h b then Some (block_distance h l plan.class b) else None in
     let at_b = frame_same at plan c.args.b c.place-place.result whole c.base_vtt.result (vtt_of c.args.b) c.frame.result (c.frame.ensures rows)
-    (c.place-place.ensures ∙ ap (λ path. place_of h rows plan.class (subobject Whole path)) c.in_ok-longer_path.ensures) c.base_vtt.ensures in
-    subst (λ b. c.frame.result ≡ base_frame at plan b (place_of h rows plan.class (subobject Whole (plan.class ∷ b ∷ []))) (vtt_of b)) (sym e) at_b
+    (c.place-place.ensures ∙ ap (λ path. place_in_class h rows plan.class (subobject Whole path)) c.in_ok-longer_path.ensures) c.base_vtt.ensures in
+    subst (λ b. c.frame.result ≡ base_frame at plan b (place_in_class h rows plan.class (subobject Whole (plan.class ∷ b ∷ []))) (vtt_of b)) (sym e) at_b

@@ -3,7 +3,7 @@ use Rattle.std.specs.Prelude.{Contains}
 use Rattle.cxx_overrider.specs.declared.FunctionId.{FunctionId}
 use Rattle.cxx_overrider.specs.Virtuals.{own}
 use Rattle.cxx_search.specs.Searches.{destructor_of}
-use Rattle.abi_slots.specs.Listing.{entries, entry_number, listing, same_key}
+use Rattle.abi_slots.specs.Listing.{entries, entry_number, listing, same_entry_key}
 use Rattle.abi_slots.specs.Slots.{first_key}
 use Rattle.abi_slots.proofs.EntryPlaces.{place_within}
 use Rattle.code_ops.specs.invariants.Sites.{site_places}
@@ -18,7 +18,7 @@ overflow_add-result g c =
     let is : f ≡ destructor_of h c.args.c = c.destructor_of.ensures in
     let listed : Contains (own h f.class) f = subst (λ (e : FunctionId). Contains (own h e.class) e) (sym is) (own_end h c.requires.laid.site.keeps c.args.c c.requires.is_virtual) in
     let entry : c.entry.result ≡ entry_number h l (first_key h f) = c.entry.ensures h l c.requires.laid.site.are_slots listed in
-    let low : entry_number h l (first_key h f) ≤ length (entries h l f.class) = place_within (same_key (listing h l (first_key h f))) (entries h l f.class) in
+    let low : entry_number h l (first_key h f) ≤ length (entries h l f.class) = place_within (same_entry_key (listing h l (first_key h f))) (entries h l f.class) in
     let size : length c.entries-entries.result.now ≡ length (entries h l c.args.c) = ap (λ (xs : _). length xs) (c.entries-entries.ensures.entries h l c.requires.laid.site.are_slots c.requires.known) in
     let class : length (entries h l f.class) ≡ length (entries h l c.args.c) = ap (λ (e : FunctionId). length (entries h l e.class)) is in
     let few = c.entries-entries.ensures.few in

@@ -6,7 +6,7 @@ use Rattle.cxxabi_words.specs.invariants.Few.{HasFew}
 use Rattle.cxxabi_cmd.specs.Commands.{IsOnBytes}
 use Rattle.cxxabi_cmd.specs.declared.listing.Listing.TheVariants.{OfLayout, OfTables}
 use Rattle.cxxabi_cmd.specs.Output.{Yields, counted, count_answer, first_classes, all_layouts, one_layout, all_tables, one_tables, named_layout, named_tables}
-use Rattle.cxxabi_cmd.specs.invariants.Replies.{answer_of, machine_of, HandsBy}
+use Rattle.cxxabi_cmd.specs.invariants.Replies.{as_answer, machine_of, HandsBy}
 use Rattle.cxxabi_cmd.proofs.AnswerLemmas.{at_each, yields, hands_none, runs_no_array, runs_no_layout, runs_no_member, runs_no_tables, runs_no_dump}
 use Rattle.cxxabi_cmd.proofs.ClassReplies.{yields_array, yields_member, yields_dump}
 use Rattle.cxxabi_cmd.proofs.ReplyLemmas.{yields_all, yields_one}
@@ -22,7 +22,7 @@ returns-in-Layout-clause-yields c =
     let h = c.args.accepted.now.hierarchy in
     let source = c.args.accepted.now.source in
     let typed = c.args.accepted.now.program in
-    subst (λ (d : Command). IfOk c.list_all.result (λ reply. Yields c.args.front.now c.args.size source h typed d (answer_of reply))) (sym c.in-Layout.is)
+    subst (λ (d : Command). IfOk c.list_all.result (λ reply. Yields c.args.front.now c.args.size source h typed d (as_answer reply))) (sym c.in-Layout.is)
     (yields_all c.list_all.result c.args.front.now c.args.size source h typed Layout OfLayout (first_classes (length h)) all_layouts c.list_all.ensures.lists)
 
 pub returns-in-LayoutOf-clause-yields : goal.returns-in-LayoutOf-clause-yields
@@ -31,8 +31,8 @@ returns-in-LayoutOf-clause-yields c =
     let source = c.args.accepted.now.source in
     let typed = c.args.accepted.now.program in
     let name = c.as_slice.result.now in
-    subst (λ (d : Command). IfOk c.list_one.result (λ reply. Yields c.args.front.now c.args.size source h typed d (answer_of reply))) (sym c.in-LayoutOf.is)
-    (subst (λ (n : List ℕ). IfOk c.list_one.result (λ reply. Yields c.args.front.now c.args.size source h typed (LayoutOf n) (answer_of reply))) c.as_slice.ensures
+    subst (λ (d : Command). IfOk c.list_one.result (λ reply. Yields c.args.front.now c.args.size source h typed d (as_answer reply))) (sym c.in-LayoutOf.is)
+    (subst (λ (n : List ℕ). IfOk c.list_one.result (λ reply. Yields c.args.front.now c.args.size source h typed (LayoutOf n) (as_answer reply))) c.as_slice.ensures
     (yields_one c.list_one.result c.args.front.now c.args.size source h typed (LayoutOf name) OfLayout name (named_layout name) (one_layout name) c.list_one.ensures.lists))
 
 pub returns-in-Tables-clause-yields : goal.returns-in-Tables-clause-yields
@@ -40,7 +40,7 @@ returns-in-Tables-clause-yields c =
     let h = c.args.accepted.now.hierarchy in
     let source = c.args.accepted.now.source in
     let typed = c.args.accepted.now.program in
-    subst (λ (d : Command). IfOk c.list_all-in-Tables.result (λ reply. Yields c.args.front.now c.args.size source h typed d (answer_of reply))) (sym c.in-Tables.is)
+    subst (λ (d : Command). IfOk c.list_all-in-Tables.result (λ reply. Yields c.args.front.now c.args.size source h typed d (as_answer reply))) (sym c.in-Tables.is)
     (yields_all c.list_all-in-Tables.result c.args.front.now c.args.size source h typed Tables OfTables (first_classes (length h)) all_tables c.list_all-in-Tables.ensures.lists)
 
 pub returns-in-TablesOf-clause-yields : goal.returns-in-TablesOf-clause-yields
@@ -49,8 +49,8 @@ returns-in-TablesOf-clause-yields c =
     let source = c.args.accepted.now.source in
     let typed = c.args.accepted.now.program in
     let name = c.as_slice-in-TablesOf.result.now in
-    subst (λ (d : Command). IfOk c.list_one-in-TablesOf.result (λ reply. Yields c.args.front.now c.args.size source h typed d (answer_of reply))) (sym c.in-TablesOf.is)
-    (subst (λ (n : List ℕ). IfOk c.list_one-in-TablesOf.result (λ reply. Yields c.args.front.now c.args.size source h typed (TablesOf n) (answer_of reply))) c.as_slice-in-TablesOf.ensures
+    subst (λ (d : Command). IfOk c.list_one-in-TablesOf.result (λ reply. Yields c.args.front.now c.args.size source h typed d (as_answer reply))) (sym c.in-TablesOf.is)
+    (subst (λ (n : List ℕ). IfOk c.list_one-in-TablesOf.result (λ reply. Yields c.args.front.now c.args.size source h typed (TablesOf n) (as_answer reply))) c.as_slice-in-TablesOf.ensures
     (yields_one c.list_one-in-TablesOf.result c.args.front.now c.args.size source h typed (TablesOf name) OfTables name (named_tables name) (one_tables name) c.list_one-in-TablesOf.ensures.lists))
 
 pub run_on_bytes-requires-clause-few : goal.run_on_bytes-requires-clause-few
@@ -61,8 +61,8 @@ returns-in-Run-clause-yields c =
     let h = c.args.accepted.now.hierarchy in
     let source = c.args.accepted.now.source in
     let typed = c.args.accepted.now.program in
-    subst (λ (d : Command). IfOk c.run_on_bytes.result (λ reply. Yields c.args.front.now c.args.size source h typed d (answer_of reply))) (sym c.in-Run.is)
-    (at_each c.run_on_bytes.result (λ f reply. Yields f c.args.size source h typed _ (answer_of reply)) c.args.front.now c.run_on_bytes.ensures.yields)
+    subst (λ (d : Command). IfOk c.run_on_bytes.result (λ reply. Yields c.args.front.now c.args.size source h typed d (as_answer reply))) (sym c.in-Run.is)
+    (at_each c.run_on_bytes.result (λ f reply. Yields f c.args.size source h typed _ (as_answer reply)) c.args.front.now c.run_on_bytes.ensures.yields)
 
 pub returns-in-Run-clause-machine : goal.returns-in-Run-clause-machine
 returns-in-Run-clause-machine c =
@@ -80,8 +80,8 @@ returns-in-Paths-clause-yields c =
     let h = c.args.accepted.now.hierarchy in
     let source = c.args.accepted.now.source in
     let typed = c.args.accepted.now.program in
-    subst (λ (d : Command). IfOk c.run_on_paths.result (λ reply. Yields c.args.front.now c.args.size source h typed d (answer_of reply))) (sym c.in-Paths.is)
-    (at_each c.run_on_paths.result (λ f reply. Yields f c.args.size source h typed _ (answer_of reply)) c.args.front.now c.run_on_paths.ensures.yields)
+    subst (λ (d : Command). IfOk c.run_on_paths.result (λ reply. Yields c.args.front.now c.args.size source h typed d (as_answer reply))) (sym c.in-Paths.is)
+    (at_each c.run_on_paths.result (λ f reply. Yields f c.args.size source h typed _ (as_answer reply)) c.args.front.now c.run_on_paths.ensures.yields)
 
 pub returns-in-Paths-clause-machine : goal.returns-in-Paths-clause-machine
 returns-in-Paths-clause-machine c =
@@ -93,9 +93,9 @@ returns-in-Gen-clause-yields c =
     let h = c.args.accepted.now.hierarchy in
     let source = c.args.accepted.now.source in
     let typed = c.args.accepted.now.program in
-    subst (λ (d : Command). IfOk c.run_generated.result (λ reply. Yields c.args.front.now c.args.size source h typed d (answer_of reply))) (sym c.in-Gen.is)
-    (at_each c.run_generated.result (λ f reply. Yields f c.args.size source h typed (Gen c.in-Gen.field-0) (answer_of reply)) c.args.front.now
-    (at_each c.run_generated.result (λ n reply. (f : List ℕ) → Yields f c.args.size source h typed (Gen n) (answer_of reply)) c.in-Gen.field-0 c.run_generated.ensures.yields))
+    subst (λ (d : Command). IfOk c.run_generated.result (λ reply. Yields c.args.front.now c.args.size source h typed d (as_answer reply))) (sym c.in-Gen.is)
+    (at_each c.run_generated.result (λ f reply. Yields f c.args.size source h typed (Gen c.in-Gen.field-0) (as_answer reply)) c.args.front.now
+    (at_each c.run_generated.result (λ n reply. (f : List ℕ) → Yields f c.args.size source h typed (Gen n) (as_answer reply)) c.in-Gen.field-0 c.run_generated.ensures.yields))
 
 pub returns-in-Gen-clause-machine : goal.returns-in-Gen-clause-machine
 returns-in-Gen-clause-machine c =
@@ -129,8 +129,8 @@ returns-in-Array-clause-yields c =
     let typed = c.args.accepted.now.program in
     let name = c.as_slice-in-Array.result.now in
     let count = c.in-Array.count in
-    subst (λ (d : Command). IfOk c.array_of.result (λ reply. Yields c.args.front.now c.args.size source h typed d (answer_of reply))) (sym c.in-Array.is)
-    (subst (λ (n : List ℕ). IfOk c.array_of.result (λ reply. Yields c.args.front.now c.args.size source h typed (Array n count) (answer_of reply))) c.as_slice-in-Array.ensures
+    subst (λ (d : Command). IfOk c.array_of.result (λ reply. Yields c.args.front.now c.args.size source h typed d (as_answer reply))) (sym c.in-Array.is)
+    (subst (λ (n : List ℕ). IfOk c.array_of.result (λ reply. Yields c.args.front.now c.args.size source h typed (Array n count) (as_answer reply))) c.as_slice-in-Array.ensures
     (yields_array c.array_of.result c.args.front.now c.args.size source h typed name count c.array_of.ensures.reply))
 
 pub returns-in-Array-clause-machine : goal.returns-in-Array-clause-machine
@@ -143,7 +143,7 @@ returns-in-MemberPointer-clause-yields c =
     let h = c.args.accepted.now.hierarchy in
     let source = c.args.accepted.now.source in
     let typed = c.args.accepted.now.program in
-    subst (λ (d : Command). IfOk c.member_of.result (λ reply. Yields c.args.front.now c.args.size source h typed d (answer_of reply))) (sym c.in-MemberPointer.is)
+    subst (λ (d : Command). IfOk c.member_of.result (λ reply. Yields c.args.front.now c.args.size source h typed d (as_answer reply))) (sym c.in-MemberPointer.is)
     (yields_member c.member_of.result c.args.front.now c.args.size source h typed _ c.member_of.ensures.reply)
 
 pub returns-in-MemberPointer-clause-machine : goal.returns-in-MemberPointer-clause-machine
@@ -156,7 +156,7 @@ returns-in-Inspect-clause-yields c =
     let h = c.args.accepted.now.hierarchy in
     let source = c.args.accepted.now.source in
     let typed = c.args.accepted.now.program in
-    subst (λ (d : Command). IfOk c.inspect_dump.result (λ reply. Yields c.args.front.now c.args.size source h typed d (answer_of reply))) (sym c.in-Inspect.is)
+    subst (λ (d : Command). IfOk c.inspect_dump.result (λ reply. Yields c.args.front.now c.args.size source h typed d (as_answer reply))) (sym c.in-Inspect.is)
     (yields_dump c.inspect_dump.result c.args.front.now c.args.size source h typed c.inspect_dump.ensures.reply)
 
 pub returns-in-Inspect-clause-machine : goal.returns-in-Inspect-clause-machine
@@ -172,7 +172,7 @@ returns-in-Foreign-clause-yields c =
     let h = c.args.accepted.now.hierarchy in
     let source = c.args.accepted.now.source in
     let typed = c.args.accepted.now.program in
-    subst (λ (d : Command). IfOk c.run_foreign.result (λ reply. Yields c.args.front.now c.args.size source h typed d (answer_of reply))) (sym c.in-Foreign.is) c.run_foreign.ensures.yields
+    subst (λ (d : Command). IfOk c.run_foreign.result (λ reply. Yields c.args.front.now c.args.size source h typed d (as_answer reply))) (sym c.in-Foreign.is) c.run_foreign.ensures.yields
 
 pub returns-in-Foreign-clause-machine : goal.returns-in-Foreign-clause-machine
 returns-in-Foreign-clause-machine c =

@@ -3,7 +3,7 @@ use Rattle.cxxabi_words.specs.declared.command.Command.{Command}
 use Rattle.cxxabi_words.specs.Commands.{Says}
 use Rattle.cxxabi_words.proofs.CommandLaws.{one_command}
 use Rattle.cxxabi_cmd.specs.Commands.{ReadsSource, input_of}
-use Rattle.cxxabi_cmd.specs.invariants.Replies.{IsRead}
+use Rattle.cxxabi_cmd.specs.invariants.Replies.{IsReadToLimit}
 use Rattle.cxxabi_words.proofs.CommandLaws.{few_said}
 use Rattle.cxxabi_cmd.proofs.OutputLemmas.{usage_output, usage_machine, no_command, the_command}
 use Rattle.cxxabi_cmd.proofs.run.respond.Goals as goal
@@ -22,12 +22,12 @@ returns-in_default-clause-read g c = λ command says reads. absurd (no_command c
 pub returns-clause-output : goal.returns-clause-output
 returns-clause-output g c = λ bytes told.
     let says : Says (map string_bytes c.args.words.now) c.in-Some.command = the_command c.in_ok-command.field-0 c.in-Some.command _ _ c.in_ok-command.ensures c.in-Some.is in
-    c.in_ok-reply_within.ensures.output (map string_bytes c.args.words.now) bytes says (subst (λ (b : List ℕ). IsRead b (input_of c.in-Some.command bytes)) (sym c.deref.ensures.value) (c.in_ok-bytes.ensures.read bytes (told c.in-Some.command says)))
+    c.in_ok-reply_within.ensures.output (map string_bytes c.args.words.now) bytes says (subst (λ (b : List ℕ). IsReadToLimit b (input_of c.in-Some.command bytes)) (sym c.deref.ensures.value) (c.in_ok-bytes.ensures.read bytes (told c.in-Some.command says)))
 
 pub returns-clause-machine : goal.returns-clause-machine
 returns-clause-machine g c = λ bytes told.
     let says : Says (map string_bytes c.args.words.now) c.in-Some.command = the_command c.in_ok-command.field-0 c.in-Some.command _ _ c.in_ok-command.ensures c.in-Some.is in
-    c.in_ok-reply_within.ensures.machine (map string_bytes c.args.words.now) bytes says (subst (λ (b : List ℕ). IsRead b (input_of c.in-Some.command bytes)) (sym c.deref.ensures.value) (c.in_ok-bytes.ensures.read bytes (told c.in-Some.command says)))
+    c.in_ok-reply_within.ensures.machine (map string_bytes c.args.words.now) bytes says (subst (λ (b : List ℕ). IsReadToLimit b (input_of c.in-Some.command bytes)) (sym c.deref.ensures.value) (c.in_ok-bytes.ensures.read bytes (told c.in-Some.command says)))
 
 pub reply_within-requires : goal.reply_within-requires
 reply_within-requires g c = record {

@@ -8,7 +8,7 @@ use Rattle.cxxabi_words.specs.Commands.{most_steps}
 use Rattle.cxxabi_cmd.specs.declared.status.Status.TheVariants.{Refused}
 use Rattle.cxxabi_cmd.specs.Commands.{by_gen}
 use Rattle.cxxabi_cmd.specs.Output.{IsRunAnswer, Yields, line_alone, no_main}
-use Rattle.cxxabi_cmd.specs.invariants.Replies.{answer_of, machine_of, HandsBy}
+use Rattle.cxxabi_cmd.specs.invariants.Replies.{as_answer, machine_of, HandsBy}
 use Rattle.cxxabi_cmd.proofs.AnswerLemmas.{for_each, at_each, yields, hands_none, hands_machine}
 use Rattle.cxxabi_cmd.proofs.LaidRows.{is_laid}
 use Rattle.cxxabi_cmd.proofs.ReplyLemmas.{is_missing, is_there}
@@ -20,8 +20,8 @@ returns-then-is_none-clause-yields c =
     let h = c.args.accepted.now.hierarchy in
     let source = c.args.accepted.now.source in
     let typed = c.args.accepted.now.program in
-    for_each c.line_alone.result 0 (λ n reply. (front : List ℕ) → Yields front c.args.size source h typed (Gen n) (answer_of reply))
-    (λ n. for_each c.line_alone.result [] (λ front reply. Yields front c.args.size source h typed (Gen n) (answer_of reply))
+    for_each c.line_alone.result 0 (λ n reply. (front : List ℕ) → Yields front c.args.size source h typed (Gen n) (as_answer reply))
+    (λ n. for_each c.line_alone.result [] (λ front reply. Yields front c.args.size source h typed (Gen n) (as_answer reply))
     (λ front. yields c.line_alone.result front c.args.size source h typed (Gen n) (line_alone (Refused UnknownName c.args.size)) c.line_alone.ensures.answer
     (no_main (Gen n) most_steps false (by_gen n) (is_missing source.main c.is_none.result c.is_none.ensures c.if-is_none.true))))
 
@@ -47,10 +47,10 @@ returns-clause-yields c =
     let typed = c.args.accepted.now.program in
     let source = c.args.accepted.now.source in
     let there = is_there source.main c.is_none.result c.is_none.ensures c.if-is_none.false in
-    for_each c.generated_by_bytes.result 0 (λ n reply. (front : List ℕ) → Yields front c.args.size source h typed (Gen n) (answer_of reply))
-    (λ n. for_each c.generated_by_bytes.result [] (λ front reply. Yields front c.args.size source h typed (Gen n) (answer_of reply))
+    for_each c.generated_by_bytes.result 0 (λ n reply. (front : List ℕ) → Yields front c.args.size source h typed (Gen n) (as_answer reply))
+    (λ n. for_each c.generated_by_bytes.result [] (λ front reply. Yields front c.args.size source h typed (Gen n) (as_answer reply))
     (λ front. yields_ended c.generated_by_bytes.result front c.args.size source h rows typed (Gen n) most_steps false there.tree (by_gen n)
-    (at_each c.generated_by_bytes.result (λ k reply. IsRunAnswer (Gen k) h rows typed false most_steps (answer_of reply)) n c.generated_by_bytes.ensures.answer) there.is (is_laid h rows c.requires.ready.layout)))
+    (at_each c.generated_by_bytes.result (λ k reply. IsRunAnswer (Gen k) h rows typed false most_steps (as_answer reply)) n c.generated_by_bytes.ensures.answer) there.is (is_laid h rows c.requires.ready.layout)))
 
 pub returns-clause-machine : goal.returns-clause-machine
 returns-clause-machine c =

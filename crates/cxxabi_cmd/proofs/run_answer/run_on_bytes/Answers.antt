@@ -6,7 +6,7 @@ use Rattle.cxxabi_words.specs.declared.command.Command.TheVariants.{Run}
 use Rattle.cxxabi_cmd.specs.declared.status.Status.TheVariants.{Refused}
 use Rattle.cxxabi_cmd.specs.Commands.{by_run}
 use Rattle.cxxabi_cmd.specs.Output.{Yields, line_alone, no_main}
-use Rattle.cxxabi_cmd.specs.invariants.Replies.{answer_of, machine_of, HandsBy}
+use Rattle.cxxabi_cmd.specs.invariants.Replies.{as_answer, machine_of, HandsBy}
 use Rattle.cxxabi_cmd.proofs.AnswerLemmas.{for_each, yields, hands_none, hands_machine}
 use Rattle.cxxabi_cmd.proofs.LaidRows.{is_laid}
 use Rattle.cxxabi_cmd.proofs.ReplyLemmas.{is_missing, is_there}
@@ -18,7 +18,7 @@ returns-then-is_none-clause-yields c =
     let h = c.args.accepted.now.hierarchy in
     let source = c.args.accepted.now.source in
     let command = Run c.args.steps c.args.trace in
-    for_each c.line_alone.result [] (λ front reply. Yields front c.args.size source h c.args.accepted.now.program command (answer_of reply))
+    for_each c.line_alone.result [] (λ front reply. Yields front c.args.size source h c.args.accepted.now.program command (as_answer reply))
     (λ front. yields c.line_alone.result front c.args.size source h c.args.accepted.now.program command (line_alone (Refused UnknownName c.args.size)) c.line_alone.ensures.answer
     (no_main command c.args.steps c.args.trace (by_run c.args.steps c.args.trace) (is_missing source.main c.is_none.result c.is_none.ensures c.if-is_none.true)))
 
@@ -44,7 +44,7 @@ returns-clause-yields c =
     let command = Run c.args.steps c.args.trace in
     let there = is_there source.main c.is_none.result c.is_none.ensures c.if-is_none.false in
     let answered = at_command c.run_by_bytes.result command h rows typed c.args.trace c.args.steps (λ e sums. sums) c.run_by_bytes.ensures.answer in
-    for_each c.run_by_bytes.result [] (λ front reply. Yields front c.args.size source h typed command (answer_of reply))
+    for_each c.run_by_bytes.result [] (λ front reply. Yields front c.args.size source h typed command (as_answer reply))
     (λ front. yields_ended c.run_by_bytes.result front c.args.size source h rows typed command c.args.steps c.args.trace there.tree (by_run c.args.steps c.args.trace) answered there.is (is_laid h rows c.requires.ready.layout))
 
 pub returns-clause-machine : goal.returns-clause-machine

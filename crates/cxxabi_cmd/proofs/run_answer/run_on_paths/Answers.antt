@@ -7,7 +7,7 @@ use Rattle.cxxabi_words.specs.declared.command.Command.TheVariants.{Paths}
 use Rattle.cxxabi_cmd.specs.declared.status.Status.TheVariants.{Refused}
 use Rattle.cxxabi_cmd.specs.Commands.{by_paths}
 use Rattle.cxxabi_cmd.specs.Output.{Yields, line_alone, no_main}
-use Rattle.cxxabi_cmd.specs.invariants.Replies.{answer_of}
+use Rattle.cxxabi_cmd.specs.invariants.Replies.{as_answer}
 use Rattle.cxxabi_cmd.proofs.AnswerLemmas.{for_each, yields}
 use Rattle.cxxabi_cmd.proofs.LaidRows.{is_laid}
 use Rattle.cxxabi_cmd.proofs.ReplyLemmas.{is_missing, is_there}
@@ -19,7 +19,7 @@ returns-then-is_none-clause-yields c =
     let h = c.args.accepted.now.hierarchy in
     let source = c.args.accepted.now.source in
     let command = Paths c.args.steps in
-    for_each c.line_alone.result [] (λ front reply. Yields front c.args.size source h c.args.accepted.now.program command (answer_of reply))
+    for_each c.line_alone.result [] (λ front reply. Yields front c.args.size source h c.args.accepted.now.program command (as_answer reply))
     (λ front. yields c.line_alone.result front c.args.size source h c.args.accepted.now.program command (line_alone (Refused UnknownName c.args.size)) c.line_alone.ensures.answer
     (no_main command c.args.steps false (by_paths c.args.steps) (is_missing source.main c.is_none.result c.is_none.ensures c.if-is_none.true)))
 
@@ -35,5 +35,5 @@ returns-clause-yields c =
     let typed = c.args.accepted.now.program in
     let command = Paths c.args.steps in
     let there = is_there source.main c.is_none.result c.is_none.ensures c.if-is_none.false in
-    for_each c.run_by_paths.result [] (λ front reply. Yields front c.args.size source h typed command (answer_of reply))
+    for_each c.run_by_paths.result [] (λ front reply. Yields front c.args.size source h typed command (as_answer reply))
     (λ front. yields_ended c.run_by_paths.result front c.args.size source h rows typed command c.args.steps false there.tree (by_paths c.args.steps) c.run_by_paths.ensures.answer there.is (is_laid h rows c.requires.ready.layout))

@@ -5,7 +5,7 @@ use Rattle.cxx_program.specs.Typed.{place_width}
 use Rattle.path_plan.specs.Places.{ObjectPart}
 use Rattle.path_model.specs.Values.{Value, Pointer, argument_value}
 use Rattle.path_model.specs.Places.{leaf_at}
-use Rattle.path_model.specs.Uses.{Use, place_uses, argument_uses}
+use Rattle.path_model.specs.Uses.{StatementUse, place_uses, argument_uses}
 use Rattle.path_model.specs.Effects.{leaf_set}
 use Rattle.path_heap.specs.declared.state.Value.TheVariants.{Pointer as PointerCode}
 use Rattle.path_heap.specs.Stands.{HeapStands, Means}
@@ -21,8 +21,8 @@ returns-in_ok-set_leaf c = λ e s w p scene seen typed clear named.
     let x = c.args.x.now in
     let cs = s.objects.classes in
     let is = write_typed h e (Write place x) typed place x refl in
-    let us : List Use = place_uses s place in
-    let vs : List Use = argument_uses s x in
+    let us : List StatementUse = place_uses s place in
+    let vs : List StatementUse = argument_uses s x in
     let r = place_ready h e s seen place (ValueField is.type) is.is_place (clear_front h s.objects us vs clear) in
     let q = r.names.part in
     let at = subst (λ (z : Value). Means h cs (PointerCode c.in-Pointer.n) z) r.names.is (c.in-Pointer.ensures h c.args.heap.now s scene) in

@@ -5,7 +5,7 @@ use Rattle.cxx_hierarchy.specs.declared.records.ClassId.{ClassId}
 use Rattle.path_plan.specs.Places.{shared_part}
 use Rattle.path_plan.specs.Plans.{Form, InFull, AsBase, virtual_order}
 use Rattle.path_plan.specs.Pieces.{Sub}
-use Rattle.path_model.specs.States.{bodies_of}
+use Rattle.path_model.specs.States.{plan_bodies}
 use Rattle.path_events.specs.declared.frame.Stage.TheVariants.{Shared as SharedStage}
 use Rattle.path_events.specs.Frames.{StandsAs, form_of, left_of}
 use Rattle.path_events.proofs.Building.{shared_one}
@@ -22,8 +22,8 @@ returns-in-Some c = λ program classes p is stands.
     record {
       q = shared_part p v;
       stands = c.shared_kid-kid.ensures.part classes p (subst (λ (f : Form). StandsAs h classes c.args.course.now.frame.part f p) full stands);
-      is = ap (λ (f : Form). left_of h (bodies_of program) true f class p (SharedStage c.args.j)) full
-          ∙ (shared_one h (bodies_of program) class p c.args.j v at
-          ∙ (ap (λ (t : ClassId). Sub AsBase t (shared_part p v) ∷ left_of h (bodies_of program) true InFull class p (SharedStage (c.args.j + 1))) (sym c.shared_kid-kid.ensures.class)
-          ∙ ap (λ (f : Form). Sub AsBase c.shared_kid-kid.result.class (shared_part p v) ∷ left_of h (bodies_of program) true f class p (SharedStage (c.args.j + 1))) (sym full)));
+      is = ap (λ (f : Form). left_of h (plan_bodies program) true f class p (SharedStage c.args.j)) full
+          ∙ (shared_one h (plan_bodies program) class p c.args.j v at
+          ∙ (ap (λ (t : ClassId). Sub AsBase t (shared_part p v) ∷ left_of h (plan_bodies program) true InFull class p (SharedStage (c.args.j + 1))) (sym c.shared_kid-kid.ensures.class)
+          ∙ ap (λ (f : Form). Sub AsBase c.shared_kid-kid.result.class (shared_part p v) ∷ left_of h (plan_bodies program) true f class p (SharedStage (c.args.j + 1))) (sym full)));
     }

@@ -1,8 +1,8 @@
 use Rattle.std.proofs.Common.{◌≡◌, subst, sym, ap, ◌∙◌, ◌+◌, Some, None}
 use Rattle.std.specs.Prelude.{slice_get}
 use Rattle.cxx_program.specs.Typed.{scope_of}
-use Rattle.path_model.specs.States.{body_of}
-use Rattle.path_model.specs.Steps.{before_kind, closed}
+use Rattle.path_model.specs.States.{owned_body}
+use Rattle.path_model.specs.Steps.{before_kind, body_closed}
 use Rattle.path_frames.specs.declared.frames.BodyFrame.{BodyFrame}
 use Rattle.path_frames.specs.Frames.{BodyStands}
 use Rattle.path_machine.specs.invariants.Steps.{size_in, StepAgrees}
@@ -17,10 +17,10 @@ returns-in_ok-done-in-None-statement_at-clause-agrees c = λ s f below t frames 
     let program = c.args.run.now.program.now in
     let seen = subst (λ (x : BodyFrame). BodyStands h s.objects.classes x f) (sym c.get-here.ensures) t.body_stands in
     let body = c.in-Some.body.now in
-    let here : body_of program f.owner ≡ Some body = ap (body_of program) (sym seen.same_owner) ∙ sym c.in-Some.ensures in
+    let here : owned_body program f.owner ≡ Some body = ap (owned_body program) (sym seen.same_owner) ∙ sym c.in-Some.ensures in
     let at : slice_get body.statements f.next ≡ None = ap (slice_get body.statements) (sym seen.same_next) ∙ sym c.in-None-statement_at.ensures.is in
     close_agrees h sizes program c.close.new.machine s f below body c.args.outs.now c.close.new.outs c.in_ok-done-in-None-statement_at.done here at
-    (subst (λ o. StepAgrees h sizes program (closed h program s o body.close_line below) c.close.new.machine c.args.outs.now c.close.new.outs c.in_ok-done-in-None-statement_at.done) seen.same_owner (c.in_ok-done-in-None-statement_at.ensures sizes s below t.machine_stands next.behind))
+    (subst (λ o. StepAgrees h sizes program (body_closed h program s o body.close_line below) c.close.new.machine c.args.outs.now c.close.new.outs c.in_ok-done-in-None-statement_at.done) seen.same_owner (c.in_ok-done-in-None-statement_at.ensures sizes s below t.machine_stands next.behind))
 
 pub returns-in_ok-done-in-Some-statement_at-clause-agrees : goal.returns-in_ok-done-in-Some-statement_at-clause-agrees
 returns-in_ok-done-in-Some-statement_at-clause-agrees c = λ s f below t frames next.
@@ -30,7 +30,7 @@ returns-in_ok-done-in-Some-statement_at-clause-agrees c = λ s f below t frames 
     let seen = subst (λ (x : BodyFrame). BodyStands h s.objects.classes x f) (sym c.get-here.ensures) t.body_stands in
     let body = c.in-Some.body.now in
     let statement = c.in-Some-statement_at.statement.now in
-    let here : body_of program f.owner ≡ Some body = ap (body_of program) (sym seen.same_owner) ∙ sym c.in-Some.ensures in
+    let here : owned_body program f.owner ≡ Some body = ap (owned_body program) (sym seen.same_owner) ∙ sym c.in-Some.ensures in
     let at : slice_get body.statements f.next ≡ Some statement = ap (slice_get body.statements) (sym seen.same_next) ∙ sym c.in-Some-statement_at.ensures.is in
     let g = before_kind f statement.kind in
     let taken = c.before_kind-begun.ensures h sizes program c.args.machine.now s f below t in

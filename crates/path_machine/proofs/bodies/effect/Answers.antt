@@ -1,6 +1,6 @@
 use Rattle.std.proofs.Common.{refl, subst, ap, ◌∙◌}
 use Rattle.cxx_program.specs.declared.statement.TypedKind.TheVariants.{Declare, Assign, Write, Copy, Call, Delete, If, While, Return, PrintType, PrintView}
-use Rattle.path_model.specs.Values.{value}
+use Rattle.path_model.specs.Values.{value_of_operand}
 use Rattle.path_model.specs.States.{sight}
 use Rattle.path_model.specs.Effects.{branched, block_at}
 use Rattle.path_frames.specs.declared.frames.BodyFrame.{BodyFrame}
@@ -76,7 +76,7 @@ returns-in_ok-done-in-If-clause-agrees c = λ e s f below t clear behind.
     let next = c.args.statement.now.next in
     let kind = c.args.statement.now.kind in
     let outs = c.args.outs.now in
-    does_plain h sizes program e s f below f.next next c.choose.new.machine outs outs c.in_ok-done-in-If.done kind (If c.in-If.x c.in-If.other c.in-If.behind) c.in-If.is clear refl (λ within. subst (λ n. StepAgrees h sizes program (branched (gone_on s f below next) (value (sight s f) c.in-If.x) (block_at n c.in-If.other next) (block_at c.in-If.other c.in-If.behind next)) c.choose.new.machine outs outs c.in_ok-done-in-If.done) behind (c.in_ok-done-in-If.ensures h sizes program s f below outs t))
+    does_plain h sizes program e s f below f.next next c.choose.new.machine outs outs c.in_ok-done-in-If.done kind (If c.in-If.x c.in-If.other c.in-If.behind) c.in-If.is clear refl (λ within. subst (λ n. StepAgrees h sizes program (branched (gone_on s f below next) (value_of_operand (sight s f) c.in-If.x) (block_at n c.in-If.other next) (block_at c.in-If.other c.in-If.behind next)) c.choose.new.machine outs outs c.in_ok-done-in-If.done) behind (c.in_ok-done-in-If.ensures h sizes program s f below outs t))
 
 pub returns-in_ok-done-in-While-clause-agrees : goal.returns-in_ok-done-in-While-clause-agrees
 returns-in_ok-done-in-While-clause-agrees c = λ e s f below t clear behind.
@@ -86,7 +86,7 @@ returns-in_ok-done-in-While-clause-agrees c = λ e s f below t clear behind.
     let next = c.args.statement.now.next in
     let kind = c.args.statement.now.kind in
     let outs = c.args.outs.now in
-    does_plain h sizes program e s f below f.next next c.repeat.new.machine outs outs c.in_ok-done-in-While.done kind (While c.in-While.x c.in-While.behind) c.in-While.is clear refl (λ within. subst (λ n. StepAgrees h sizes program (branched (gone_on s f below next) (value (sight s f) c.in-While.x) (block_at n c.in-While.behind f.next) next) c.repeat.new.machine outs outs c.in_ok-done-in-While.done) behind (subst (λ n. StepAgrees h sizes program (branched (gone_on s f below next) (value (sight s f) c.in-While.x) (block_at c.args.after c.in-While.behind n) next) c.repeat.new.machine outs outs c.in_ok-done-in-While.done) (ap (λ (x : BodyFrame). x.next) c.get.ensures ∙ t.body_stands.same_next) (c.in_ok-done-in-While.ensures h sizes program s f below outs t)))
+    does_plain h sizes program e s f below f.next next c.repeat.new.machine outs outs c.in_ok-done-in-While.done kind (While c.in-While.x c.in-While.behind) c.in-While.is clear refl (λ within. subst (λ n. StepAgrees h sizes program (branched (gone_on s f below next) (value_of_operand (sight s f) c.in-While.x) (block_at n c.in-While.behind f.next) next) c.repeat.new.machine outs outs c.in_ok-done-in-While.done) behind (subst (λ n. StepAgrees h sizes program (branched (gone_on s f below next) (value_of_operand (sight s f) c.in-While.x) (block_at c.args.after c.in-While.behind n) next) c.repeat.new.machine outs outs c.in_ok-done-in-While.done) (ap (λ (x : BodyFrame). x.next) c.get.ensures ∙ t.body_stands.same_next) (c.in_ok-done-in-While.ensures h sizes program s f below outs t)))
 
 pub returns-in-Return-clause-agrees : goal.returns-in-Return-clause-agrees
 returns-in-Return-clause-agrees c = λ e s f below t clear behind.

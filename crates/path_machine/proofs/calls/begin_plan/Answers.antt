@@ -1,10 +1,10 @@
 use Rattle.std.proofs.Common.{Some, ap, refl, subst, sym, ◌∙◌}
 use Rattle.std.specs.Prelude.{if◌then◌else◌}
 use Rattle.path_plan.specs.Whole.{whole_part, construction, destruction}
-use Rattle.path_model.specs.States.{bodies_of}
-use Rattle.path_heap.specs.Points.{IsPart}
+use Rattle.path_model.specs.States.{plan_bodies}
+use Rattle.path_heap.specs.Points.{StandsForPart}
 use Rattle.path_events.specs.Plans.{PlanStands}
-use Rattle.path_frames.specs.Frames.{FrameStands, IsLastOf, target_of}
+use Rattle.path_frames.specs.Frames.{FrameStands, IsLastOf, target_of_code}
 use Rattle.path_frames.specs.declared.frames.PlanFrame.{PlanFrame}
 use Rattle.path_frames.specs.declared.frames.Frame.TheVariants.{Plan}
 use Rattle.path_machine.specs.invariants.Openings.{planned}
@@ -21,14 +21,14 @@ returns c = λ sizes s k d stands made whole counts.
     let boxed = c.in_ok-boxed.ensures in
     let same = whole_class h s.objects.classes k d code whole in
     let made_code = made ∙ ap (λ x. Some x) (sym same) in
-    let whole_code = subst (λ x. IsPart h s.objects.classes code (whole_part k x)) (sym same) whole in
+    let whole_code = subst (λ x. StandsForPart h s.objects.classes code (whole_part k x)) (sym same) whole in
     let plan = c.in_ok-plan.ensures program s.objects.classes k made_code whole_code stands.heap_stands.counts.few in
-    c.in_ok-push.ensures h sizes program s (planned h program k building d (target_of c.args.target)) stands
-    (subst (λ (x : PlanFrame). FrameStands h program s.objects.classes (Plan x) (planned h program k building d (target_of c.args.target))) (sym boxed) (record {
-      plan_stands = subst (λ x. PlanStands h program s.objects.classes c.in_ok-plan.plan (if building then construction h (bodies_of program) k x else destruction h (bodies_of program) k x)) same plan;
+    c.in_ok-push.ensures h sizes program s (planned h program k building d (target_of_code c.args.target)) stands
+    (subst (λ (x : PlanFrame). FrameStands h program s.objects.classes (Plan x) (planned h program k building d (target_of_code c.args.target))) (sym boxed) (record {
+      plan_stands = subst (λ x. PlanStands h program s.objects.classes c.in_ok-plan.plan (if building then construction h (plan_bodies program) k x else destruction h (plan_bodies program) k x)) same plan;
       same_kind = refl;
       made = made_code;
       whole = whole_code;
-      ends_whole = subst (λ x. IsLastOf (whole_part k x) (if building then construction h (bodies_of program) k d else destruction h (bodies_of program) k d)) (sym same) (plan_last h (bodies_of program) k d building);
+      ends_whole = subst (λ x. IsLastOf (whole_part k x) (if building then construction h (plan_bodies program) k d else destruction h (plan_bodies program) k d)) (sym same) (plan_last h (plan_bodies program) k d building);
       same_target = refl;
     })) (ap (λ (x : PlanFrame). x.depth) boxed ∙ counts)

@@ -1,11 +1,11 @@
 use Rattle.std.proofs.Common.{◌≡◌, ◌+◌, ◌∷◌, map, subst, ◌∙◌, ap, sym}
 use Rattle.std.specs.Prelude.{IfSome}
 use Rattle.path_model.specs.Values.{argument_value}
-use Rattle.path_model.specs.Uses.{receiver}
+use Rattle.path_model.specs.Uses.{receiver_value}
 use Rattle.path_model.specs.States.{InBody, at_statement, with_frames, sight}
 use Rattle.path_model.specs.Effects.{called}
 use Rattle.path_model.specs.Runs.{call_limit}
-use Rattle.path_frames.specs.Frames.{target_of, BodyStands}
+use Rattle.path_frames.specs.Frames.{target_of_code, BodyStands}
 use Rattle.path_frames.specs.declared.frames.BodyFrame.{BodyFrame}
 use Rattle.path_machine.specs.invariants.Steps.{size_in}
 use Rattle.path_machine.specs.invariants.Openings.{Opens}
@@ -23,7 +23,7 @@ returns-then-open-ge-MOST_OPEN-clause-agrees c = λ e s f below taken calling.
     let call = c.args.call.now in
     let at = with_frames s (InBody f ∷ below) in
     let counts = ap (λ (x : BodyFrame). x.depth) c.get.ensures ∙ taken.counts in
-    call_limited h sizes program c.args.machine.now c.args.outs.now (with_frames s (InBody (at_statement f c.args.next) ∷ below)) (map (argument_value see) call.arguments) call (target_of c.args.target) (receiver see call)
+    call_limited h sizes program c.args.machine.now c.args.outs.now (with_frames s (InBody (at_statement f c.args.next) ∷ below)) (map (argument_value see) call.arguments) call (target_of_code c.args.target) (receiver_value see call)
     (call_limit at) _ (open_limited at c.get.result.now.depth counts c.if-open-ge-MOST_OPEN.true)
 
 -- src/calls.rt:51:1
@@ -35,7 +35,7 @@ returns-in-None-clause-agrees c = λ e s f below taken calling.
     let see = sight s f in
     let call = c.args.call.now in
     let frames = InBody (at_statement f c.args.next) ∷ below in
-    let next = called h program see (with_frames s frames) call (target_of c.args.target) in
+    let next = called h program see (with_frames s frames) call (target_of_code c.args.target) in
     let scene = c.scene_of-scene.ensures h sizes program s f below taken in
     nothing_opened h sizes program c.args.machine.now c.args.outs.now c.open_call.new.outs s frames next (call_limit (with_frames s (InBody f ∷ below))) _
     (subst (λ x. Opens h s frames c.args.outs.now c.open_call.new.outs x next) c.in-None.is (c.in_ok-open_call.ensures.opens e s f frames scene calling))
@@ -52,7 +52,7 @@ returns-in_ok-push-in-Some-clause-agrees c = λ e s f below taken calling.
     let at = with_frames s (InBody f ∷ below) in
     let counts = ap (λ (x : BodyFrame). x.depth) c.get.ensures ∙ taken.counts in
     let frames = InBody (at_statement f c.args.next) ∷ below in
-    let next = called h program see (with_frames s frames) call (target_of c.args.target) in
+    let next = called h program see (with_frames s frames) call (target_of_code c.args.target) in
     let code = c.in-Some.opened in
     let scene = c.scene_of-scene.ensures h sizes program s f below taken in
     let deep = subst (λ x. IfSome x (λ frame. frame.depth ≡ depth + 1)) c.in-Some.is c.in_ok-open_call.ensures.depth in

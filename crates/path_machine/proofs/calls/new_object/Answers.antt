@@ -1,10 +1,10 @@
 use Rattle.std.proofs.Common.{◌∷◌, length, refl, sym, ◌∙◌, ap}
 use Rattle.foundation.proofs.Places.{get_last}
 use Rattle.path_model.specs.States.{InBody, at_statement, with_frames, with_objects}
-use Rattle.path_model.specs.Effects.{made, building}
+use Rattle.path_model.specs.Effects.{with_new_object, building}
 use Rattle.path_model.specs.Runs.{limit_of, asks_object}
 use Rattle.path_frames.specs.declared.frames.Frame.TheVariants.{Body}
-use Rattle.path_frames.specs.Frames.{target_of}
+use Rattle.path_frames.specs.Frames.{target_of_code}
 use Rattle.path_frames.proofs.Changing.{frame_grown}
 use Rattle.path_frames.specs.declared.frames.BodyFrame.{BodyFrame}
 use Rattle.path_machine.specs.invariants.Steps.{size_in, IsTaken}
@@ -44,9 +44,9 @@ returns c = λ s f below outs taken known.
     let at = with_frames s (InBody f ∷ below) in
     let counts = ap (λ (x : BodyFrame). x.depth) c.get.ensures ∙ taken.counts in
     let before = s.objects.classes in
-    let after = with_objects s (made s.objects d) in
+    let after = with_objects s (with_new_object s.objects d) in
     let frames = InBody (at_statement f c.args.next) ∷ below in
-    let plan = building h program (length before) d (target_of c.args.target) in
+    let plan = building h program (length before) d (target_of_code c.args.target) in
     let same = sym c.size_of-size.ensures in
     let stands = c.in_ok-number.ensures.stands h sizes program (with_frames s below) world.are_numbers same taken.machine_stands in
     let points = c.in_ok-number.ensures.whole h sizes program (with_frames s below) world.are_numbers taken.machine_stands in
@@ -60,5 +60,5 @@ returns c = λ s f below outs taken known.
     (heap_free sizes at d c.size_of-size.result c.is_full.result c.size_of-size.ensures (c.is_full.ensures.is h sizes program (with_frames s below) taken.machine_stands) c.if-is_full.false
     ∙ open_free at c.get.result.now.depth counts c.if-open-ge-MOST_OPEN.false)
     (c.in_ok-begin_plan.ensures sizes (with_frames after frames) (length before) d (c.in_ok-go_on.ensures h sizes program after f below now) listed
-    (c.whole_at.ensures h (made s.objects d).classes (length before) world.hierarchy listed points)
+    (c.whole_at.ensures h (with_new_object s.objects d).classes (length before) world.hierarchy listed points)
     (counts_more plan frames c.get.result.now.depth counts refl))

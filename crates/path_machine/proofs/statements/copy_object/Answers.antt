@@ -1,6 +1,6 @@
 use Rattle.std.proofs.Common.{rules, refl, ap}
-use Rattle.path_model.specs.Values.{value}
-use Rattle.path_model.specs.States.{sight, with_frames, with_objects, wanted}
+use Rattle.path_model.specs.Values.{value_of_operand}
+use Rattle.path_model.specs.States.{sight, with_frames, with_objects, wanted_result}
 use Rattle.path_model.specs.Effects.{copied}
 use Rattle.path_frames.specs.declared.frames.BodyFrame.{BodyFrame}
 use Rattle.path_machine.specs.invariants.Steps.{size_in}
@@ -15,7 +15,7 @@ returns c = λ e s f below outs t clear.
     let program = c.args.run.now.program.now in
     let see = sight s f in
     let scene = scene_by h sizes program c.args.machine.now c.args.frame s f below t _ (search rules) (ap (λ (x : BodyFrame). x.this) c.get-body.ensures) (ap (λ (x : BodyFrame). x.locals.items) c.get-body.ensures) in
-    copy_agrees h sizes program c.go_on.new.machine (with_frames s _) c.args.class (value see c.args.to.now) (value see c.args.from.now) outs (λ p q names other.
+    copy_agrees h sizes program c.go_on.new.machine (with_frames s _) c.args.class (value_of_operand see c.args.to.now) (value_of_operand see c.args.from.now) outs (λ p q names other.
     let x = copied h c.args.class p q s.objects in
     c.in_ok-go_on.ensures h sizes program (with_objects s x) f below
-    (taken_heaped h sizes program c.args.machine.now c.copy.new.heap c.args.frame s f below x t (c.in_ok-copy.ensures e see (wanted f) p q scene clear.given.seen clear.given.typed clear.clear names other) refl))
+    (taken_heaped h sizes program c.args.machine.now c.copy.new.heap c.args.frame s f below x t (c.in_ok-copy.ensures e see (wanted_result f) p q scene clear.given.seen clear.given.typed clear.clear names other) refl))

@@ -2,9 +2,9 @@ use Rattle.std.proofs.Common.{None, subst, sym}
 use Rattle.cxx_program.specs.Typed.{whole}
 use Rattle.path_heap.specs.Stands.{Means}
 use Rattle.path_values.specs.Conversions.{CanConvert}
-use Rattle.path_model.specs.Values.{argument_value, converted}
-use Rattle.path_model.specs.States.{sight, wanted, with_frames}
-use Rattle.path_model.specs.Effects.{given}
+use Rattle.path_model.specs.Values.{argument_value, converted_to}
+use Rattle.path_model.specs.States.{sight, wanted_result, with_frames}
+use Rattle.path_model.specs.Effects.{given_to_target}
 use Rattle.path_effects.proofs.Leaving.{return_converts}
 use Rattle.path_frames.specs.Machines.{MachineStands}
 use Rattle.path_frames.specs.declared.frames.BodyFrame.{BodyFrame}
@@ -24,13 +24,13 @@ returns c = λ e s f below t taken clear returns fits.
     let v = argument_value see a in
     let frame = c.args.frame.now in
     let scene = c.scene_of-scene.ensures h sizes program s f below taken in
-    let r = return_converts h e see clear.given.seen (wanted f) a t returns fits clear.given.back clear.clear in
+    let r = return_converts h e see clear.given.seen (wanted_result f) a t returns fits clear.given.back clear.clear in
     let seen = subst (λ (x : BodyFrame). BodyStands h s.objects.classes x f) (sym c.get-body.ensures) taken.body_stands in
     let found = seen.same_found in
     let m1 = c.argument_value-result.ensures e see None t scene clear.given.seen (whole a t fits) r.argument in
     let m2 = c.convert-found.ensures s.objects v taken.machine_stands.heap_stands m1 (subst (CanConvert h s.objects v) (sym found) r.found) in
-    let m3 = subst (λ x. Means h s.objects.classes c.convert-found.result (converted v x)) found m2 in
-    let u = converted v f.found in
+    let m3 = subst (λ x. Means h s.objects.classes c.convert-found.result (converted_to v x)) found m2 in
+    let u = converted_to v f.found in
     let same = seen.same_target in
     let able = subst (CanGive h (with_frames s below) u) (sym same) (can_give h (with_frames s below) u f.target r.target) in
-    subst (λ x. MachineStands h sizes program c.give.new.machine (given (with_frames s below) u x)) same (c.give.ensures sizes program (with_frames s below) u taken.machine_stands m3 able)
+    subst (λ x. MachineStands h sizes program c.give.new.machine (given_to_target (with_frames s below) u x)) same (c.give.ensures sizes program (with_frames s below) u taken.machine_stands m3 able)

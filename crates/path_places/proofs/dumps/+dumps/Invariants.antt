@@ -1,5 +1,5 @@
 use Rattle.std.proofs.Common.{◌+◌, ◌*◌, take}
-use Rattle.path_places.specs.invariants.Dumps.{seen, DumpsElements, DumpsMembers, DumpsBases}
+use Rattle.path_places.specs.invariants.Dumps.{dumped_object, DumpsElements, DumpsMembers, DumpsBases}
 use Rattle.path_places.proofs.dumps.+dumps.Given as goal
 
 -- a member object is of a class of a smaller number than the class that declares it
@@ -16,10 +16,10 @@ abbrev pub decreases-dump_member : goal.decreases-dump_member
 decreases-dump_member l = 4 * l.c.0
 
 abbrev pub invariant-dump_elements-loop-i : goal.invariant-dump_elements-loop-i
-invariant-dump_elements-loop-i l = DumpsElements (seen l.site.world.now.h.now l.site.heap.now l.site.object l.site.class) l.place.hops.now.items l.place.base.now l.m l.d l.k l.count l.i l.fn.out.items l.out.items
+invariant-dump_elements-loop-i l = DumpsElements (dumped_object l.site.world.now.h.now l.site.heap.now l.site.object l.site.class) l.place.hops.now.items l.place.base.now l.m l.d l.k l.count l.i l.fn.out.items l.out.items
 
 abbrev pub invariant-dump_own-loop-m : goal.invariant-dump_own-loop-m
-invariant-dump_own-loop-m l = DumpsMembers (seen l.site.world.now.h.now l.site.heap.now l.site.object l.site.class) l.place.hops.now.items l.place.base.now l.c l.k l.m l.fn.out.items l.out.items
+invariant-dump_own-loop-m l = DumpsMembers (dumped_object l.site.world.now.h.now l.site.heap.now l.site.object l.site.class) l.place.hops.now.items l.place.base.now l.c l.k l.m l.fn.out.items l.out.items
 
 abbrev pub invariant-dump_whole-loop-base : goal.invariant-dump_whole-loop-base
-invariant-dump_whole-loop-base l = DumpsBases (seen l.site.world.now.h.now l.site.heap.now l.site.object l.site.class) l.hops.items l.c l.k (take l.base-index l.base-items) l.fn.out.items l.out.items
+invariant-dump_whole-loop-base l = DumpsBases (dumped_object l.site.world.now.h.now l.site.heap.now l.site.object l.site.class) l.hops.items l.c l.k (take l.base-index l.base-items) l.fn.out.items l.out.items

@@ -8,7 +8,7 @@ use Rattle.path_model.specs.Uses.{member_uses}
 use Rattle.path_model.specs.Order.{asked_covers}
 use Rattle.cxx_hierarchy.specs.declared.records.Member.{Member}
 use Rattle.path_numbers.proofs.Rows.{members_are}
-use Rattle.path_refusals.specs.invariants.Pieces.{Covers}
+use Rattle.path_refusals.specs.invariants.Pieces.{TellsReadiness}
 use Rattle.path_refusals.specs.invariants.Left.{element_asked, member_asked}
 use Rattle.path_refusals.proofs.Reading.{begun_of}
 use Rattle.path_refusals.proofs.Covering.{element_unready, element_ready, left_start, left_more, left_stops, left_end, elements_late, members_late, value_member, object_member, element_of, member_below, past_covers, own_covers, complete_covered}
@@ -45,7 +45,7 @@ is_member_covered-loop-i-preserved t c = λ s p k a l.
     let q = c.element-e.ensures s p c.args.c d a.heap_stands a.points (begun_of s p a.ready) a.of_class there in
     let told = c.is_element_covered.ensures s (element p c.args.m c.loop-i.i d) k a.heap_stands q a.settled refl (omega (arith, below, l)) in
     left_more c.args.moment.now.world.h.now s (element_asked c.args.moment.now.world.h.now k p c.args.m d) c.elements-i-end.result c.loop-i.i c.loop-i-test.true
-    (subst (λ b. Covers c.args.moment.now.world.h.now s b (element_asked c.args.moment.now.world.h.now k p c.args.m d c.loop-i.i)) c.if-not-is_element_covered.false told) (c.loop-i.invariant s p k a l)
+    (subst (λ b. TellsReadiness c.args.moment.now.world.h.now s b (element_asked c.args.moment.now.world.h.now k p c.args.m d c.loop-i.i)) c.if-not-is_element_covered.false told) (c.loop-i.invariant s p k a l)
 
 pub is_member_covered-returns-then-not-is_element_covered : goal.is_member_covered-returns-then-not-is_element_covered
 is_member_covered-returns-then-not-is_element_covered t c = λ s p k a l.
@@ -55,7 +55,7 @@ is_member_covered-returns-then-not-is_element_covered t c = λ s p k a l.
     let q = c.element-e.ensures s p c.args.c d a.heap_stands a.points (begun_of s p a.ready) a.of_class there in
     let told = c.is_element_covered.ensures s (element p c.args.m c.loop-i.i d) k a.heap_stands q a.settled refl (omega (arith, below, l)) in
     object_member c.args.moment.now.world.h.now s k p c.args.m c.args.member.now d c.elements-i-end.result false c.in-Object.is c.elements-i-end.ensures
-    (left_stops c.args.moment.now.world.h.now s (element_asked c.args.moment.now.world.h.now k p c.args.m d) c.elements-i-end.result c.loop-i.i c.loop-i-test.true (subst (λ b. Covers c.args.moment.now.world.h.now s b (element_asked c.args.moment.now.world.h.now k p c.args.m d c.loop-i.i)) c.if-not-is_element_covered.true told) (elements_late c.args.moment.now.world.h.now s k p c.args.m d) (c.loop-i.invariant s p k a l))
+    (left_stops c.args.moment.now.world.h.now s (element_asked c.args.moment.now.world.h.now k p c.args.m d) c.elements-i-end.result c.loop-i.i c.loop-i-test.true (subst (λ b. TellsReadiness c.args.moment.now.world.h.now s b (element_asked c.args.moment.now.world.h.now k p c.args.m d c.loop-i.i)) c.if-not-is_element_covered.true told) (elements_late c.args.moment.now.world.h.now s k p c.args.m d) (c.loop-i.invariant s p k a l))
 
 pub is_member_covered-returns-after-loop-i : goal.is_member_covered-returns-after-loop-i
 is_member_covered-returns-after-loop-i t c = λ s p k a l.
@@ -80,7 +80,7 @@ is_covered-loop-m-preserved t c = λ s p k a l.
     let listed = subst (λ (xs : List (Member ClassId)). slice_get xs c.loop-m.m ≡ Some c.member_at.result.now) same c.member_at.ensures in
     left_more c.args.moment.now.world.h.now s (member_asked c.args.moment.now.world.h.now k p c.args.c) (length c.as_slice-members.result.now) c.loop-m.m c.loop-m-test.true
     (ap (λ (o : Option (Member ClassId)). refused c.args.moment.now.world.h.now s (member_uses (asked_covers c.args.moment.now.world.h.now k) p c.loop-m.m o)) listed
-    ∙ subst (λ b. Covers c.args.moment.now.world.h.now s b (member_uses (asked_covers c.args.moment.now.world.h.now k) p c.loop-m.m (Some c.member_at.result.now))) c.if-not-is_member_covered.false (c.is_member_covered.ensures s p k a l)) (c.loop-m.invariant s p k a l)
+    ∙ subst (λ b. TellsReadiness c.args.moment.now.world.h.now s b (member_uses (asked_covers c.args.moment.now.world.h.now k) p c.loop-m.m (Some c.member_at.result.now))) c.if-not-is_member_covered.false (c.is_member_covered.ensures s p k a l)) (c.loop-m.invariant s p k a l)
 
 pub is_covered-returns-then-not-is_member_covered : goal.is_covered-returns-then-not-is_member_covered
 is_covered-returns-then-not-is_member_covered t c = λ s p k a l.
@@ -88,7 +88,7 @@ is_covered-returns-then-not-is_member_covered t c = λ s p k a l.
     let listed = subst (λ (xs : List (Member ClassId)). slice_get xs c.loop-m.m ≡ Some c.member_at.result.now) same c.member_at.ensures in
     own_covers c.args.moment.now.world.h.now s k c.args.c p (length c.as_slice-members.result.now) false l (ap length same) (λ j le. left_stops c.args.moment.now.world.h.now s (member_asked c.args.moment.now.world.h.now j p c.args.c) (length c.as_slice-members.result.now) c.loop-m.m c.loop-m-test.true
     (ap (λ (o : Option (Member ClassId)). refused c.args.moment.now.world.h.now s (member_uses (asked_covers c.args.moment.now.world.h.now j) p c.loop-m.m o)) listed
-    ∙ subst (λ b. Covers c.args.moment.now.world.h.now s b (member_uses (asked_covers c.args.moment.now.world.h.now j) p c.loop-m.m (Some c.member_at.result.now))) c.if-not-is_member_covered.true (c.is_member_covered.ensures s p j a le)) (members_late c.args.moment.now.world.h.now s j p c.args.c) (c.loop-m.invariant s p j a le))
+    ∙ subst (λ b. TellsReadiness c.args.moment.now.world.h.now s b (member_uses (asked_covers c.args.moment.now.world.h.now j) p c.loop-m.m (Some c.member_at.result.now))) c.if-not-is_member_covered.true (c.is_member_covered.ensures s p j a le)) (members_late c.args.moment.now.world.h.now s j p c.args.c) (c.loop-m.invariant s p j a le))
 
 pub is_covered-returns : goal.is_covered-returns
 is_covered-returns t c = λ s p k a l.

@@ -1,15 +1,15 @@
 use Rattle.std.proofs.Common.{◌≡◌, false, None, refl}
 use Rattle.path_model.specs.Values.{Unset, Number, Null}
-use Rattle.path_model.specs.Uses.{views}
+use Rattle.path_model.specs.Uses.{uses_of_view}
 use Rattle.path_model.specs.Rules.{refused, names, is_unready}
 use Rattle.path_refusals.proofs.Reading.{off_view, unset_case, null_case, number_case}
 use Rattle.path_refusals.proofs.views.view_of.Goals as goal
 
 pub returns-in-Unset-clause-is : goal.returns-in-Unset-clause-is
-returns-in-Unset-clause-is c = λ s x stands m e. unset_case c.args.moment.now.world.h.now s.classes (λ x. names (is_unready s) x ≡ false → None ≡ refused c.args.moment.now.world.h.now s (views c.args.needed x)) (λ e. off_view c.args.moment.now.world.h.now s Unset c.args.needed refl) c.args.v c.in-Unset.is x m e
+returns-in-Unset-clause-is c = λ s x stands m e. unset_case c.args.moment.now.world.h.now s.classes (λ x. names (is_unready s) x ≡ false → None ≡ refused c.args.moment.now.world.h.now s (uses_of_view c.args.needed x)) (λ e. off_view c.args.moment.now.world.h.now s Unset c.args.needed refl) c.args.v c.in-Unset.is x m e
 
 pub returns-in-Number-clause-is : goal.returns-in-Number-clause-is
-returns-in-Number-clause-is c = λ s x stands m e. number_case c.args.moment.now.world.h.now s.classes (λ x. names (is_unready s) x ≡ false → None ≡ refused c.args.moment.now.world.h.now s (views c.args.needed x)) (λ z. λ e. off_view c.args.moment.now.world.h.now s (Number z) c.args.needed refl) c.args.v c.in-Number.field-0 c.in-Number.is x m e
+returns-in-Number-clause-is c = λ s x stands m e. number_case c.args.moment.now.world.h.now s.classes (λ x. names (is_unready s) x ≡ false → None ≡ refused c.args.moment.now.world.h.now s (uses_of_view c.args.needed x)) (λ z. λ e. off_view c.args.moment.now.world.h.now s (Number z) c.args.needed refl) c.args.v c.in-Number.field-0 c.in-Number.is x m e
 
 pub returns-in-Null-clause-is : goal.returns-in-Null-clause-is
-returns-in-Null-clause-is c = λ s x stands m e. null_case c.args.moment.now.world.h.now s.classes (λ x. names (is_unready s) x ≡ false → None ≡ refused c.args.moment.now.world.h.now s (views c.args.needed x)) (λ e. off_view c.args.moment.now.world.h.now s Null c.args.needed refl) c.args.v c.in-Null.is x m e
+returns-in-Null-clause-is c = λ s x stands m e. null_case c.args.moment.now.world.h.now s.classes (λ x. names (is_unready s) x ≡ false → None ≡ refused c.args.moment.now.world.h.now s (uses_of_view c.args.needed x)) (λ e. off_view c.args.moment.now.world.h.now s Null c.args.needed refl) c.args.v c.in-Null.is x m e

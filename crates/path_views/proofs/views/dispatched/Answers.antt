@@ -4,7 +4,7 @@ use Rattle.cxx_subobject.specs.Locations.{ObjectPart}
 use Rattle.path_model.specs.Values.{Objects}
 use Rattle.path_model.specs.Uses.{view_of}
 use Rattle.path_model.specs.Effects.{overrider_by}
-use Rattle.path_tables.specs.Parts.{numbered}
+use Rattle.path_tables.specs.Parts.{numbered_overrider}
 use Rattle.path_views.specs.Views.{IsCallable}
 use Rattle.path_views.specs.invariants.Standing.{IsStanding}
 use Rattle.path_views.proofs.Seen.{dispatched_some}
@@ -13,6 +13,6 @@ use Rattle.path_views.proofs.views.dispatched.Goals as goal
 pub returns-in-Some-clause-is : goal.returns-in-Some-clause-is
 returns-in-Some-clause-is c = λ s p is callable.
     let h = c.args.world.now.h.now in
-    let told : (s : Objects) (p : ObjectPart) → IsStanding h s p c.standing_of-at.result → IsCallable h p c.args.f → Some c.in-Some.found ≡ numbered h c.standing_of-at.result.class (overrider_by h (view_of h s p) p.at c.args.f) = search rules in
+    let told : (s : Objects) (p : ObjectPart) → IsStanding h s p c.standing_of-at.result → IsCallable h p c.args.f → Some c.in-Some.found ≡ numbered_overrider h c.standing_of-at.result.class (overrider_by h (view_of h s p) p.at c.args.f) = search rules in
     let stands = c.standing_of-at.ensures h s p is in
     dispatched_some h c.args.heap.now s is.heap_stands p c.standing_of-at.result stands c.args.f c.in-Some.found c.number_behind.result (told s p stands callable) c.number_behind.ensures

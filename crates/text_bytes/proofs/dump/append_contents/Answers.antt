@@ -1,7 +1,7 @@
 use Rattle.std.proofs.Common.{◌≡◌, ◌∙◌, ℕ, ◌*◌, ◌<◌, List, ap, subst, arith}
 use Rattle.foundation.proofs.Members.{Has, has_from_contains}
-use Rattle.byte_machine.specs.MachineState.{image_of, state_of}
-use Rattle.abi_sound.specs.Places.{places_of, size_in}
+use Rattle.byte_machine.specs.MachineState.{machine_image, state_of}
+use Rattle.abi_sound.specs.Places.{places_of, size_in_row}
 use Rattle.text_told.specs.declared.items.Item.{Item}
 use Rattle.text_told.specs.Dumps.{bit_of, by_place}
 use Rattle.text_told.proofs.Contents.{begins_inside, from_by_place}
@@ -15,10 +15,10 @@ sort_by_place-requires g c = λ item has.
     let rows = g.L.SoundLayout.rows c.args.layout.now in
     let sound = g.met.L.SoundLayout.sound c.args.layout.now h c.requires.layout in
     let state = state_of c.args.machine.now in
-    let image = image_of c.args.machine.now in
+    let image = machine_image c.args.machine.now in
     let there : Has (raw_items h (places_of h rows) image state.memory state.objects c.args.start c.args.c) item = subst (λ (items : List Item). Has items item) c.in_ok-items.ensures (has_from_contains c.in_ok-items.items.items item has) in
     let lies = raw_lies_in h rows c.keeps.ensures sound c.args.c image state.memory state.objects c.args.start c.requires.known item there in
-    subst (λ (k : ℕ). bit_of item < 8 * k) (ap size_in c.layout.ensures) (begins_inside ((places_of h rows).size c.args.c) item lies)
+    subst (λ (k : ℕ). bit_of item < 8 * k) (ap size_in_row c.layout.ensures) (begins_inside ((places_of h rows).size c.args.c) item lies)
 
 pub append_lines-requires : goal.append_lines-requires
 append_lines-requires g c = λ item has.
@@ -26,7 +26,7 @@ append_lines-requires g c = λ item has.
     let rows = g.L.SoundLayout.rows c.args.layout.now in
     let sound = g.met.L.SoundLayout.sound c.args.layout.now h c.requires.layout in
     let state = state_of c.args.machine.now in
-    let image = image_of c.args.machine.now in
+    let image = machine_image c.args.machine.now in
     let all : List Item = raw_items h (places_of h rows) image state.memory state.objects c.args.start c.args.c in
     let size = c.layout.result.now.size in
     let sorted : c.deref.result.now ≡ by_place size all = c.deref.ensures.value ∙ (c.in_ok-sort_by_place.ensures ∙ ap (by_place size) c.in_ok-items.ensures) in

@@ -3,7 +3,7 @@ use Rattle.std.specs.List.{flat_map, range_with_len}
 use Rattle.foundation.proofs.Members.{Has, has_from_contains}
 use Rattle.cxx_hierarchy.specs.declared.records.FieldType.TheVariants.{Value, Object}
 use Rattle.cxx_hierarchy.specs.Declarations.{elements_of}
-use Rattle.abi_sound.specs.Places.{places_of, size_in, size_of_value}
+use Rattle.abi_sound.specs.Places.{places_of, size_in_row, size_of_value}
 use Rattle.text_bytes.specs.declared.rows.LeafRow.{LeafRow}
 use Rattle.text_bytes.specs.LeafRows.{element_rows, rows_within, value_row}
 use Rattle.text_bytes.proofs.Placed.{object_below, placed_at, placed_known, placed_lower, value_below}
@@ -74,7 +74,7 @@ push_elements-requires g t c =
     let member = c.member_of-member.result.now in
     let d = c.in-Object.d in
     let of = placed_at h l c.args.c c.as_slice-x-items.result.now c.put_members.new.list.items c.loop-x.x-index x c.as_slice-x-items.ensures.value c.in_ok-put_members.ensures c.loop-x-test.true c.x-item.is in
-    let size : l.size d ≡ c.layout.result.now.size = ap size_in c.layout.ensures in
+    let size : l.size d ≡ c.layout.result.now.size = ap size_in_row c.layout.ensures in
     let lower : d.0 < c.args.c.0 = placed_lower h c.keeps.ensures l c.args.c x member d of c.member_of-member.ensures c.in-Object.is in
     let known : c.args.c.0 < length h = c.requires.known in
     let inside : c.deref.result.now ≡ rows_within h l (d.0 + 1) d = c.deref.ensures.value ∙ c.in_ok-put_rows-in-Object.ensures (d.0 + 1) (omega arith) in
@@ -108,7 +108,7 @@ loop-x-preserved g t c = λ n le.
           let of = placed_at h l c.args.c items c.put_members.new.list.items i x c.as_slice-x-items.ensures.value c.in_ok-put_members.ensures c.loop-x-test.true c.x-item.is in
           let lower : d.0 < c.args.c.0 = placed_lower h c.keeps.ensures l c.args.c x member d of c.member_of-member.ensures w.in-Object.is in
           let inside : w.deref.result.now ≡ rows_within h l n d = w.deref.ensures.value ∙ w.in_ok-put_rows-in-Object.ensures n (omega arith) in
-          let size : w.layout.result.now.size ≡ l.size d = sym (ap size_in w.layout.ensures) in
+          let size : w.layout.result.now.size ≡ l.size d = sym (ap size_in_row w.layout.ensures) in
           let added : c.match-member.rows.items ≡ old ++ flat_map (element_rows x member (l.size d) (rows_within h l n d)) (range_with_len 0 (elements_of member.count)) =
           ap (λ (v : Vec LeafRow Global). v.items) w.rows-is
           ∙ (w.in_ok-push_elements-in-Object.ensures

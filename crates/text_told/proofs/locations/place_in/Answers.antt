@@ -1,8 +1,8 @@
 use Rattle.std.proofs.Common.{List, Some, ◌<◌, ◌^◌, subst, sym, arith}
 use Rattle.cxx_subobject.specs.declared.locations.Hop.{Hop}
 use Rattle.abi_sound.specs.Places.{places_of}
-use Rattle.abi_sound.specs.Locations.{place_at}
-use Rattle.text_told.specs.invariants.Leading.{GoAlong}
+use Rattle.abi_sound.specs.Locations.{place_along_hops}
+use Rattle.text_told.specs.invariants.Leading.{AreKnownHops}
 use Rattle.text_told.proofs.Leading.{go_along, ends_below}
 use Rattle.text_told.proofs.locations.place_in.Goals as goal
 
@@ -10,7 +10,7 @@ pub place_behind-requires-clause-leads : goal.place_behind-requires-clause-leads
 place_behind-requires-clause-leads g c =
     let at = c.args.at.now in
     let names = c.requires.names.1 in
-    subst (λ (hops : List Hop). GoAlong c.args.h.now (Some at.class) hops) (sym c.as_slice.ensures) (go_along c.args.h.now c.keeps.ensures at.class at.hops c.requires.names.0 names.known names.leads)
+    subst (λ (hops : List Hop). AreKnownHops c.args.h.now (Some at.class) hops) (sym c.as_slice.ensures) (go_along c.args.h.now c.keeps.ensures at.class at.hops c.requires.names.0 names.known names.leads)
 
 pub place_behind-requires-clause-small : goal.place_behind-requires-clause-small
 place_behind-requires-clause-small g c =
@@ -20,4 +20,4 @@ place_behind-requires-clause-small g c =
     let names = c.requires.names.1 in
     let sound = g.met.L.SoundLayout.sound c.args.layout.now h c.requires.layout in
     let below = ends_below h rows c.keeps.ensures sound at.class at.hops c.requires.names.0 names.known names.leads in
-    subst (λ (hops : List Hop). place_at h (places_of h rows) at.class hops < 2 ^ 32) (sym c.as_slice.ensures) (omega arith)
+    subst (λ (hops : List Hop). place_along_hops h (places_of h rows) at.class hops < 2 ^ 32) (sym c.as_slice.ensures) (omega arith)

@@ -1,6 +1,6 @@
 use Rattle.std.proofs.Common.{◌≡◌, ◌∙◌, ℕ, ◌+◌, ◌*◌, ◌<◌, ◌^◌, List, length, get_or, refl, ap, sym, subst, arith}
 use Rattle.foundation.proofs.Members.{Has, has_from_contains}
-use Rattle.abi_sound.specs.Places.{places_of, size_in}
+use Rattle.abi_sound.specs.Places.{places_of, size_in_row}
 use Rattle.text_told.specs.declared.pointers.MemberObjects.{MemberObjects}
 use Rattle.text_told.specs.declared.pointers.TablePointer.{TablePointer}
 use Rattle.text_told.specs.Pointers.{member_objects, pointers_within}
@@ -42,7 +42,7 @@ push_elements-requires g t c =
     let sound = g.met.L.SoundLayout.sound c.args.layout.now h c.requires.layout in
     let x = get_or c.as_slice-x-items.result.now c.loop-x.x-index no_objects in
     let has = item_has c.as_slice-x-items.result.now (member_objects h l c.args.c) c.loop-x.x-index no_objects (c.as_slice-x-items.ensures.value ∙ c.in_ok-put_member_objects.ensures) c.loop-x-test.true in
-    let size : l.size x.class ≡ c.layout.result.now.size = ap size_in c.layout.ensures in
+    let size : l.size x.class ≡ c.layout.result.now.size = ap size_in_row c.layout.ensures in
     let lower : x.class.0 < c.args.c.0 = objects_lower h c.keeps.ensures l c.args.c x has in
     let known : c.args.c.0 < length h = c.requires.known in
     let inside : c.deref.result.now ≡ pointers_within h l (x.class.0 + 1) x.class = c.deref.ensures.value ∙ c.in_ok-put_pointers.ensures (x.class.0 + 1) (omega arith) in
@@ -65,7 +65,7 @@ loop-x-preserved g t c =
     let x = get_or items i no_objects in
     let has = item_has items (member_objects h l c.args.c) i no_objects (c.as_slice-x-items.ensures.value ∙ c.in_ok-put_member_objects.ensures) c.loop-x-test.true in
     let lower : x.class.0 < c.args.c.0 = objects_lower h c.keeps.ensures l c.args.c x has in
-    let size : c.layout.result.now.size ≡ l.size x.class = sym (ap size_in c.layout.ensures) in
+    let size : c.layout.result.now.size ≡ l.size x.class = sym (ap size_in_row c.layout.ensures) in
     λ n le.
     pointers_more h l c.args.c n c.loop-x.list.items c.push_elements.new.list.items c.deref.result.now c.layout.result.now.size items i no_objects x c.loop-x-test.true refl (c.loop-x.invariant n le) size
     (c.deref.ensures.value ∙ c.in_ok-put_pointers.ensures n (omega arith)) c.in_ok-push_elements.ensures

@@ -1,7 +1,7 @@
 use Rattle.std.proofs.Common.{◌≡◌, ◌+◌, ◌<◌, ◌++◌, ◌∷◌, [], length, get_or, set, arith, rules, sym, subst, ap, ◌∙◌}
 use Rattle.std.proofs.lemmas.Grind.{common_steps}
 use Rattle.foundation.proofs.Places.{any_default}
-use Rattle.abi_dyncast.specs.invariants.Chain.{bucket, entry, link_for, IsChained, IsEachOnce}
+use Rattle.abi_dyncast.specs.invariants.Chain.{bucket, part_entry, link_for, IsChained, IsEachOnce}
 use Rattle.abi_dyncast.proofs.Entries.{once_pushed}
 use Rattle.abi_dyncast.proofs.Chaining.{chained_add, link_then, link_else}
 use Rattle.abi_dyncast.proofs.work.WorkList.add.Goals.{then-head-len, else-head-len}
@@ -19,13 +19,13 @@ invariant_of-self c =
       | then-head-len w ↦ link_then heads es c.args.part c.index-head.result.now c.if-head-len.next head (let t = w.if-head-len.true in omega arith) w.next-is
       | else-head-len w ↦ link_else heads es c.args.part c.index-head.result.now c.if-head-len.next head (let t = w.if-head-len.false in omega arith) w.next-is
     ] in
-    let items : c.push.new.self.items ≡ es ++ entry c.args.part c.args.class c.args.found c.if-head-len.next ∷ [] = search rules in
+    let items : c.push.new.self.items ≡ es ++ part_entry c.args.part c.args.class c.args.found c.if-head-len.next ∷ [] = search rules in
     let size : c.len-3.result ≡ length es + 1 = grind (arith, common_steps) in
     let done = chained_add heads es c.args.part c.args.class c.args.found c.bucket-at.result c.args.self.now.chained at below in
     record {
       roomy = let r = c.args.self.now.roomy in let k = c.push.ensures.capacity in omega arith;
-      once = subst (λ xs. IsEachOnce xs) (sym items) (once_pushed es (entry c.args.part c.args.class c.args.found c.if-head-len.next) c.args.self.now.once c.requires.fresh);
+      once = subst (λ xs. IsEachOnce xs) (sym items) (once_pushed es (part_entry c.args.part c.args.class c.args.found c.if-head-len.next) c.args.self.now.once c.requires.fresh);
       chained =
-          let all = items ∙ ap (λ n. es ++ entry c.args.part c.args.class c.args.found n ∷ []) next in
+          let all = items ∙ ap (λ n. es ++ part_entry c.args.part c.args.class c.args.found n ∷ []) next in
           subst (λ k. IsChained (set heads c.bucket-at.result k) c.push.new.self.items) (sym size) (subst (λ xs. IsChained (set heads c.bucket-at.result (length es + 1)) xs) (sym all) done);
     }

@@ -2,7 +2,7 @@ use Rattle.std.proofs.Common.{rules, ◌∙◌, ◌+◌, ◌*◌, ◌^◌, ◌<�
 use Rattle.std.proofs.lemmas.Result.{on_ok_weaker}
 use Rattle.cxx_subobject.proofs.PathLemmas.{class_low, class_found}
 use Rattle.cxx_subobject.proofs.TreeLemmas.{valid_at}
-use Rattle.abi_sound.specs.Places.{size_in}
+use Rattle.abi_sound.specs.Places.{size_in_row}
 use Rattle.abi_judge.specs.invariants.Things.{part_thing, setting_of}
 use Rattle.abi_judge.specs.invariants.Pushes.{AddsObjects}
 use Rattle.abi_judge.proofs.Known.{draft_lower, row_known, object_before, few_bytes, member_met}
@@ -100,7 +100,7 @@ push_objects-push_object-requires t c =
 pub push_objects-loop-i-preserved : goal.push_objects-loop-i-preserved
 push_objects-loop-i-preserved t c =
     objects_next (setting_of c.args.self.now) c.args.b c.args.start c.loop-i.i (c.args.start + c.loop-i.i * c.row.result.now.size) c.args.things.now.items c.loop-i.things.items c.push_object.new.things.items
-    (ap (λ n. c.args.start + c.loop-i.i * n) (sym (ap size_in c.row.ensures))) c.loop-i.invariant c.in_ok-push_object.ensures
+    (ap (λ n. c.args.start + c.loop-i.i * n) (sym (ap size_in_row c.row.ensures))) c.loop-i.invariant c.in_ok-push_object.ensures
 
 pub push_own-overflow_cast-m : goal.push_own-overflow_cast-m
 push_own-overflow_cast-m t c =

@@ -1,7 +1,7 @@
 use Rattle.std.proofs.Common.{List, ◌++◌, ap}
 use Rattle.std.specs.List.{flat_map}
 use Rattle.code_ops.specs.Setups.{setup, Routine}
-use Rattle.abi_lower.specs.invariants.Runs.{run}
+use Rattle.abi_lower.specs.invariants.Runs.{routine_blocks}
 use Rattle.abi_lower.proofs.RowSteps.{plain_item}
 use Rattle.abi_lower.proofs.RunSteps.{blocks_more}
 use Rattle.abi_lower.proofs.block_sites.BlockSite.push_runs.Goals as goal
@@ -9,7 +9,7 @@ use Rattle.abi_lower.proofs.block_sites.BlockSite.push_runs.Goals as goal
 pub loop-r-init : goal.loop-r-init
 loop-r-init g c =
     let x = setup c.args.self.now.lowering.now.h.now (g.L.SoundLayout.rows c.args.self.now.lowering.now.layout.now) c.args.self.now.lowering.now.program.now in
-    ap (λ (l : List Routine). c.args.blocks.now ++ flat_map (run x) l) c.requires.plain
+    ap (λ (l : List Routine). c.args.blocks.now ++ flat_map (routine_blocks x) l) c.requires.plain
 
 pub push_run-requires-clause-routine : goal.push_run-requires-clause-routine
 push_run-requires-clause-routine g c =

@@ -5,13 +5,13 @@ use Rattle.cxx_hierarchy.specs.Classes.{Classes}
 use Rattle.cxx_subobject.specs.declared.Subobject.{Subobject}
 use Rattle.cxx_subobject.specs.Subobjects.{IsSubobject}
 use Rattle.abi_sound.specs.declared.class_layout.ClassLayout.{ClassLayout}
-use Rattle.abi_sound.specs.Places.{root_place_in, place_from, place_of}
+use Rattle.abi_sound.specs.Places.{root_place_in, place_from, place_in_class}
 use Rattle.abi_sound.specs.Sound.{IsSoundLayout}
 use Rattle.abi_sound.proofs.Depth.{below}
 use Rattle.abi_sound.proofs.sound_layout.SoundLayout.place.Goals as goal
 
 -- a place is below 1,048,576
-small : (h : Classes) (rows : List ClassLayout) (c : ClassId) (s : Subobject) → IsSoundLayout h rows → c.0 < length h → IsSubobject h c s → place_of h rows c s < 1048576
+small : (h : Classes) (rows : List ClassLayout) (c : ClassId) (s : Subobject) → IsSoundLayout h rows → c.0 < length h → IsSubobject h c s → place_in_class h rows c s < 1048576
 small h rows c s sound lt is = let b = below h rows sound c s lt is in let m = (sound.each c lt).bounded in omega (arith, b, m)
 
 pub sum_of_path-requires-clause-small : goal.sum_of_path-requires-clause-small

@@ -1,7 +1,7 @@
 use Rattle.std.proofs.Common.{rules, arith, ◌≡◌, ◌+◌, ◌*◌, ◌≤◌, length, ap, ◌∙◌, length-append}
 use Rattle.byte_memory.specs.Store.{Store}
 use Rattle.byte_memory.specs.Regions.{rounded}
-use Rattle.byte_machine.specs.Heap.{made}
+use Rattle.byte_machine.specs.Heap.{with_heap_object}
 use Rattle.byte_machine.proofs.Objects.{IsInOrder-made, LiesIn-made}
 use Rattle.byte_machine.proofs.heap.Heap.make.Goals as goal
 
@@ -10,7 +10,7 @@ invariant_of-self-2 g c =
     let room = c.in-Ok.ensures.0 in
     let regions = ap (λ (memory : Store). memory.regions) c.in-Ok.ensures.1 in
     let number : c.len.result ≡ length c.args.self.now.objects.items = search rules in
-    let objects : c.push.new.self.items ≡ made c.args.self.now.objects.items c.in-Ok.start c.args.size c.args.class = rw (c.try_reserve.ensures.items, number) at c.in_ok-push.ensures.items in
+    let objects : c.push.new.self.items ≡ with_heap_object c.args.self.now.objects.items c.in-Ok.start c.args.size c.args.class = rw (c.try_reserve.ensures.items, number) at c.in_ok-push.ensures.items in
     let longer : length c.push.new.self.items ≡ length c.args.self.now.objects.items + 1 = ap length objects ∙ length-append _ _ in
     let some : 16 ≤ rounded c.args.size = omega (arith, c.requires.positive) in
     let counted : 16 * length c.push.new.self.items ≤ c.args.self.now.total + c.round_up.result = omega (arith, longer, some, c.round_up.ensures, c.args.self.now.counted) in

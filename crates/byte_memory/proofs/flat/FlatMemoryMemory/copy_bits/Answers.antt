@@ -1,6 +1,6 @@
 use Rattle.std.proofs.Common.{rules, arith, ◌≡◌, ◌∙◌, ◌*◌, ◌+◌, ap, sym, None, length, refl}
 use Rattle.std.proofs.lemmas.List.{with_items_is}
-use Rattle.byte_memory.specs.Bits.{copied}
+use Rattle.byte_memory.specs.Bits.{with_bits_copied}
 use Rattle.byte_memory.specs.Regions.{fault_at, copy_fault}
 use Rattle.byte_memory.specs.Store.{byte_span}
 use Rattle.byte_memory.specs.Words.{bits_in}
@@ -29,6 +29,6 @@ returns c =
     let read' = rw c.deref-4.ensures.value at c.read_word-word.ensures.bits in
     let same : length c.write_word.new.cells ≡ c.args.self.now.cells.len = search rules in
     let written = rw c.deref_mut.ensures.value at c.write_word.ensures in
-    let after : bits_in c.write_word.new.cells ≡ copied (bits_in cells) (8 * c.args.from + c.args.first) (8 * c.args.to + c.args.first) c.args.bits =
+    let after : bits_in c.write_word.new.cells ≡ with_bits_copied (bits_in cells) (8 * c.args.from + c.args.first) (8 * c.args.to + c.args.first) c.args.bits =
     written ∙ copied-word (bits_in cells) c.args.from c.args.to c.byte_span-span.result c.args.first c.args.bits c.read_word-source.result c.read_word-word.result c.with_bits-new.result c.from_bit.result (omega arith) (omega arith) read (λ place less out. read' place less) c.from_bit.ensures c.with_bits-new.ensures in
     (inside, rw (with_items_is c.args.self.now.cells c.write_word.new.cells same, after) refl)

@@ -2,7 +2,7 @@ use Rattle.std.proofs.Common.{rules, arith, ◌≡◌, ◌∙◌, ◌<◌, ◌�
 use Rattle.std.specs.Prelude.{count_by, nat_lt}
 use Rattle.std.proofs.lemmas.Option.{slice_get_within, get_or_from_slice_get}
 use Rattle.byte_memory.specs.declared.memory.Region.{Region}
-use Rattle.byte_memory.specs.Bits.{is_among, cleared}
+use Rattle.byte_memory.specs.Bits.{is_among_places, cleared}
 use Rattle.byte_memory.specs.Regions.{shut}
 use Rattle.byte_memory.specs.Pages.{meets, next_start, bits_of, reached_bits}
 use Rattle.byte_memory.proofs.Reached.{found_starts, sizes_shut, total_of-shut, IsAscending-shut}
@@ -45,7 +45,7 @@ invariant_of-self c =
       users = self.users;
       kept = self.kept;
       left = λ number.
-          let test : is_among (region.start / 4096) ((region.start + region.size - 1) / 4096 + 1 - region.start / 4096) number ≡ is_among (c.args.at / 4096) (c.last_page-last.result + 1 - c.args.at / 4096) number = rw (start, c.last_page-last.ensures) refl in
+          let test : is_among_places (region.start / 4096) ((region.start + region.size - 1) / 4096 + 1 - region.start / 4096) number ≡ is_among_places (c.args.at / 4096) (c.last_page-last.result + 1 - c.args.at / 4096) number = rw (start, c.last_page-last.ensures) refl in
           rw test (c.release_pages.ensures.released number);
     } in
     let closed' : c.shut_region.new.regions.items ≡ map (shut c.args.at) items = closed ∙ ap (λ s. map (shut s) items) start in
@@ -82,7 +82,7 @@ returns c =
       users = self.users;
       kept = self.kept;
       left = λ number.
-          let test : is_among (region.start / 4096) ((region.start + region.size - 1) / 4096 + 1 - region.start / 4096) number ≡ is_among (c.args.at / 4096) (c.last_page-last.result + 1 - c.args.at / 4096) number = rw (start, c.last_page-last.ensures) refl in
+          let test : is_among_places (region.start / 4096) ((region.start + region.size - 1) / 4096 + 1 - region.start / 4096) number ≡ is_among_places (c.args.at / 4096) (c.last_page-last.result + 1 - c.args.at / 4096) number = rw (start, c.last_page-last.ensures) refl in
           rw test (c.release_pages.ensures.released number);
     } in
     let bits = close-bits closing in

@@ -1,5 +1,5 @@
 use Rattle.std.proofs.Common.{arith, ◌≡◌, ◌∙◌, ◌*◌, ◌+◌, ap, sym, None, refl}
-use Rattle.byte_memory.specs.Bits.{copied}
+use Rattle.byte_memory.specs.Bits.{with_bits_copied}
 use Rattle.byte_memory.specs.Regions.{fault_at, copy_fault}
 use Rattle.byte_memory.specs.Store.{byte_span}
 use Rattle.byte_memory.specs.Pages.{bits_of, reached_bits}
@@ -41,7 +41,7 @@ returns c =
     let inside : copy_fault regions c.args.from c.args.to (byte_span c.args.first c.args.bits) ≡ None = rw (from, to) refl in
     let read = rw c.deref-3.ensures.value at c.read_pages-source.ensures.bits in
     let read' = rw c.deref-4.ensures.value at c.read_rest-rest.ensures in
-    let after : reached_bits regions (bits_of c.write_pages.new.pages.items) ≡ copied bit (8 * c.args.from + c.args.first) (8 * c.args.to + c.args.first) c.args.bits =
+    let after : reached_bits regions (bits_of c.write_pages.new.pages.items) ≡ with_bits_copied bit (8 * c.args.from + c.args.first) (8 * c.args.to + c.args.first) c.args.bits =
     ap (reached_bits regions) c.write_pages.ensures.bits
     ∙ (reached_bits-with_word regions kept c.args.to c.byte_span-span.result c.with_bits-new.result up reach'
     ∙ copied-word bit c.args.from c.args.to c.byte_span-span.result c.args.first c.args.bits c.read_pages-source.result c.read_rest-rest.result c.with_bits-new.result c.from_bit.result (omega arith) (omega arith)

@@ -1,7 +1,7 @@
 use Rattle.std.proofs.Common.{refl, sym, ap}
 use Rattle.std.specs.Prelude.{is_some}
 use Rattle.byte_shadow.specs.declared.shadow.Note.{Note}
-use Rattle.byte_shadow.specs.Meaning.{place}
+use Rattle.byte_shadow.specs.Meaning.{shadow_place}
 use Rattle.byte_shadow.proofs.NoteLemmas.{phased_notes}
 use Rattle.byte_shadow.proofs.shadow.Shadow.set_phase.Goals as goal
 
@@ -11,4 +11,4 @@ returns-in-Some c =
     let after : Note = record before { phase = c.args.phase } in
     let there = sym c.in-Some.ensures.value in
     let written = (c.get_mut.follows.holds after).3 (ap is_some there) in
-    phased_notes c.args.self.now (record { notes = c.get_mut.follows.lender after; views = c.args.self.now.views }) c.args.at c.args.class before c.args.phase there (record { each = λ a d. written.0 (place a d) }) refl
+    phased_notes c.args.self.now (record { notes = c.get_mut.follows.lender after; views = c.args.self.now.views }) c.args.at c.args.class before c.args.phase there (record { each = λ a d. written.0 (shadow_place a d) }) refl

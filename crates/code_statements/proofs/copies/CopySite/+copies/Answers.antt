@@ -8,7 +8,7 @@ use Rattle.abi_sound.specs.Locations.{size_of_type}
 use Rattle.code_ops.specs.Setups.{places}
 use Rattle.code_ops.specs.Leaves.{leaf_width, copy_op}
 use Rattle.code_statements.specs.invariants.CopyFits.{FitsOwn}
-use Rattle.code_statements.specs.invariants.Pushes.{AddsObjects}
+use Rattle.code_statements.specs.invariants.Pushes.{CopiesObjects}
 use Rattle.code_statements.proofs.Near.{base_low, object_low, own_fits, near_member}
 use Rattle.code_statements.proofs.MemberSteps.{object_more, objects_whole, member_more}
 use Rattle.code_statements.proofs.CopySteps.{object_copied, bases_next, values_whole}
@@ -32,7 +32,7 @@ pub push_member-returns-in-Object : goal.push_member-returns-in-Object
 push_member-returns-in-Object g t c =
     let x = site_setup g.L.SoundLayout.rows c.args.self.now.site.now in
     on_ok_weaker c.push_objects.result
-    (λ (added : AddsObjects x c.args.self.now.sides c.in-Object.d c.args.start c.type_bytes.result c.elements.result c.args.ops.now c.push_objects.new.ops).
+    (λ (added : CopiesObjects x c.args.self.now.sides c.in-Object.d c.args.start c.type_bytes.result c.elements.result c.args.ops.now c.push_objects.new.ops).
     objects_whole _ _ x c.args.b c.in-Object.d c.args.member.now c.args.start c.type_bytes.result c.elements.result c.args.ops.now c.push_objects.new.ops c.in-Object.is c.type_bytes.ensures c.elements.ensures (c.requires.fits.below c.in-Object.d c.in-Object.is) added (λ n at indices. refl)) c.push_objects.ensures
 
 pub push_object-place-requires-clause-subobject : goal.push_object-place-requires-clause-subobject

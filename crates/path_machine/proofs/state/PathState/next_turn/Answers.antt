@@ -2,7 +2,7 @@ use Rattle.std.proofs.Common.{◌∙◌, ap, rules, refl, subst}
 use Rattle.path_model.specs.declared.outs.Turn.TheVariants.{Ended, Refused, OutOfSteps as IsOutOfSteps, Limit}
 use Rattle.path_machine.specs.Turns.{IsInRun}
 use Rattle.path_machine.specs.declared.state.PathState.{PathState}
-use Rattle.path_machine.specs.invariants.Ends.{counted}
+use Rattle.path_machine.specs.invariants.Ends.{step_counted}
 use Rattle.path_machine.specs.invariants.Steps.{size_in}
 use Rattle.path_machine.proofs.Turning.{ends_now, goes_on, left_by, no_steps}
 use Rattle.path_machine.proofs.state.PathState.next_turn.Goals as goal
@@ -41,7 +41,7 @@ returns-in-Goes c =
 pub returns-in-Ends : goal.returns-in-Ends
 returns-in-Ends c =
     let k = c.in_ok-move_on.ensures in
-    let r = ends_now c.args.run.now.world.h.now (size_in c.args.run.now.sizes.now) c.args.run.now.program.now c.args.self.now (counted c.move_on.new.self) c.finish-in-Ends.new.self Ended c.finish-in-Ends.result 1 c.args.outs.now c.move_on.new.outs c.in-None.is (λ e. cc) (left_by c.args.run.now.world.h.now (size_in c.args.run.now.sizes.now) c.args.run.now.program.now c.args.self.now c.move_on.new.self c.args.outs.now c.move_on.new.outs c.in-Ends.is k) k.budget (search rules) c.finish-in-Ends.ensures in
+    let r = ends_now c.args.run.now.world.h.now (size_in c.args.run.now.sizes.now) c.args.run.now.program.now c.args.self.now (step_counted c.move_on.new.self) c.finish-in-Ends.new.self Ended c.finish-in-Ends.result 1 c.args.outs.now c.move_on.new.outs c.in-None.is (λ e. cc) (left_by c.args.run.now.world.h.now (size_in c.args.run.now.sizes.now) c.args.run.now.program.now c.args.self.now c.move_on.new.self c.args.outs.now c.move_on.new.outs c.in-Ends.is k) k.budget (search rules) c.finish-in-Ends.ensures in
     record { stands = r.0; agrees = r.1; failed = ap (λ (s : PathState). s.failed) c.finish-in-Ends.ensures.is ∙ k.failed }
 
 pub returns-in-Refuses : goal.returns-in-Refuses
