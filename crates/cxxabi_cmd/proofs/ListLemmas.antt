@@ -14,7 +14,8 @@ use Rattle.abi_slots.proofs.Loops.{rest_is}
 use Rattle.cxxabi_cmd.specs.declared.listing.Listing.{Listing}
 use Rattle.cxxabi_cmd.specs.declared.reply.Reply.{Reply}
 use Rattle.cxxabi_cmd.specs.declared.status.Status.TheVariants.{Limit, Refused}
-use Rattle.cxxabi_cmd.specs.Output.{Answer, AreTexts, no_texts, more_texts, Lists, whole, too_much, line_alone, text_answer, class_from_number, first_classes}
+use Rattle.abi_foreign.specs.Lines.{class_by_number}
+use Rattle.cxxabi_cmd.specs.Output.{Answer, AreTexts, no_texts, more_texts, Lists, whole, too_much, line_alone, text_answer, first_classes}
 use Rattle.cxxabi_cmd.specs.invariants.Listings.{IsReady, IsAppended, AreListedTexts, IsTooMuch, ListsName, is_unknown, is_class}
 use Rattle.cxxabi_cmd.specs.invariants.Replies.{as_answer}
 use Rattle.cxxabi_cmd.specs.declared.verdict.Accepted.{Accepted}
@@ -85,8 +86,8 @@ found_none None items r accepted listing classes ready same is alone = lists_lim
 found_none (Some y) items r accepted listing classes ready same is alone = absurd (cc)
 
 -- one class more of all
-pub first_more : (n : ℕ) (list : List ClassId) → list ≡ first_classes n → list ++ class_from_number n ∷ [] ≡ first_classes (n + 1)
-first_more n list so = ap (λ (l : List ClassId). l ++ class_from_number n ∷ []) so ∙ ap first_classes (sym (add-one n))
+pub first_more : (n : ℕ) (list : List ClassId) → list ≡ first_classes n → list ++ class_by_number n ∷ [] ≡ first_classes (n + 1)
+first_more n list so = ap (λ (l : List ClassId). l ++ class_by_number n ∷ []) so ∙ ap first_classes (sym (add-one n))
 
 pub all_known : (h : Classes) (classes : List ClassId) → classes ≡ first_classes (length h) → All (λ (c : ClassId). c.0 < length h) classes
 all_known h classes so =

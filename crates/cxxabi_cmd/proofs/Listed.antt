@@ -17,7 +17,8 @@ use Rattle.abi_print.specs.TableTexts.{tables_text}
 use Rattle.cxxabi_words.specs.declared.command.Command.{Command}
 use Rattle.cxxabi_cmd.specs.declared.listing.Listing.{Listing}
 use Rattle.cxxabi_cmd.specs.declared.listing.Listing.TheVariants.{OfLayout, OfTables}
-use Rattle.cxxabi_cmd.specs.Output.{class_from_number, first_classes, AsksFor, all_layouts, one_layout, all_tables, one_tables, IsClassText, AreTexts, no_texts, more_texts}
+use Rattle.abi_foreign.specs.Lines.{class_by_number}
+use Rattle.cxxabi_cmd.specs.Output.{first_classes, AsksFor, all_layouts, one_layout, all_tables, one_tables, IsClassText, AreTexts, no_texts, more_texts}
 
 -- a class has tables, and one list of each
 abbrev pub SomeTables : Type 0
@@ -62,7 +63,7 @@ one_texts law h rows listing _ _ _ keeps sound known (more_texts c classes text 
 
 pub first_known : (h : Classes) (n : ℕ) → n ≤ length h → AreKnown h (first_classes n)
 first_known h zero le = tt
-first_known h (suc n) le = All-push (λ (c : ClassId). c.0 < length h) (first_classes n) (class_from_number n) (first_known h n (omega arith)) (omega arith)
+first_known h (suc n) le = All-push (λ (c : ClassId). c.0 < length h) (first_classes n) (class_by_number n) (first_known h n (omega arith)) (omega arith)
 
 -- a number that has a name is that of a class
 pub named_below : (h : Classes) (n : ℕ) (name : List ℕ) → slice_get (class_names h) n ≡ Some name → n < length h

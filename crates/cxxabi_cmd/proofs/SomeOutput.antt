@@ -46,7 +46,8 @@ use Rattle.abi_tables.specs.Counts.{words_of_all_classes, most_words}
 use Rattle.abi_inspect.specs.Faults.{AreNamesWords}
 use Rattle.cxx_syntax.specs.declared.tree.BodyTree.{BodyTree}
 use Rattle.cxxabi_cmd.specs.Verdict.{AreLexemes, SpellsSource, MeetsNoFault, Judgement, Verdict, Stops, Accepts, by_text, by_records, by_classes, by_bodies, by_words, accepted}
-use Rattle.cxxabi_cmd.specs.Output.{source_limit, command_text_limit, Answer, AsksFor, all_layouts, one_layout, all_tables, one_tables, AsksForName, named_layout, named_tables, Lists, whole, too_much, Yields, counted, unknown_class, listed, arrayed, pointed, Output, usage, too_long, line_alone, count_answer, text_answer, status_of_stop, class_from_number, first_classes, no_main, inspected, no_layout}
+use Rattle.abi_foreign.specs.Lines.{class_by_number}
+use Rattle.cxxabi_cmd.specs.Output.{source_limit, command_text_limit, Answer, AsksFor, all_layouts, one_layout, all_tables, one_tables, AsksForName, named_layout, named_tables, Lists, whole, too_much, Yields, counted, unknown_class, listed, arrayed, pointed, Output, usage, too_long, line_alone, count_answer, text_answer, status_of_stop, first_classes, no_main, inspected, no_layout}
 use Rattle.cxxabi_cmd.proofs.Accepting.{ProgramsAreTyped, source_keeps, accepted_keeps, accepted_fine, accepted_names, accepted_typed, accepted_main}
 use Rattle.cxxabi_cmd.proofs.Asking.{Judged, is_stopped, is_yielded, Parted, parted_output}
 use Rattle.cxxabi_cmd.proofs.SourceLemmas.{parts_short}
@@ -129,7 +130,7 @@ yields_list law front size source h typed command listing classes keeps fine ask
 
 yields_named : SomeTables → (front : List ℕ) (size : ℕ) (source : SourceText) (h : Classes) (typed : TypedProgram) (command : Command) (listing : Listing) (name : List ℕ) → IsHierarchy h → MeetsNoFault h → AsksForName command name →
     ((c : ClassId) → slice_get (class_names h) c.0 ≡ Some name → AsksFor h command listing (c ∷ [])) → IsThere (class_names h) name → (answer : Answer) × Yields front size source h typed command answer
-yields_named law front size source h typed command listing name keeps fine names asks (there_at n at) = yields_list law front size source h typed command listing (class_from_number n ∷ []) keeps fine (asks (class_from_number n) at)
+yields_named law front size source h typed command listing name keeps fine names asks (there_at n at) = yields_list law front size source h typed command listing (class_by_number n ∷ []) keeps fine (asks (class_by_number n) at)
 yields_named law front size source h typed command listing name keeps fine names asks (nowhere none) =
     (line_alone (Refused UnknownName size), unknown_class command name names (λ has. let place = place_of (class_names h) name has in none place.0 place.1))
 
@@ -148,14 +149,14 @@ pub record SomeLaws : Type 0 where
 some_array : SomeArrays → (size : ℕ) (h : Classes) (name : List ℕ) (n : ℕ) → IsHierarchy h → IsThere (class_names h) name → (answer : Answer) × IsArrayReply size h name n answer
 some_array law size h name n keeps (there_at i at) =
     let laid = some_layout h keeps in
-    let is = law h (places_of h laid.0) (class_from_number i) n keeps (named_below h i name at) in
-    (array_answer is.0, elements_of (class_from_number i) laid.0 is.0 at laid.1 is.1)
+    let is = law h (places_of h laid.0) (class_by_number i) n keeps (named_below h i name at) in
+    (array_answer is.0, elements_of (class_by_number i) laid.0 is.0 at laid.1 is.1)
 some_array law size h name n keeps (nowhere none) = (line_alone (Refused UnknownName size), no_element_class (λ has. let place = place_of (class_names h) name has in none place.0 place.1))
 
 some_member : (size : ℕ) (h : Classes) (named : QualifiedMember) → IsHierarchy h → IsThere (class_names h) named.class → IsThere (class_names h) named.whole → (answer : Answer) × IsMemberReply size h named answer
 some_member size h named keeps (there_at i at) (there_at j of) =
     let laid = some_layout h keeps in
-    (member_answer (answer_of h (places_of h laid.0) (class_from_number i) named.member (class_from_number j)), member_of (class_from_number i) (class_from_number j) laid.0 at of laid.1)
+    (member_answer (answer_of h (places_of h laid.0) (class_by_number i) named.member (class_by_number j)), member_of (class_by_number i) (class_by_number j) laid.0 at of laid.1)
 some_member size h named keeps (there_at i at) (nowhere none) =
     (line_alone (Refused UnknownName size), no_whole (λ has. let place = place_of (class_names h) named.whole has in none place.0 place.1))
 some_member size h named keeps (nowhere none) there =

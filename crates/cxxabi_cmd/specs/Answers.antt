@@ -1,4 +1,5 @@
 -- Answers, and what is answered where an array of a class or a pointer to a member is asked for.
+use Rattle.text_told.specs.Told.{text_limit}
 use Rattle.std.specs.Prelude.{◌≡◌, ℕ, Contains, slice_get, nat_le, List, length, Some, if◌then◌else◌}
 use Rattle.cxx_hierarchy.specs.declared.records.ClassId.{ClassId}
 use Rattle.cxx_hierarchy.specs.declared.stop.Rule.TheVariants.{UnknownName}
@@ -22,10 +23,6 @@ use Rattle.cxxabi_cmd.specs.declared.status.Status.{Status}
 use Rattle.cxxabi_cmd.specs.declared.status.Status.TheVariants.{Done, Refused, BadInput, Limit}
 use Rattle.cxxabi_cmd.specs.Statuses.{status_line}
 
--- the bytes that the text of a command may have (limit L9)
-abbrev pub command_text_limit : ℕ
-command_text_limit = 16777216
-
 -- the text and the status of an answer
 pub record Answer : Type 0 where
   pub text : List ℕ
@@ -41,7 +38,7 @@ text_answer text = record { text = text; status = Done }
 
 -- a text, or the limit that it passes
 abbrev pub limited_answer : List ℕ → Answer
-limited_answer text = if nat_le (length text) command_text_limit then text_answer text else line_alone (Limit L9)
+limited_answer text = if nat_le (length text) text_limit then text_answer text else line_alone (Limit L9)
 
 -- an array, or the rule that refuses it
 abbrev pub array_answer : ArrayAnswer → Answer

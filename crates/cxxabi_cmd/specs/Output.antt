@@ -1,4 +1,5 @@
 -- Which text and which status belong to words and the bytes of an input.
+use Rattle.abi_foreign.specs.Lines.{class_by_number}
 use Rattle.std.specs.Prelude.{◌≡◌, ℕ, zero, suc, ◌<◌, ◌≤◌, Bool, Contains, slice_get, List, [], ◌∷◌, ◌++◌, length, map, codes, Option, Some, None, IfSome, string_bytes, String}
 use Rattle.std.specs.Fmt.{decimal}
 use Rattle.cxx_text.specs.Cover.{max_text_bytes}
@@ -16,7 +17,7 @@ use Rattle.path_rules.specs.Rules.{undefined_no}
 use Rattle.path_model.specs.Runs.{run_of}
 use Rattle.text_told.specs.declared.ending.End.{End}
 use Rattle.text_told.specs.declared.ending.End.TheVariants as ends
-use Rattle.text_told.specs.Told.{told, told_ending}
+use Rattle.text_told.specs.Told.{told, told_ending, text_limit}
 use Rattle.abi_sound.specs.declared.class_layout.ClassLayout.{ClassLayout}
 use Rattle.abi_sound.specs.Places.{places_of}
 use Rattle.abi_tables.specs.declared.tables.ClassTables.{ClassTables}
@@ -35,7 +36,7 @@ use Rattle.cxxabi_cmd.specs.declared.status.Status.TheVariants.{Done, Refused, B
 use Rattle.cxxabi_cmd.specs.Commands.{RunsMain, SumsUp, input_of, divided_input}
 use Rattle.cxxabi_cmd.specs.Divided.{IsDumpReply, IsLayoutOf, IsListingReply, undivided_rule}
 use Rattle.cxxabi_input.specs.Division.{line_count}
-pub use Rattle.cxxabi_cmd.specs.Answers.{Answer, line_alone, text_answer, command_text_limit}
+pub use Rattle.cxxabi_cmd.specs.Answers.{Answer, line_alone, text_answer}
 use Rattle.cxxabi_cmd.specs.Answers.{IsArrayReply, IsMemberReply}
 use Rattle.cxxabi_cmd.specs.Statuses.{status_line}
 use Rattle.cxxabi_streams.specs.Streams.{AddsFrontOf}
@@ -81,13 +82,10 @@ status_of_stop stop.NoMemory = NoMemory
 abbrev pub count_answer : Classes → Answer
 count_answer h = text_answer (decimal (length h) ++ codes " classes\n")
 
-abbrev pub class_from_number : ℕ → ClassId
-class_from_number n = record { 0 = n }
-
 -- the first classes of a source in their order, as many as are asked for
 abbrev pub first_classes : ℕ → List ClassId
 first_classes zero = []
-first_classes (suc n) = first_classes n ++ class_from_number n ∷ []
+first_classes (suc n) = first_classes n ++ class_by_number n ∷ []
 
 -- what a command asks for, and of which classes
 pub data AsksFor (h : Classes) : Command → Listing → List ClassId → Type 0 where
@@ -119,8 +117,8 @@ pub data AreTexts (h : Classes) (rows : List ClassLayout) (listing : Listing) : 
 
 -- what is answered where these classes are listed
 pub data Lists (h : Classes) (listing : Listing) (classes : List ClassId) : Answer → Type 0 where
-  whole : (rows : List ClassLayout) (text : List ℕ) → IsLaid h rows → AreTexts h rows listing classes text → length text ≤ command_text_limit → Lists h listing classes (text_answer text)
-  too_much : (rows : List ClassLayout) (text : List ℕ) → IsLaid h rows → AreTexts h rows listing classes text → command_text_limit < length text → Lists h listing classes (line_alone (Limit L9))
+  whole : (rows : List ClassLayout) (text : List ℕ) → IsLaid h rows → AreTexts h rows listing classes text → length text ≤ text_limit → Lists h listing classes (text_answer text)
+  too_much : (rows : List ClassLayout) (text : List ℕ) → IsLaid h rows → AreTexts h rows listing classes text → text_limit < length text → Lists h listing classes (line_alone (Limit L9))
 
 -- what a command answers to an accepted source of so many bytes, which resolves to this program, behind this front
 pub data Yields (front : List ℕ) (size : ℕ) (source : SourceText) (h : Classes) (typed : TypedProgram) : Command → Answer → Type 0 where
