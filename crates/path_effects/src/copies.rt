@@ -1,6 +1,7 @@
 //! The copy of an object (ISO C++03 12.8).
 
 ghost use Rattle.std.specs.Prelude.{OnOk};
+ghost use Rattle.path_tables.specs.Asked.{AreAnswers};
 ghost use Rattle.path_tables.specs.Worlds.{IsWorld};
 ghost use Rattle.path_effects.specs.ClearSights.{CopiesLeaves};
 
@@ -8,7 +9,7 @@ use cxx_hierarchy::ClassId;
 use cxx_program::TypedOperand;
 use foundation::NoMemory;
 use path_heap::{Heap, Value};
-use path_tables::World;
+use path_tables::{Answers, World};
 use path_values::{Scene, value};
 use std::alloc::Global;
 
@@ -19,13 +20,16 @@ pub fn copy(
     alloc: Global,
     world: &World,
     heap: &mut Heap,
+    answers: &mut Answers,
     scene: &Scene,
     to: &TypedOperand,
     from: &TypedOperand,
     c: ClassId,
 ) -> Result<(), NoMemory>
     requires world { IsWorld world.now }
-    ensures { OnOk result (CopiesLeaves world.now.h.now heap.old heap.new scene.now to.now from.now c) }
+    requires answers { AreAnswers world.now.h.now answers.old }
+    ensures answers { AreAnswers world.now.h.now answers.new }
+    ensures copies { OnOk result (CopiesLeaves world.now.h.now heap.old heap.new scene.now to.now from.now c) }
 {
     let Value::Pointer(target) = value(scene, to) else {
         return Ok(());
@@ -33,5 +37,7 @@ pub fn copy(
     let Value::Pointer(source) = value(scene, from) else {
         return Ok(());
     };
-    path_places::copy(alloc, world, heap, c, target, source)
+    answers.list(alloc, world, c)?;
+    path_places::copy(alloc, world, heap, c, target, source, answers.listed(c))?;
+    Ok(())
 }

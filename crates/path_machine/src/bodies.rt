@@ -159,7 +159,7 @@ fn effect(
             Ok(done)
         }
         TypedKind::Copy(to, from, c) => {
-            let done = copy_object(run, machine, frame, next, to, from, *c)?;
+            let done = copy_object(run, machine, answers, frame, next, to, from, *c)?;
             Ok(done)
         }
         TypedKind::Call(call) => {

@@ -8,6 +8,7 @@ ghost use Rattle.path_model.specs.Values.{value_of_operand};
 ghost use Rattle.path_model.specs.States.{RunningBody, Frame as FrameOf, ProgramState, sight};
 ghost use Rattle.path_model.specs.Effects.{telling, value_out, dump_out};
 ghost use Rattle.path_heap.specs.Stands.{Means};
+ghost use Rattle.path_tables.specs.Asked.{AreAnswers};
 ghost use Rattle.path_machine.specs.invariants.Steps.{IsTaken, gone_on, IsTakenIn, StepAgreesIn};
 ghost use Rattle.path_machine.specs.invariants.Setups.{IsSetup};
 ghost use Rattle.path_machine.specs.invariants.StatementSteps.{WritesPlace, CopiesObject, GivesResult, LeavesBody, LeavesFunction, PrintsType, PrintsView};
@@ -24,6 +25,7 @@ use foundation::NoMemory;
 use path_effects::{argument_value, copy, dump_told, type_told, value_told, view_told, write};
 use path_frames::{BodyBox, Machine};
 use path_heap::Value;
+use path_tables::Answers;
 use path_values::{Scene, convert, value};
 
 /// A leaf takes a value (ISO C++03 5.17).
@@ -57,6 +59,7 @@ pub(crate) fn write_place(
 pub(crate) fn copy_object(
     run: &Run,
     machine: &mut Machine,
+    answers: &mut Answers,
     frame: BodyBox,
     next: usize,
     to: &TypedOperand,
@@ -64,7 +67,9 @@ pub(crate) fn copy_object(
     class: ClassId,
 ) -> Result<Next, NoMemory>
     requires setup { IsSetup run.now }
-    ensures { IfOk result (CopiesObject run.now machine.old machine.new frame next to.now from.now class) }
+    requires answers { AreAnswers run.now.world.h.now answers.old }
+    ensures answers { AreAnswers run.now.world.h.now answers.new }
+    ensures agrees { IfOk result (CopiesObject run.now machine.old machine.new frame next to.now from.now class) }
 {
     let body = frame.get();
     let scene = Scene {
@@ -76,6 +81,7 @@ pub(crate) fn copy_object(
         run.alloc,
         &run.world,
         &mut machine.heap,
+        answers,
         &scene,
         to,
         from,

@@ -1,12 +1,14 @@
 //! The copy of a part.
 
-ghost use Rattle.std.specs.Prelude.{IfOk, OnOk};
+ghost use Rattle.std.specs.Prelude.{◌≡◌, IfOk, OnOk};
+ghost use Rattle.cxx_subobject.specs.Preorder.{preorder};
 ghost use Rattle.path_tables.specs.Worlds.{IsWorld};
 ghost use Rattle.path_places.specs.invariants.Stores.{ReadsAll, StoresAll};
 ghost use Rattle.path_places.specs.PartCopies.{CopiesPart};
 
 use crate::leaves::leaf_numbers;
 use cxx_hierarchy::ClassId;
+use cxx_subobject::Subobject;
 use foundation::NoMemory;
 use path_heap::{Heap, Value};
 use path_tables::World;
@@ -37,7 +39,8 @@ fn store_all(heap: &mut Heap, leaves: &[u32], values: &[Value]) -> Result<(), No
     Ok(())
 }
 
-/// Each leaf of one part takes the old value of the same leaf of another one, both of class c: `*to = *from` (ISO C++03 12.8 p13).
+/// Each leaf of one part takes the old value of the same leaf of another one, both of class c, whose subobjects in preorder these
+/// are: `*to = *from` (ISO C++03 12.8 p13).
 ///
 /// Errors: want of memory. The heap is then of no use.
 pub fn copy(
@@ -47,12 +50,14 @@ pub fn copy(
     c: ClassId,
     to: u32,
     from: u32,
+    bases: &[Subobject],
 ) -> Result<(), NoMemory>
-    requires { IsWorld world.now }
+    requires world { IsWorld world.now }
+    requires bases { bases.now ≡ preorder world.now.h.now c }
     ensures { OnOk result (CopiesPart world.now.h.now heap.old heap.new c to from) }
 {
-    let leaves = leaf_numbers(alloc, world, heap, to, c)?;
-    let sources = leaf_numbers(alloc, world, heap, from, c)?;
+    let leaves = leaf_numbers(alloc, world, heap, to, c, bases)?;
+    let sources = leaf_numbers(alloc, world, heap, from, c, bases)?;
     let values = values_of(alloc, heap, &sources)?;
     store_all(heap, &leaves, &values)?;
     Ok(())

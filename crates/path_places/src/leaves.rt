@@ -5,6 +5,7 @@ ghost use Rattle.std.specs.List.{AllZip};
 ghost use Rattle.cxx_hierarchy.specs.declared.records.ClassId.{ClassId};
 ghost use Rattle.cxx_hierarchy.specs.declared.records.FieldType.TheVariants.{Object};
 ghost use Rattle.cxx_subobject.specs.Subobjects.{class_of};
+ghost use Rattle.cxx_subobject.specs.Preorder.{preorder};
 ghost use Rattle.path_plan.specs.Places.{ObjectPart};
 ghost use Rattle.path_plan.specs.Plans.{upto};
 ghost use Rattle.path_model.specs.Values.{Objects};
@@ -15,7 +16,7 @@ ghost use Rattle.path_tables.specs.Worlds.{IsWorld};
 ghost use Rattle.path_places.specs.invariants.Leaves.{ListsWhole, ListsOwn, ListsMember, ListsElements};
 
 use cxx_hierarchy::{ClassId, FieldType, Member};
-use cxx_subobject::{Subobject, class_of, list_subobjects, put_subobjects};
+use cxx_subobject::{Subobject, class_of, put_subobjects};
 use foundation::{NoMemory, Sequence};
 use path_heap::Heap;
 use path_tables::World;
@@ -131,8 +132,8 @@ fn push_whole(
     Ok(())
 }
 
-/// The numbers of the leaves of a part that has begun, of class c: those of its subobjects in preorder, each virtual base once, and
-/// in each the members and elements in order.
+/// The numbers of the leaves of a part that has begun, of class c, whose subobjects in preorder these are: those of each subobject,
+/// each virtual base once, and in each the members and elements in order.
 ///
 /// Errors: want of memory.
 pub fn leaf_numbers(
@@ -141,8 +142,10 @@ pub fn leaf_numbers(
     heap: &Heap,
     n: u32,
     c: ClassId,
+    bases: &[Subobject],
 ) -> Result<Vec<u32>, NoMemory>
-    requires { IsWorld world.now }
+    requires world { IsWorld world.now }
+    requires bases { bases.now ≡ preorder world.now.h.now c }
     ensures { IfOk result (λ leaves. (s : Objects) (p : ObjectPart) → HeapStands world.now.h.now heap.now s → Points world.now.h.now s.classes n p → HasBegun s p → class_of p.at ≡ Some c → AllZip (PointsLeaf world.now.h.now s.classes) leaves.items (leaves_of world.now.h.now c p)) }
 {
     let mut leaves = Vec::new(alloc);
@@ -150,8 +153,7 @@ pub fn leaf_numbers(
         return Ok(leaves);
     }
     world.h.keeps();
-    let bases = list_subobjects(alloc, world.h, c)?;
-    for base in bases.as_slice() {
+    for base in bases {
         let d = class_or_first(base);
         let start = heap.base(world.numbers, world.h, n, base);
         push_own(alloc, world, d, start, &mut leaves)?;

@@ -1,6 +1,6 @@
 //! Answers that are looked up first, and worked out where they are not there yet.
 
-ghost use Rattle.std.specs.Prelude.{◌≡◌, Some, IfOk, find};
+ghost use Rattle.std.specs.Prelude.{◌≡◌, Some, IfOk, OnOk, find};
 ghost use Rattle.cxx_hierarchy.specs.declared.records.ClassId.{ClassId};
 ghost use Rattle.cxx_hierarchy.specs.Classes.{Classes};
 ghost use Rattle.cxx_subobject.specs.declared.Root.TheVariants.{Whole};
@@ -11,7 +11,7 @@ ghost use Rattle.cxx_search.specs.Searches.{is_within, is_of_class, cast_in, fin
 ghost use Rattle.cxx_overrider.specs.Overriding.{IsVirtual};
 ghost use Rattle.path_tables.specs.Parts.{IsNumbered, number_where_found, numbered_overrider, derived_in};
 ghost use Rattle.path_tables.specs.Kept.{IsDownAnswer};
-ghost use Rattle.path_tables.specs.Asked.{AreAnswers};
+ghost use Rattle.path_tables.specs.Asked.{AreAnswers, IsListed};
 ghost use Rattle.path_tables.specs.Worlds.{IsWorld};
 
 use crate::answers::{
@@ -235,5 +235,26 @@ impl Answers {
     {
         self.lists.make(alloc, world.h, world.numbers, c)?;
         base_copied(alloc, world.h, c, self.lists.list(c), d)
+    }
+
+    /// Makes the list of the subobjects of a class, if it was not made before.
+    ///
+    /// Errors: want of memory.
+    pub fn list(&mut self, alloc: Global, world: &World, c: ClassId) -> Result<(), NoMemory>
+        requires world { IsWorld world.now }
+        requires answers { AreAnswers world.now.h.now self.old }
+        ensures answers { AreAnswers world.now.h.now self.new }
+        ensures there { OnOk result (IsListed self.new c) }
+    {
+        self.lists.make(alloc, world.h, world.numbers, c)?;
+        Ok(())
+    }
+
+    /// The subobjects of a class in preorder, of which the list was made.
+    pub fn listed(&self, c: ClassId) -> &[Subobject]
+        requires { IsListed self.now c }
+        ensures { (h : Classes) → AreAnswers h self.now → result.now ≡ preorder h c }
+    {
+        self.lists.list(c).parts.as_slice()
     }
 }

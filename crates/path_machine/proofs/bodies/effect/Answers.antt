@@ -46,7 +46,7 @@ returns-in_ok-done-in-Copy-clause-agrees c = λ e s f below t clear behind.
     let next = c.args.statement.now.next in
     let kind = c.args.statement.now.kind in
     let outs = c.args.outs.now in
-    does_plain h sizes program e s f below f.next next c.copy_object.new.machine outs outs c.in_ok-done-in-Copy.done kind (Copy c.in-Copy.to c.in-Copy.from c.in-Copy.c) c.in-Copy.is clear refl (λ within. c.in_ok-done-in-Copy.ensures e s f below outs t within)
+    does_plain h sizes program e s f below f.next next c.copy_object.new.machine outs outs c.in_ok-done-in-Copy.done kind (Copy c.in-Copy.to c.in-Copy.from c.in-Copy.c) c.in-Copy.is clear refl (λ within. c.in_ok-done-in-Copy.ensures.agrees e s f below outs t within)
 
 pub returns-in_ok-done-in-Call-clause-agrees : goal.returns-in_ok-done-in-Call-clause-agrees
 returns-in_ok-done-in-Call-clause-agrees c = λ e s f below t clear behind.

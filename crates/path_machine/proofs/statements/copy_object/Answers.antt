@@ -8,8 +8,8 @@ use Rattle.path_machine.proofs.Effecting.{scene_by, taken_heaped, copy_agrees}
 use Rattle.path_machine.proofs.statements.copy_object.Goals as goal
 
 -- src/statements.rt:90:1
-pub returns : goal.returns
-returns c = λ e s f below outs t clear.
+pub returns-clause-agrees : goal.returns-clause-agrees
+returns-clause-agrees c = λ e s f below outs t clear.
     let h = c.args.run.now.world.h.now in
     let sizes = size_in c.args.run.now.sizes.now in
     let program = c.args.run.now.program.now in
@@ -18,4 +18,4 @@ returns c = λ e s f below outs t clear.
     copy_agrees h sizes program c.go_on.new.machine (with_frames s _) c.args.class (value_of_operand see c.args.to.now) (value_of_operand see c.args.from.now) outs (λ p q names other.
     let x = copied h c.args.class p q s.objects in
     c.in_ok-go_on.ensures h sizes program (with_objects s x) f below
-    (taken_heaped h sizes program c.args.machine.now c.copy.new.heap c.args.frame s f below x t (c.in_ok-copy.ensures e see (wanted_result f) p q scene clear.given.seen clear.given.typed clear.clear names other) refl))
+    (taken_heaped h sizes program c.args.machine.now c.copy.new.heap c.args.frame s f below x t (c.in_ok-copy.ensures.copies e see (wanted_result f) p q scene clear.given.seen clear.given.typed clear.clear names other) refl))

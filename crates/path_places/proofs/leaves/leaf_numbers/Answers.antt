@@ -7,9 +7,9 @@ use Rattle.path_places.proofs.leaves.leaf_numbers.Goals as goal
 pub push_own-requires-clause-known : goal.push_own-requires-clause-known
 push_own-requires-clause-known c =
     let h = c.args.world.now.h.now in
-    let is = c.as_slice-base-items.ensures ∙ c.in_ok-bases.ensures.preorder in
-    let valid = valid_at h c.args.c c.as_slice-base-items.result.now c.loop-base.base-index c.base-item.result is c.loop-base-test.true c.base-item.is in
-    let low = class_low h c.requires.hierarchy c.args.c c.class_or_first-d.result c.base-item.result valid (class_found h c.args.c c.class_or_first-d.result c.base-item.result valid c.class_or_first-d.ensures) in
+    let is = c.requires.bases in
+    let valid = valid_at h c.args.c c.args.bases.now c.loop-base.base-index c.base-item.result is c.loop-base-test.true c.base-item.is in
+    let low = class_low h c.requires.world.hierarchy c.args.c c.class_or_first-d.result c.base-item.result valid (class_found h c.args.c c.class_or_first-d.result c.base-item.result valid c.class_or_first-d.ensures) in
     let few = c.if-c-len.false in
     let size = c.len.ensures in
     omega arith
@@ -17,17 +17,17 @@ push_own-requires-clause-known c =
 pub loop-base-preserved : goal.loop-base-preserved
 loop-base-preserved c =
     let h = c.args.world.now.h.now in
-    let is = c.as_slice-base-items.ensures ∙ c.in_ok-bases.ensures.preorder in
-    part_next h c.args.heap.now c.args.n c.args.c c.as_slice-base-items.result.now c.loop-base.base-index c.base-item.result is c.loop-base-test.true c.base-item.is c.class_or_first-d.result c.class_or_first-d.ensures
+    let is = c.requires.bases in
+    part_next h c.args.heap.now c.args.n c.args.c c.args.bases.now c.loop-base.base-index c.base-item.result is c.loop-base-test.true c.base-item.is c.class_or_first-d.result c.class_or_first-d.ensures
     c.base-start.result c.base-start.ensures c.loop-base.leaves.items c.push_own.new.leaves.items c.loop-base.invariant c.in_ok-push_own.ensures
 
 pub returns : goal.returns
 returns c =
-    part_all c.args.world.now.h.now c.requires.hierarchy c.args.heap.now c.args.n c.args.c c.as_slice-base-items.result.now c.loop-base.base-index (c.as_slice-base-items.ensures ∙ c.in_ok-bases.ensures.preorder) c.loop-base-test.false
+    part_all c.args.world.now.h.now c.requires.world.hierarchy c.args.heap.now c.args.n c.args.c c.args.bases.now c.loop-base.base-index c.requires.bases c.loop-base-test.false
     c.loop-base.leaves.items c.loop-base.invariant
 
 pub returns-then-c-len : goal.returns-then-c-len
 returns-then-c-len c = λ s p stands q begun class.
     let size = c.len.ensures in
     let past = c.if-c-len.true in
-    part_past c.args.world.now.h.now c.requires.hierarchy s.classes c.args.c p c.new-leaves.result.items c.new-leaves.ensures.items (omega arith)
+    part_past c.args.world.now.h.now c.requires.world.hierarchy s.classes c.args.c p c.new-leaves.result.items c.new-leaves.ensures.items (omega arith)
