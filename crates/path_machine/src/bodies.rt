@@ -5,22 +5,19 @@ ghost use Rattle.cxx_hierarchy.specs.declared.records.ClassId.{ClassId};
 ghost use Rattle.cxx_hierarchy.specs.Classes.{Classes};
 ghost use Rattle.cxx_overrider.specs.Functions.{return_of};
 ghost use Rattle.cxx_program.specs.declared.program.TypedProgram.{TypedProgram};
-ghost use Rattle.cxx_program.specs.Typed.{Scope};
 ghost use Rattle.path_machine.specs.declared.telling.Telling.{Telling};
-ghost use Rattle.path_model.specs.Rules.{returns_value, statement_refusal};
-ghost use Rattle.path_model.specs.States.{RunningBody, Frame as FrameOf, ProgramState, sight, wanted_result, target_conversion, with_frames};
+ghost use Rattle.path_model.specs.Rules.{returns_value};
+ghost use Rattle.path_model.specs.States.{RunningBody, Frame as FrameOf, ProgramState, target_conversion};
 ghost use Rattle.path_model.specs.Effects.{block_at};
-ghost use Rattle.path_model.specs.Steps.{before_kind, body_closed, constructor_closed, function_closed};
-ghost use Rattle.path_values.specs.Given.{IsGiven};
+ghost use Rattle.path_model.specs.Steps.{before_kind, body_closed, constructor_closed};
 ghost use Rattle.path_tables.specs.Asked.{AreAnswers};
 ghost use Rattle.path_frames.specs.declared.machine.Machine.{Machine as MachineOf};
 ghost use Rattle.path_frames.specs.Frames.{target_of_code};
-ghost use Rattle.path_frames.specs.Machines.{MachineStands};
 ghost use Rattle.cxx_program.specs.declared.operand.Conversion.TheVariants.{Same as ToSame};
-ghost use Rattle.path_machine.specs.invariants.Steps.{IsTaken, StepAgrees, IsTakenIn};
+ghost use Rattle.path_machine.specs.invariants.Steps.{IsTaken};
 ghost use Rattle.path_machine.specs.invariants.Plans.{plan_in};
 ghost use Rattle.path_machine.specs.invariants.Setups.{IsSetup};
-ghost use Rattle.path_machine.specs.invariants.StatementSteps.{ChoosesBetween, DeclaresLocal, DoesEffect, DoesStatement, ClosesBy, StepsBody};
+ghost use Rattle.path_machine.specs.invariants.StatementSteps.{ChoosesBetween, DeclaresLocal, DoesEffect, DoesStatement, ClosesBy, StepsBody, RefusesStatement, ClosesFunction};
 
 use crate::calls::{call_body, delete_object};
 use crate::effects::{branch, go_on};
@@ -237,8 +234,7 @@ fn refused(
     requires setup { IsSetup run.now }
     requires answers { AreAnswers run.now.world.h.now answers.old }
     ensures answers { AreAnswers run.now.world.h.now answers.new }
-    ensures is { IfOk result (λ rule. (e : Scope) (s : ProgramState) (f : RunningBody) (below : List FrameOf) →
-        IsTakenIn run.now machine.now frame.now s f below → IsGiven run.now.world.h.now e (sight s f) (wanted_result f) kind.now → rule ≡ statement_refusal run.now.world.h.now (sight s f) (wanted_result f) kind.now) }
+    ensures is { IfOk result (λ rule. RefusesStatement run.now machine.now frame.now kind.now rule) }
 {
     let same = Conversion::Same;
     let scene = scene_of(machine, frame);
@@ -296,7 +292,7 @@ fn has_result(h: &Hierarchy, g: FunctionId) -> bool
 
 /// The closing step of a function's body (ISO C++03 6.6.3 p2).
 fn close_function(h: &Hierarchy, g: FunctionId, line: u32) -> Next
-    ensures { (sizes : ClassId → ℕ) (program : TypedProgram) (machine : MachineOf) (s : ProgramState) (below : List FrameOf) (outs : Telling) → MachineStands h.now sizes program machine (with_frames s below) → StepAgrees h.now sizes program (function_closed h.now s g line below) machine outs outs result }
+    ensures { ClosesFunction h.now g line result }
 {
     refusal_is_least();
     if has_result(h, g) {

@@ -6,12 +6,12 @@ ghost use Rattle.cxx_hierarchy.specs.Classes.{Classes};
 ghost use Rattle.cxx_program.specs.declared.program.TypedProgram.{TypedProgram};
 ghost use Rattle.path_model.specs.Values.{value_of_operand};
 ghost use Rattle.path_model.specs.States.{RunningBody, Frame as FrameOf, ProgramState, sight};
-ghost use Rattle.path_model.specs.Effects.{telling, value_out, dump_out};
+ghost use Rattle.path_model.specs.Effects.{telling, value_out};
 ghost use Rattle.path_heap.specs.Stands.{Means};
 ghost use Rattle.path_tables.specs.Asked.{AreAnswers};
 ghost use Rattle.path_machine.specs.invariants.Steps.{IsTaken, gone_on, IsTakenIn, StepAgreesIn};
 ghost use Rattle.path_machine.specs.invariants.Setups.{IsSetup};
-ghost use Rattle.path_machine.specs.invariants.StatementSteps.{WritesPlace, CopiesObject, GivesResult, LeavesBody, LeavesFunction, PrintsType, PrintsView};
+ghost use Rattle.path_machine.specs.invariants.StatementSteps.{WritesPlace, CopiesObject, GivesResult, LeavesBody, LeavesFunction, PrintsType, PrintsView, PrintsDump};
 
 use crate::effects::{go_on, tell};
 use crate::giving::give;
@@ -206,9 +206,7 @@ pub(crate) fn print_dump(
     x: &TypedOperand,
 ) -> Result<Next, NoMemory>
     requires setup { IsSetup run.now }
-    ensures { IfOk result (λ done. (s : ProgramState) (f : RunningBody) (below : List FrameOf) →
-        IsTakenIn run.now machine.old frame s f below →
-        StepAgreesIn run.now (telling (gone_on s f next below) (dump_out run.now.world.h.now s.objects (value_of_operand (sight s f) x.now))) machine.new outs.old outs.new done) }
+    ensures { IfOk result (λ done. PrintsDump run.now machine.old machine.new frame next x.now outs.old outs.new done) }
 {
     let v = operand(machine, &frame, x);
     let out = dump_told(run.alloc, &run.world, &machine.heap, v)?;

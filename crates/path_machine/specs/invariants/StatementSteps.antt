@@ -9,6 +9,7 @@ use Rattle.cxx_program.specs.declared.operand.TypedOperand.{TypedOperand}
 use Rattle.cxx_program.specs.declared.operand.Variable.{Variable}
 use Rattle.cxx_program.specs.declared.program.TypedProgram.{TypedProgram}
 use Rattle.cxx_program.specs.declared.statement.Converted.{Converted}
+use Rattle.cxx_program.specs.declared.statement.TypedKind.{TypedKind}
 use Rattle.cxx_program.specs.declared.statement.TypedKind.TheVariants.{Write, Copy, Return, PrintType, PrintView}
 use Rattle.cxx_program.specs.declared.statement.TypedPlace.{TypedPlace}
 use Rattle.cxx_program.specs.declared.statement.TypedStatement.{TypedStatement}
@@ -16,8 +17,11 @@ use Rattle.cxx_program.specs.Typed.{Scope, IsArgument}
 use Rattle.path_model.specs.declared.outs.Out.{Out}
 use Rattle.path_model.specs.Values.{Value, value_of_operand, argument_value, converted_to}
 use Rattle.path_model.specs.States.{Target, RunningBody, Frame, InBody, ProgramState, assigned, owned_body, sight, wanted_result, with_frames}
-use Rattle.path_model.specs.Effects.{Next, Goes, branched, copied_at, local_declared, effect, given_to_target, result_given, returned, returned_value, right_side_value, taken, telling, type_out, view_out, written}
-use Rattle.path_model.specs.Steps.{body_step, step_of_statement}
+use Rattle.path_model.specs.Effects.{Next, Goes, branched, copied_at, local_declared, effect, given_to_target, result_given, returned, returned_value, right_side_value, taken, telling, type_out, view_out, dump_out, written}
+use Rattle.path_model.specs.Steps.{body_step, function_closed, step_of_statement}
+use Rattle.path_model.specs.Rules.{statement_refusal}
+use Rattle.path_rules.specs.declared.Undefined.{Undefined}
+use Rattle.cxx_overrider.specs.declared.FunctionId.{FunctionId}
 use Rattle.path_model.specs.Runs.{body_limit, converted_demand, demand_of, move, move_by, right_demand}
 use Rattle.path_heap.specs.declared.state.Value.{Value as ValueCode}
 use Rattle.path_heap.specs.Stands.{Means}
@@ -115,6 +119,21 @@ abbrev pub PrintsView : Run → (old new : Machine) → BodyFrame → (next : �
 PrintsView run old new frame next x before after done = (e : Scope) (c : ClassId) (s : ProgramState) (f : RunningBody) (below : List Frame) →
     IsTakenIn run old frame s f below → IsClear run.world.h.now e s f (PrintView x c) →
     StepAgreesIn run (telling (gone_on s f next below) (view_out run.world.h.now s.objects (value_of_operand (sight s f) x))) new before after done
+
+-- the object that a part lies in is dumped
+abbrev pub PrintsDump : Run → (old new : Machine) → BodyFrame → (next : ℕ) → TypedOperand → (before after : Telling) → NextCode → Type 0
+PrintsDump run old new frame next x before after done = (s : ProgramState) (f : RunningBody) (below : List Frame) → IsTakenIn run old frame s f below →
+    StepAgreesIn run (telling (gone_on s f next below) (dump_out run.world.h.now s.objects (value_of_operand (sight s f) x))) new before after done
+
+-- the rule is the one that refuses the statement of the frame, if one does
+abbrev pub RefusesStatement : Run → Machine → BodyFrame → TypedKind → Option Undefined → Type 0
+RefusesStatement run machine frame kind rule = (e : Scope) (s : ProgramState) (f : RunningBody) (below : List Frame) →
+    IsTakenIn run machine frame s f below → IsGiven run.world.h.now e (sight s f) (wanted_result f) kind → rule ≡ statement_refusal run.world.h.now (sight s f) (wanted_result f) kind
+
+-- the closing step of a function's body, over any state of the machine
+abbrev pub ClosesFunction : Classes → FunctionId → (line : ℕ) → NextCode → Type 0
+ClosesFunction h g line done = (sizes : ClassId → ℕ) (program : TypedProgram) (machine : Machine) (s : ProgramState) (below : List Frame) (outs : Telling) →
+    MachineStands h sizes program machine (with_frames s below) → StepAgrees h sizes program (function_closed h s g line below) machine outs outs done
 
 -- a statement that no rule refuses has its effect, or meets a limit; the statement behind it in the text has the number `after`
 abbrev pub DoesEffect : Run → (old new : Machine) → BodyFrame → (after : ℕ) → TypedStatement → (before told : Telling) → NextCode → Type 0
