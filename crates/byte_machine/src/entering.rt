@@ -1,6 +1,6 @@
 //! The frames that calls open.
 
-ghost use Rattle.std.specs.Prelude.{◌≡◌, ◌<◌, ◌++◌, IfOk, replicate};
+ghost use Rattle.std.specs.Prelude.{◌≡◌, ◌<◌, ◌++◌, [], IfOk, replicate};
 ghost use Rattle.byte_machine.specs.Frames.{entry_registers};
 ghost use Rattle.byte_machine.specs.Calls.{calling, frame_at, kept_for, most_calls, register_words};
 ghost use Rattle.byte_machine.specs.GivenFrames.{frame_of, kept_of};
@@ -28,21 +28,43 @@ fn push_words<M: Memory>(
     Ok(())
 }
 
+/// A list without registers: that of a frame that was left, or a new one. Errors: want of memory.
+fn spare_registers<M: Memory>(
+    setup: &Setup,
+    running: &mut Running<M>,
+) -> Result<Vec<Option<u64>>, NoMemory>
+    ensures none { IfOk result (λ registers. registers.items ≡ []) }
+    ensures same { running_of running.new ≡ running_of running.old }
+    ensures kept { KeepsRoomAndOuts running.old running.new }
+{
+    match running.spare.pop() {
+        Some(mut registers) => {
+            registers.clear();
+            Ok(registers)
+        }
+        None => {
+            let registers = Vec::with_capacity(setup.alloc, setup.size as usize)?;
+            Ok(registers)
+        }
+    }
+}
+
 /// The registers of a frame that is entered: `this`, the words of these registers, and unset ones.
 pub fn enter<M: Memory>(
     setup: &Setup,
-    running: &Running<M>,
+    running: &mut Running<M>,
     this: u64,
     arguments: &[u32],
 ) -> Result<Vec<Option<u64>>, NoMemory>
-    ensures { IfOk result (λ registers. registers.items ≡ entry_registers setup.now.size this (register_words (running_of running.now) arguments.now)) }
+    ensures registers { IfOk result (λ registers. registers.items ≡ entry_registers setup.now.size this (register_words (running_of running.old) arguments.now)) }
+    ensures same { running_of running.new ≡ running_of running.old }
+    ensures kept { KeepsRoomAndOuts running.old running.new }
 {
-    let size = setup.size as usize;
-    let mut registers = Vec::with_capacity(setup.alloc, size)?;
+    let mut registers = spare_registers(setup, running)?;
     registers.push(Some(this))?;
     push_words(&mut registers, running, arguments)?;
     let count = registers.len();
-    registers.resize(count.max(size), None)?;
+    registers.resize(count.max(setup.size as usize), None)?;
     Ok(registers)
 }
 

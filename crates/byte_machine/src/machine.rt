@@ -66,6 +66,7 @@ impl<M: Memory> Machine<M> {
             shadow: Shadow::new(alloc),
             work: WorkList::reserve(alloc, largest)?,
             globals: same_words(alloc, code.globals, Some(0))?,
+            spare: Vec::new(alloc),
             opened: Vec::new(alloc),
             top: enter_main(alloc, &code)?,
             below: Vec::new(alloc),

@@ -122,6 +122,7 @@ fn leave<M: Memory>(_setup: &Setup, running: &mut Running<M>, word: Option<u64>)
     give(&mut under, running.top.kept.to, word);
     running.calls = left_calls(running.calls, running.top.is_call);
     let done = std::mem::replace(&mut running.top, under);
+    let _ = running.spare.push(done.registers);
     done.kept.finish
 }
 

@@ -27,6 +27,8 @@ pub struct Running<M: Memory> {
     pub shadow: Shadow,
     pub work: WorkList,
     pub globals: Vec<Option<u64>>,
+    /// The registers of frames that were left, for frames that are opened later.
+    pub spare: Vec<Vec<Option<u64>>>,
     /// The frames that the block opened.
     pub opened: Vec<Frame>,
     /// The frame whose block runs.
