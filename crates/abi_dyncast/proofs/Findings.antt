@@ -61,7 +61,7 @@ end_flag g allow Q part own o = (λ e. up (o.0 e), λ f. o.1 (back part f.end f.
     back _ _ (steps part end i lt a l) q = by i lt a (record { end = end; leads = l; is = q })
 
 -- the part's own tests
-source_test : (g : Graph) (goal : Goal) (part : Part) → (is_source goal part.at (g.class part) ≡ true) ↔ IsSource g goal part
+pub source_test : (g : Graph) (goal : Goal) (part : Part) → (is_source goal part.at (g.class part) ≡ true) ↔ IsSource g goal part
 source_test g goal part = (
   λ t. let b = and_parts (nat_eq part.at goal.at) (nat_eq (g.class part) goal.class) t in record { same_place = eqb-true part.at goal.at b.0; same_class = eqb-true (g.class part) goal.class b.1 },
   λ q. and_from (nat_eq part.at goal.at) (nat_eq (g.class part) goal.class) (eq-eqb part.at goal.at q.same_place) (eq-eqb (g.class part) goal.class q.same_class),

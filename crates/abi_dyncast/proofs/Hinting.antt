@@ -12,17 +12,7 @@ use Rattle.abi_dyncast.specs.Graph.{Graph, graph_of, info_at, any_edge, public_e
 use Rattle.abi_dyncast.specs.Casts.{AreClosedParts, IsTargetPart, parts_below, view_at_address, CastsTo, CanCast, CanCastHinted, CountsVisits, IsTrueHint}
 use Rattle.abi_dyncast.specs.invariants.Hinting.{is_at_hint}
 use Rattle.abi_dyncast.specs.invariants.Walks.{ReadsAtMost}
-use Rattle.abi_dyncast.proofs.Ways.{leads_any}
-
--- what lies below a part is the part itself, or of a lower class
-leads_lower : (g : Graph) (allow : Edge → Bool) (parts : List Part) (part end : Part) → AreClosedParts g parts → LeadsByEdges g allow part end → Contains parts part → (end ≡ part) ⊎ (g.class end < g.class part)
-leads_lower g allow parts _ _ are (stays part) has = inl refl
-leads_lower g allow parts _ _ are (steps part end i lt a l) has =
-    let falls = are.falls part i has lt in
-    ⊎_elim
-    (λ same. inr (subst (λ p. g.class p < g.class part) (sym same) falls))
-    (λ less. inr (omega arith))
-    (leads_lower g allow parts (g.edge part i).part end are l (are.inside part i has lt))
+use Rattle.abi_dyncast.proofs.Ways.{leads_any, leads_lower}
 
 -- what the test says
 record IsHinted (class view_at at target : ℕ) (hint : ℤ) : Type 0 where

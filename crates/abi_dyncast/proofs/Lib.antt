@@ -3,6 +3,7 @@ pub mod Entries
 pub mod Chaining
 pub mod Findings
 pub mod Going
+pub mod Searching
 pub mod Scanning
 pub mod Ways
 pub mod Choosing

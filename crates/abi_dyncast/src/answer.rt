@@ -11,6 +11,7 @@ ghost use Rattle.abi_dyncast.specs.invariants.Hinting.{is_at_hint};
 ghost use Rattle.abi_dyncast.specs.invariants.Walks.{ReadsAtMost};
 
 use crate::parts::{Part, moved, pointer, table_word, word};
+use crate::search::leads_to_source;
 use crate::walk::visit;
 use crate::work::{Entry, Found, Goal, WorkList};
 use byte_code::{BaseReader, ImageBytes};
@@ -187,5 +188,5 @@ pub fn is_within<M: Memory>(
         class,
         target: class,
     };
-    visit(&mut BaseReader::new(image), memory, work, goal, view).source
+    leads_to_source(&mut BaseReader::new(image), memory, work, goal, view)
 }

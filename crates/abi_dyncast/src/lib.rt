@@ -16,6 +16,7 @@
 mod answer;
 mod laws;
 mod parts;
+mod search;
 mod walk;
 mod work;
 

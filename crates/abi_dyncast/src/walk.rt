@@ -4,7 +4,7 @@ ghost use Rattle.std.specs.Prelude.{◌≡◌};
 ghost use Rattle.byte_code.specs.Images.{word_at};
 ghost use Rattle.byte_code.specs.Readers.{image_of, visits_of};
 ghost use Rattle.abi_dyncast.specs.Graph.{graph_of};
-ghost use Rattle.abi_dyncast.specs.invariants.Finding.{found_itself, found_with_base, TellsBelow};
+ghost use Rattle.abi_dyncast.specs.invariants.Finding.{is_source, found_itself, found_with_base, TellsBelow};
 ghost use Rattle.abi_dyncast.specs.invariants.Walks.{MayBeginWalk, Visited, HasRead};
 
 use crate::parts::{Part, edge_at};
@@ -12,11 +12,18 @@ use crate::work::{Found, Goal, WorkList};
 use byte_code::BaseReader;
 use byte_memory::Memory;
 
+/// Whether a part of a class at an address is the source.
+pub(crate) fn is_source(goal: Goal, at: u64, class: u32) -> bool
+    ensures { result ≡ is_source goal at class }
+{
+    at == goal.at && class == goal.class
+}
+
 /// What a part of a class at an address tells by itself.
 fn found_at(goal: Goal, at: u64, class: u32) -> Found
     ensures { result ≡ found_itself goal at class }
 {
-    let source = at == goal.at && class == goal.class;
+    let source = is_source(goal, at, class);
     Found {
         source,
         public_source: source,

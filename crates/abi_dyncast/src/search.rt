@@ -1,0 +1,53 @@
+//! The search for one part of a view.
+
+ghost use Rattle.std.specs.Prelude.{◌≡◌};
+ghost use Rattle.byte_code.specs.Images.{word_at};
+ghost use Rattle.byte_code.specs.Readers.{image_of};
+ghost use Rattle.abi_dyncast.specs.Graph.{graph_of};
+ghost use Rattle.abi_dyncast.specs.invariants.Searches.{MayBeginSearch, Searched, TellsOfSource};
+
+use crate::parts::{Part, edge_at};
+use crate::walk::is_source;
+use crate::work::{Found, Goal, WorkList};
+use byte_code::BaseReader;
+use byte_memory::Memory;
+
+/// Whether the source is a part or lies below it, by any edges. The search ends where it is found. A part below which it does not
+/// lie is put into the work list, so that no edge is passed twice.
+///
+/// The numbers of classes fall along edges: the source does not lie below a part whose number is at most its own.
+pub(crate) fn leads_to_source<M: Memory>(
+    reader: &mut BaseReader<'_>,
+    memory: &M,
+    work: &mut WorkList,
+    goal: Goal,
+    part: Part,
+) -> bool
+    requires { MayBeginSearch (word_at (image_of reader.old)) (M.meaning memory.now) goal work.old.parts work.old.entries.items part }
+    ensures tells { TellsOfSource (graph_of (word_at (image_of reader.old)) (M.meaning memory.now)) goal part result }
+    ensures searched { Searched (graph_of (word_at (image_of reader.old)) (M.meaning memory.now)) goal part work.old.entries.items work.new.entries.items }
+    ensures image { image_of reader.new ≡ image_of reader.old }
+    ensures parts { work.new.parts ≡ work.old.parts }
+{
+    let info = reader.info(part.info);
+    if info.class <= goal.class {
+        return is_source(goal, part.at, info.class);
+    }
+    if let Some(_) = work.find(part) {
+        return false;
+    }
+    for number in 0..info.bases {
+        let way = edge_at(reader, memory, part, info, number);
+        let below = leads_to_source(reader, memory, work, goal, way.part);
+        if below {
+            return true;
+        }
+    }
+    let nothing = Found {
+        source: false,
+        public_source: false,
+        public_target: false,
+    };
+    work.add(part, info.class, nothing);
+    false
+}
