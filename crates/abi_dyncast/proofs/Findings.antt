@@ -7,6 +7,7 @@ use Rattle.abi_dyncast.specs.declared.parts.Edge.{Edge}
 use Rattle.abi_dyncast.specs.declared.work.Goal.{Goal}
 use Rattle.abi_dyncast.specs.declared.work.Found.{Found}
 use Rattle.abi_dyncast.specs.Graph.{Graph, any_edge, public_edge, LeadsByEdges, stays, steps, LeadsToSome}
+use Rattle.abi_dyncast.proofs.Ways.{leads_any}
 use Rattle.abi_dyncast.specs.invariants.Finding.{IsSource, IsOfTarget, TellsBelow, is_source, found_itself, found_with_base}
 
 -- the part is such a one itself, or one of its first k edges leads to one
@@ -82,6 +83,25 @@ tells_step g goal part k own below o b = record {
   source = step_flag g any_edge (IsSource g goal) part k own.source below.source o.source b.source;
   public_source = step_flag g public_edge (IsSource g goal) part k own.public_source below.public_source o.public_source b.public_source;
   public_target = step_flag g public_edge (IsOfTarget g goal) part k own.public_target below.public_target o.public_target b.public_target;
+}
+
+-- an edge below which there is no part of the target class, where the source was found by public edges
+finds_more : (g : Graph) (allow : Edge → Bool) (Q : Part → Type 0) (part : Part) (k : ℕ) → FindsTo g allow Q part k → FindsTo g allow Q part (k + 1)
+finds_more g allow Q part k (self q) = self q
+finds_more g allow Q part k (by i lt a f) = by i (omega arith) a f
+
+finds_before : (g : Graph) (goal : Goal) (part : Part) (k : ℕ) → ((end : Part) → LeadsByEdges g any_edge (g.edge part k).part end → IsOfTarget g goal end → ⊥) → FindsTo g public_edge (IsOfTarget g goal) part (k + 1) → FindsTo g public_edge (IsOfTarget g goal) part k
+finds_before g goal part k none_there (self q) = self q
+finds_before g goal part k none_there (by i lt a f) = ⊎_elim
+    (λ e. let l = subst (λ j. LeadsByEdges g public_edge (g.edge part j).part f.end) e f.leads in absurd (none_there f.end (leads_any g public_edge (g.edge part k).part f.end l) f.is))
+    (λ o. ⊎_elim (λ b. by i b a f) (λ b. absurd (omega arith)) o)
+    (cases_order i k)
+
+pub tells_past : (g : Graph) (goal : Goal) (part : Part) (k : ℕ) (own : Found) → own.source ≡ true → own.public_source ≡ true → ((end : Part) → LeadsByEdges g any_edge (g.edge part k).part end → IsOfTarget g goal end → ⊥) → TellsTo g goal part k own → TellsTo g goal part (k + 1) own
+tells_past g goal part k own source public_source none_there o = record {
+  source = (λ e. finds_more g any_edge (IsSource g goal) part k (o.source.0 e), λ f. source);
+  public_source = (λ e. finds_more g public_edge (IsSource g goal) part k (o.public_source.0 e), λ f. public_source);
+  public_target = (λ e. finds_more g public_edge (IsOfTarget g goal) part k (o.public_target.0 e), λ f. o.public_target.1 (finds_before g goal part k none_there f));
 }
 
 pub tells_end : (g : Graph) (goal : Goal) (part : Part) (found : Found) → TellsTo g goal part (g.count part) found → TellsBelow g goal part found

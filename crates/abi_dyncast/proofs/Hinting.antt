@@ -1,14 +1,13 @@
 -- A true hint that leads to the view gives the answer of the cast.
-use Rattle.std.proofs.Common.{◌≡◌, ℕ, ◌+◌, ◌<◌, ◌⊎◌, inl, inr, ⊎_elim, Bool, Some, List, refl, ap, subst, sym, ◌∙◌, arith, pos}
+use Rattle.std.proofs.Common.{◌≡◌, ℕ, ◌+◌, ⊎_elim, Bool, Some, List, refl, ap, subst, sym, ◌∙◌, arith, pos}
 use Rattle.std.specs.Prelude.{Contains, Option, ℤ, negsuc, true, false, nat_eq}
 use Rattle.std.proofs.lemmas.Bool.{eqb-true, eq-eqb, and_parts, and_from}
 use Rattle.byte_memory.specs.Store.{Store}
 use Rattle.byte_code.specs.Records.{IsInfoAt}
 use Rattle.byte_code.specs.declared.image.InfoRecord.{InfoRecord}
 use Rattle.abi_dyncast.specs.declared.parts.Part.{Part}
-use Rattle.abi_dyncast.specs.declared.parts.Edge.{Edge}
 use Rattle.abi_dyncast.specs.Rule.{AnswersCast, down}
-use Rattle.abi_dyncast.specs.Graph.{Graph, graph_of, info_at, any_edge, public_edge, LeadsByEdges, stays, steps}
+use Rattle.abi_dyncast.specs.Graph.{Graph, graph_of, info_at, any_edge, public_edge, stays}
 use Rattle.abi_dyncast.specs.Casts.{AreClosedParts, IsTargetPart, parts_below, view_at_address, CastsTo, CanCast, CanCastHinted, CountsVisits, IsTrueHint}
 use Rattle.abi_dyncast.specs.invariants.Hinting.{is_at_hint}
 use Rattle.abi_dyncast.specs.invariants.Walks.{ReadsAtMost}

@@ -9,10 +9,10 @@ use Rattle.abi_dyncast.specs.declared.work.Goal.{Goal}
 use Rattle.abi_dyncast.specs.declared.work.Found.{Found}
 use Rattle.abi_dyncast.specs.declared.work.Entry.{Entry}
 use Rattle.abi_dyncast.specs.Rule.{Parts, IsOver, IsDown, AnswersCast, down, across, nowhere}
-use Rattle.abi_dyncast.specs.Graph.{Graph, graph_of, word_in, pointer_at, moved_address, any_edge, public_edge, LeadsByEdges, stays, steps, LeadsToSome}
+use Rattle.abi_dyncast.specs.Graph.{Graph, graph_of, word_in, pointer_at, moved_address, any_edge, public_edge, LeadsByEdges, LeadsToSome}
 use Rattle.abi_dyncast.specs.Casts.{IsPartAtAddress, IsTargetPart, parts_below, view_at_address, found_address, CastsTo}
 use Rattle.abi_dyncast.specs.invariants.Chain.{IsMet, IsEachOnce}
-use Rattle.abi_dyncast.specs.invariants.Finding.{TellsBelow}
+use Rattle.abi_dyncast.specs.invariants.Finding.{IsOfTarget, TellsBelow}
 use Rattle.abi_dyncast.specs.invariants.Walks.{AreDone, Visited}
 use Rattle.abi_dyncast.specs.invariants.Deciding.{is_candidate, only_candidate, across_by, decide_by}
 use Rattle.abi_dyncast.proofs.Entries.{met_entry}
@@ -27,7 +27,7 @@ asked g goal view = parts_below g view goal.at goal.class goal.target
 record IsWalked (g : Graph) (goal : Goal) (view : Part) (found : Found) (entries : List Entry) : Type 0 where
   done : AreDone g goal entries
   once : IsEachOnce entries
-  met : IsMet entries view
+  met : (end : Part) → LeadsByEdges g any_edge view end → IsOfTarget g goal end → IsMet entries end
   below : (part : Part) → IsMet entries part → LeadsByEdges g any_edge view part
   tells : TellsBelow g goal view found
 
@@ -40,11 +40,6 @@ walked g goal view found entries once v tells = record {
   tells = tells;
 }
 
--- all that lies below a met part was met
-leads_met : (g : Graph) (goal : Goal) (entries : List Entry) → AreDone g goal entries → (part end : Part) → LeadsByEdges g any_edge part end → IsMet entries part → IsMet entries end
-leads_met g goal entries d _ _ (stays part) m = m
-leads_met g goal entries d _ _ (steps part end i lt a l) m = leads_met g goal entries d (g.edge part i).part end l (d.below part i m lt)
-
 target_matches : (g : Graph) (goal : Goal) (view : Part) (found : Found) (entries : List Entry) → IsWalked g goal view found entries → Matches entries (is_candidate goal.target false) (IsTargetPart g goal.target view)
 target_matches g goal view found entries w = record {
   sound = λ e h t. record {
@@ -52,7 +47,7 @@ target_matches g goal view found entries w = record {
     class = sym (w.done.class e h) ∙ eqb-true e.class goal.target (and_parts (nat_eq e.class goal.target) (e.found.source || not false) t).0;
   };
   complete = λ part q.
-      let m = leads_met g goal entries w.done view part q.below w.met in
+      let m = w.met part q.below q.class in
       let class : m.entry.class ≡ goal.target = w.done.class m.entry m.has ∙ (ap g.class m.is ∙ q.class) in
       (m.entry, m.has, m.is, and_from (nat_eq m.entry.class goal.target) (m.entry.found.source || not false) (eq-eqb m.entry.class goal.target class) (or_right m.entry.found.source (not false) refl));
 }

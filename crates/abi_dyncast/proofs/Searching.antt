@@ -1,6 +1,6 @@
 -- The search for the source, from one edge of a part to the next.
 use Rattle.std.proofs.Common.{◌≡◌, ℕ, suc, ◌+◌, ◌<◌, ◌≤◌, ⊎_elim, Bool, true, false, Option, List, [], ◌∷◌, ◌++◌, map, length, refl, ap, subst, sym, ◌∙◌, arith, append_assoc}
-use Rattle.std.specs.Prelude.{Contains, nat_eq}
+use Rattle.std.specs.Prelude.{Contains}
 use Rattle.std.proofs.lemmas.List.{append-nil, length-map}
 use Rattle.std.proofs.lemmas.Bool.{cases_order}
 use Rattle.foundation.proofs.Members.{has_from_contains}
@@ -15,7 +15,7 @@ use Rattle.abi_dyncast.specs.invariants.Chain.{IsMet, IsEachOnce}
 use Rattle.abi_dyncast.specs.invariants.Finding.{IsSource, is_source}
 use Rattle.abi_dyncast.specs.invariants.Searches.{TellsOfSource, AreWithout, MayBeginSearch, Searched}
 use Rattle.abi_dyncast.proofs.OnceLists.{each_once, once_short}
-use Rattle.abi_dyncast.proofs.Entries.{part_in, met_entry, met_left, met_cases, none_met, one_met, met_part}
+use Rattle.abi_dyncast.proofs.Entries.{part_in, met_entry, met_cases, none_met, one_met, met_part}
 use Rattle.abi_dyncast.proofs.Findings.{source_test}
 use Rattle.abi_dyncast.proofs.Ways.{leads_inside, leads_lower}
 

@@ -1,4 +1,4 @@
-//! The cast over bytes: a walk over type information and virtual pointers, which visits each part of a view once.
+//! The cast over bytes: a walk over type information and virtual pointers, which visits each part of a view at most once.
 //!
 //! Nothing here knows a class declaration. A part is an address and the address of the type information of its class; from there
 //! lead edges to the parts of the direct bases (Itanium C++ ABI 2.9.5). The crate owns that graph (`specs/Graph.antt`), the rule

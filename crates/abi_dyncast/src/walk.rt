@@ -1,10 +1,11 @@
 //! The walk over the parts of a view.
 
-ghost use Rattle.std.specs.Prelude.{◌≡◌};
+ghost use Rattle.std.specs.Prelude.{◌≡◌, true};
 ghost use Rattle.byte_code.specs.Images.{word_at};
 ghost use Rattle.byte_code.specs.Readers.{image_of, visits_of};
-ghost use Rattle.abi_dyncast.specs.Graph.{graph_of};
-ghost use Rattle.abi_dyncast.specs.invariants.Finding.{is_source, found_itself, found_with_base, TellsBelow};
+ghost use Rattle.byte_code.specs.Records.{IsInfoAt};
+ghost use Rattle.abi_dyncast.specs.Graph.{graph_of, info_at};
+ghost use Rattle.abi_dyncast.specs.invariants.Finding.{is_source, found_itself, found_with_base, IsTold, TellsBelow};
 ghost use Rattle.abi_dyncast.specs.invariants.Walks.{MayBeginWalk, Visited, HasRead};
 
 use crate::parts::{Part, edge_at};
@@ -42,8 +43,21 @@ fn joined(own: Found, below: Found, is_public: bool) -> Found
     }
 }
 
-/// Visits a part and all parts below it that were not met before, bases first, and says what was found there. The record of each
-/// edge of these is read once.
+/// Whether what lies below a base tells nothing more of a part: the source was found, by public edges too, and the number of the
+/// class of the base is below that of the target class. The numbers of classes fall along edges.
+fn is_told(reader: &BaseReader<'_>, goal: Goal, found: Found, base: Part) -> bool
+    requires { IsInfoAt (word_at (image_of reader.now)) base.info (info_at (word_at (image_of reader.now)) base.info) }
+    ensures { result ≡ true → IsTold goal found (info_at (word_at (image_of reader.now)) base.info).class }
+{
+    if found.source && found.public_source {
+        let info = reader.info(base.info);
+        return info.class < goal.target;
+    }
+    false
+}
+
+/// Visits a part and the parts below it that were not met before, bases first, and says what was found there. Those that tell
+/// nothing more are left out; none of them is of the target class. The record of each edge of a visited part is read once.
 pub(crate) fn visit<M: Memory>(
     reader: &mut BaseReader<'_>,
     memory: &M,
@@ -65,6 +79,9 @@ pub(crate) fn visit<M: Memory>(
     let mut found = found_at(goal, part.at, info.class);
     for number in 0..info.bases {
         let way = edge_at(reader, memory, part, info, number);
+        if is_told(reader, goal, found, way.part) {
+            continue;
+        }
         let below = visit(reader, memory, work, goal, way.part);
         found = joined(found, below, way.is_public);
     }

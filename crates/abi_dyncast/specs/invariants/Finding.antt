@@ -1,5 +1,5 @@
 -- What is told of a part: what lies below it, the part itself included.
-use Rattle.std.specs.Prelude.{◌≡◌, ◌↔◌, ℕ, Bool, true, nat_eq, ◌&&◌, ◌||◌}
+use Rattle.std.specs.Prelude.{◌≡◌, ◌↔◌, ℕ, ◌<◌, Bool, true, nat_eq, ◌&&◌, ◌||◌}
 use Rattle.abi_dyncast.specs.declared.parts.Part.{Part}
 use Rattle.abi_dyncast.specs.declared.work.Goal.{Goal}
 use Rattle.abi_dyncast.specs.declared.work.Found.{Found}
@@ -24,6 +24,13 @@ is_source goal at class = nat_eq at goal.at && nat_eq class goal.class
 
 abbrev pub found_itself : Goal → ℕ → ℕ → Found
 found_itself goal at class = record { source = is_source goal at class; public_source = is_source goal at class; public_target = nat_eq class goal.target }
+
+-- what is told does not change by a base of a class: the source was found, by any edges and by public ones, and the class has a lower
+-- number than the target class
+pub record IsTold (goal : Goal) (found : Found) (class : ℕ) : Type 0 where
+  pub source : found.source ≡ true
+  pub public_source : found.public_source ≡ true
+  pub lower : class < goal.target
 
 -- what it tells with what one of its bases tells
 abbrev pub found_with_base : Found → Found → Bool → Found

@@ -1,5 +1,5 @@
 -- What a walk over the parts keeps.
-use Rattle.std.specs.Prelude.{◌≡◌, ℕ, ◌+◌, ◌<◌, ◌≤◌, Option, List, ◌++◌, length, sum_by, Contains}
+use Rattle.std.specs.Prelude.{◌≡◌, ℕ, ◌+◌, ◌≤◌, Option, List, ◌++◌, length, sum_by, Contains}
 use Rattle.byte_memory.specs.Store.{Store}
 use Rattle.abi_dyncast.specs.declared.parts.Part.{Part}
 use Rattle.abi_dyncast.specs.declared.work.Goal.{Goal}
@@ -7,13 +7,13 @@ use Rattle.abi_dyncast.specs.declared.work.Entry.{Entry}
 use Rattle.abi_dyncast.specs.Graph.{Graph, graph_of, any_edge, LeadsByEdges}
 use Rattle.abi_dyncast.specs.Casts.{AreClosedParts, CanReadParts, HasAllBelow, edges_of}
 use Rattle.abi_dyncast.specs.invariants.Chain.{IsMet}
-use Rattle.abi_dyncast.specs.invariants.Finding.{TellsBelow}
+use Rattle.abi_dyncast.specs.invariants.Finding.{IsOfTarget, TellsBelow}
 
--- what is kept of each part is right, and with a part all parts below it are there
+-- what is kept of each part is right, and with a part all parts of the target class below it are there
 pub record AreDone (g : Graph) (goal : Goal) (entries : List Entry) : Type 0 where
   pub class : (e : Entry) → Contains entries e → e.class ≡ g.class e.part
   pub tells : (e : Entry) → Contains entries e → TellsBelow g goal e.part e.found
-  pub below : (part : Part) (i : ℕ) → IsMet entries part → i < g.count part → IsMet entries (g.edge part i).part
+  pub targets : (part end : Part) → IsMet entries part → LeadsByEdges g any_edge part end → IsOfTarget g goal end → IsMet entries end
 
 -- how many edges leave the parts that were met
 abbrev pub edges_from : Graph → List Entry → ℕ
@@ -39,11 +39,11 @@ pub record MayBeginWalk (image : ℕ → Option ℕ) (memory : Store) (goal : Go
   pub inside : (other : Part) → IsMet entries other → Contains parts other
   pub done : AreDone (graph_of image memory) goal entries
 
--- what a walk from a part does: it adds the part and what lies below it, as far as they are not there
+-- what a walk from a part does: it adds the part and parts below it, all of the target class, as far as they are not there
 pub record Visited (g : Graph) (goal : Goal) (part : Part) (old new : List Entry) : Type 0 where
   pub more : List Entry
   pub is : new ≡ old ++ more
   pub low : (other : Part) → IsMet more other → g.class other ≤ g.class part
   pub below : (other : Part) → IsMet more other → LeadsByEdges g any_edge part other
-  pub met : IsMet new part
+  pub met : (end : Part) → LeadsByEdges g any_edge part end → IsOfTarget g goal end → IsMet new end
   pub done : AreDone g goal new

@@ -1,6 +1,7 @@
 use Rattle.std.proofs.Common.{◌≡◌, ◌<◌, ap, sym, subst, refl, ◌∙◌, arith}
 use Rattle.byte_code.specs.Images.{word_at}
 use Rattle.byte_code.specs.Readers.{image_of, visits_of}
+use Rattle.byte_code.specs.Records.{IsInfoAt}
 use Rattle.byte_code.specs.declared.code.ImageBytes.{ImageBytes}
 use Rattle.byte_code.specs.declared.image.InfoRecord.{InfoRecord}
 use Rattle.abi_dyncast.specs.declared.parts.Edge.{Edge}
@@ -11,7 +12,7 @@ use Rattle.abi_dyncast.specs.invariants.Chain.{part_entry, link_for}
 use Rattle.abi_dyncast.specs.invariants.Finding.{TellsBelow}
 use Rattle.abi_dyncast.specs.invariants.Walks.{MayBeginWalk, Visited, HasRead}
 use Rattle.abi_dyncast.proofs.Findings.{TellsTo, tells_end}
-use Rattle.abi_dyncast.proofs.Going.{Going, found_tells, found_visited, going_from, going_next, going_ready, going_new, going_room, going_end}
+use Rattle.abi_dyncast.proofs.Going.{Going, found_tells, found_visited, going_from, going_next, going_past, going_ready, going_new, going_room, going_end}
 use Rattle.abi_dyncast.proofs.Reading.{nothing_read, reading_from, reading_next, reading_end}
 use Rattle.abi_dyncast.proofs.walk.+visit.Goals as goal
 
@@ -48,6 +49,38 @@ edge_at-way-requires g t c =
       info = subst (λ (i : ImageBytes). c.info-info.result ≡ info_at (word_at i) c.args.part.info) same info;
       number = c.loop-number-test.true;
       step = subst (λ (i : ImageBytes). CanStep (word_at i) memory c.args.part c.loop-number.number) same (c.requires.read.steps c.args.part c.loop-number.number c.requires.has lt);
+    }
+
+pub is_told-requires : goal.is_told-requires
+is_told-requires g t c =
+    let image = image_of c.args.reader.now in
+    let memory = g.M.Memory.meaning c.args.memory.now in
+    let gr = graph_of (word_at image) memory in
+    let info = c.info-info.ensures (info_at (word_at image) c.args.part.info) (c.requires.read.info c.args.part c.requires.has) in
+    let bases : c.info-info.result.bases ≡ gr.count c.args.part = ap (λ (i : InfoRecord). i.bases) info in
+    let lt : c.loop-number.number < gr.count c.args.part = omega (arith, c.loop-number-test.true) in
+    let way : c.edge_at-way.result ≡ gr.edge c.args.part c.loop-number.number = subst (λ (i : ImageBytes). c.edge_at-way.result ≡ (graph_of (word_at i) memory).edge c.args.part c.loop-number.number) c.loop-number.invariant.image c.edge_at-way.ensures.edge in
+    let on : image_of c.edge_at-way.new.reader ≡ image = c.edge_at-way.ensures.image ∙ c.loop-number.invariant.image in
+    let there = c.requires.read.info (gr.edge c.args.part c.loop-number.number).part (c.requires.are.inside c.args.part c.loop-number.number c.requires.has lt) in
+    let of_way = subst (λ (w : Edge). IsInfoAt (word_at image) w.part.info (info_at (word_at image) w.part.info)) (sym way) there in
+    subst (λ (i : ImageBytes). IsInfoAt (word_at i) c.edge_at-way.result.part.info (info_at (word_at i) c.edge_at-way.result.part.info)) (sym on) of_way
+
+pub loop-number-preserved-then-is_told : goal.loop-number-preserved-then-is_told
+loop-number-preserved-then-is_told g t c =
+    let image = image_of c.args.reader.now in
+    let memory = g.M.Memory.meaning c.args.memory.now in
+    let gr = graph_of (word_at image) memory in
+    let info = c.info-info.ensures (info_at (word_at image) c.args.part.info) (c.requires.read.info c.args.part c.requires.has) in
+    let bases : c.info-info.result.bases ≡ gr.count c.args.part = ap (λ (i : InfoRecord). i.bases) info in
+    let lt : c.loop-number.number < gr.count c.args.part = omega (arith, c.loop-number-test.true) in
+    let way : c.edge_at-way.result ≡ gr.edge c.args.part c.loop-number.number = subst (λ (i : ImageBytes). c.edge_at-way.result ≡ (graph_of (word_at i) memory).edge c.args.part c.loop-number.number) c.loop-number.invariant.image c.edge_at-way.ensures.edge in
+    let on : image_of c.edge_at-way.new.reader ≡ image = c.edge_at-way.ensures.image ∙ c.loop-number.invariant.image in
+    let class : (info_at (word_at (image_of c.edge_at-way.new.reader)) c.edge_at-way.result.part.info).class ≡ gr.class c.edge_at-way.result.part = ap (λ (i : ImageBytes). (info_at (word_at i) c.edge_at-way.result.part.info).class) on in
+    record {
+      going = going_past gr _ c.requires.parts _ _ _ c.edge_at-way.result _ _ _ c.requires.are c.requires.has c.loop-number.invariant.going lt way class (c.is_told.ensures c.if-is_told.true);
+      reading = reading_next gr _ _ _ _ _ _ _ _ c.loop-number.invariant.reading c.edge_at-way.ensures.visits (nothing_read gr _ _);
+      image = on;
+      parts = c.loop-number.invariant.parts;
     }
 
 pub visit-below-requires : goal.visit-below-requires
