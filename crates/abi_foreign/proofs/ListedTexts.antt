@@ -24,7 +24,7 @@ use Rattle.abi_print.specs.LayoutTexts.{declared_class_name, subobject_text, pri
 use Rattle.abi_foreign.specs.declared.said.MemberPlace.{MemberPlace}
 use Rattle.abi_foreign.specs.declared.said.ClassSaid.{ClassSaid}
 use Rattle.abi_foreign.specs.Lines.{most_number, class_by_number, IsWritable}
-use Rattle.abi_foreign.specs.Listings.{texts_before, HasSmallNumbers, IsListing, cut_rows, IsListed}
+use Rattle.abi_foreign.specs.Listings.{texts_before, HasSmallNumbers, IsListing, cut_rows, ListsLayout}
 use Rattle.abi_foreign.specs.invariants.Said.{base_lines, members_text, AreSmallPlaces, said_text, said_in, said_before, AreSaid}
 use Rattle.abi_foreign.specs.invariants.Rows.{said_base_place, printed_in, said_place, exact_at, exact_bits, primaries_of, exact_row, exact_rows}
 use Rattle.abi_foreign.proofs.Positions.{find_some, position_some, mapped_at}
@@ -174,5 +174,5 @@ module _ (h : Classes) (keeps : IsHierarchy h) (text : List ℕ) (saids : List C
         subst (λ (r : ClassLayout). IsWritable h r.primary) (sym of.is) (all.each c of.said of.there).primary;
   }
 
-  pub listed : IsListed h text (cut_rows (exact_rows h saids (length h))) (said_place saids)
+  pub listed : ListsLayout h text (cut_rows (exact_rows h saids (length h))) (said_place saids)
   listed = record { written = exact_rows h saids (length h); listing = listing; is = refl; stands = stands h keeps text saids all }

@@ -22,7 +22,7 @@ use Rattle.abi_foreign.specs.declared.listing_stop.ListingStop.{ListingStop}
 use Rattle.abi_foreign.specs.declared.listing_stop.ListingStop.TheVariants.{Bad}
 use Rattle.abi_foreign.specs.declared.said.ClassSaid.{ClassSaid}
 use Rattle.abi_foreign.specs.Lines.{ListingLine, listing_lines, first_line, AreLines, BeginsWithLines}
-use Rattle.abi_foreign.specs.Listings.{cut_rows, IsListed, AreSums, IsForeign}
+use Rattle.abi_foreign.specs.Listings.{cut_rows, ListsLayout, AreSums, IsForeign}
 use Rattle.abi_foreign.specs.Refusals.{listing_rule_no, IsFormFault, Breaks, unsound, no_sum, IsFirstBreach, IsRefused, no_listing, faulty}
 use Rattle.abi_foreign.specs.invariants.Said.{AreSaid}
 use Rattle.abi_foreign.specs.invariants.Rows.{said_place, exact_rows}
@@ -37,7 +37,7 @@ record IsTold (h : Classes) (text : List ℕ) (rows : List ClassLayout) (place :
   rows_are : rows ≡ cut_rows (exact_rows h said (length h))
   places_are : (c : ClassId) (s : Subobject) → c.0 < length h → Contains (proper (preorder h c)) s → place c s ≡ said_place said c s
 
-told : (h : Classes) → IsHierarchy h → (text : List ℕ) (rows : List ClassLayout) (place : PlaceOf) → IsListed h text rows place → IsTold h text rows place
+told : (h : Classes) → IsHierarchy h → (text : List ℕ) (rows : List ClassLayout) (place : PlaceOf) → ListsLayout h text rows place → IsTold h text rows place
 told h keeps text rows place is = record {
   said = saids h keeps text rows is.written place is.listing is.is is.stands;
   all = all h keeps text rows is.written place is.listing is.is is.stands;
@@ -50,7 +50,7 @@ record AreAlike (h : Classes) (rows others : List ClassLayout) (place other : Pl
   rows_same : rows ≡ others
   places_same : (c : ClassId) (s : Subobject) → c.0 < length h → Contains (proper (preorder h c)) s → place c s ≡ other c s
 
-alike : (h : Classes) → IsHierarchy h → (text : List ℕ) (rows others : List ClassLayout) (place other : PlaceOf) → IsListed h text rows place → IsListed h text others other → AreAlike h rows others place other
+alike : (h : Classes) → IsHierarchy h → (text : List ℕ) (rows others : List ClassLayout) (place other : PlaceOf) → ListsLayout h text rows place → ListsLayout h text others other → AreAlike h rows others place other
 alike h keeps text rows others place other one two =
     let a = told h keeps text rows place one in
     let b = told h keeps text others other two in
@@ -63,7 +63,7 @@ alike h keeps text rows others place other one two =
 pub one_layout : (h : Classes) → IsHierarchy h → (text : List ℕ) (rows others : List ClassLayout) → IsForeign h text rows → IsForeign h text others → rows ≡ others
 one_layout h keeps text rows others one two = (alike h keeps text rows others one.place two.place one.listed two.listed).rows_same
 
-listed_lines : (h : Classes) → IsHierarchy h → (text : List ℕ) (rows : List ClassLayout) (place : PlaceOf) → IsListed h text rows place → AreLines h (listing_lines h) text
+listed_lines : (h : Classes) → IsHierarchy h → (text : List ℕ) (rows : List ClassLayout) (place : PlaceOf) → ListsLayout h text rows place → AreLines h (listing_lines h) text
 listed_lines h keeps text rows place is = let a = told h keeps text rows place is in said_lines h text a.said a.all
 
 -- a sound class keeps each rule

@@ -72,7 +72,7 @@ pub record RowsHavePlaces (h : Classes) (rows : List ClassLayout) (place : Place
   pub bits : (c : ClassId) (m : ℕ) (member : Member ClassId) (bits : Bits) → slice_get (members_of h c) m ≡ Some member → slice_get (member_bits_in (slice_get rows c.0)) m ≡ Some bits → AreMemberBits (places_of h rows) member bits
 
 -- the text is a listing of these places, and the rows are the layout that it stands for
-pub record IsListed (h : Classes) (text : List ℕ) (rows : List ClassLayout) (place : PlaceOf) : Type 0 where
+pub record ListsLayout (h : Classes) (text : List ℕ) (rows : List ClassLayout) (place : PlaceOf) : Type 0 where
   pub written : List ClassLayout
   pub listing : IsListing h text written place
   pub is : rows ≡ cut_rows written
@@ -85,7 +85,7 @@ AreSums h rows place c = (s : Subobject) → Contains (proper (preorder h c)) s 
 -- the text is a listing whose places are sums along paths, and the rows are the layout that it stands for, which is sound
 pub record IsForeign (h : Classes) (text : List ℕ) (rows : List ClassLayout) : Type 0 where
   pub place : PlaceOf
-  pub listed : IsListed h text rows place
+  pub listed : ListsLayout h text rows place
   pub sums : (c : ClassId) → c.0 < length h → AreSums h rows place c
   pub sound : IsSoundLayout h rows
 

@@ -17,7 +17,7 @@ use Rattle.abi_foreign.specs.declared.listing_stop.ListingRule.TheVariants.{Form
 use Rattle.abi_foreign.specs.declared.listing_stop.ListingStop.{ListingStop}
 use Rattle.abi_foreign.specs.declared.listing_stop.ListingStop.TheVariants.{Bad}
 use Rattle.abi_foreign.specs.Lines.{ListingLine, listing_lines, first_line, AreLines, BeginsWithLines}
-use Rattle.abi_foreign.specs.Listings.{IsListed, AreSums}
+use Rattle.abi_foreign.specs.Listings.{ListsLayout, AreSums}
 
 -- the number of a rule
 abbrev pub listing_rule_no : ListingRule → ℕ
@@ -65,4 +65,4 @@ pub record IsFirstBreach (h : Classes) (rows : List ClassLayout) (place : PlaceO
 -- with the first line of that class
 pub data IsRefused (h : Classes) (text : List ℕ) : ListingStop → Type 0 where
   no_listing : (line : ℕ) → IsFormFault h text line → IsRefused h text (Bad Form line)
-  faulty : (rows : List ClassLayout) (place : PlaceOf) (c : ClassId) (rule : ListingRule) → IsListed h text rows place → IsFirstBreach h rows place c rule → IsRefused h text (Bad rule (first_line h c))
+  faulty : (rows : List ClassLayout) (place : PlaceOf) (c : ClassId) (rule : ListingRule) → ListsLayout h text rows place → IsFirstBreach h rows place c rule → IsRefused h text (Bad rule (first_line h c))

@@ -1,0 +1,62 @@
+"""Definitions and contracts: a name stands in one crate, and a clause is short enough to be read aloud."""
+import glob
+import os
+import re
+import unittest
+
+import support  # noqa: F401 (it puts lib on the path)
+from lib import program
+
+CRATES = os.path.join(program.TOP, "crates")
+DEFINED = r"^(?:unfoldable |abbrev )?pub (?:abbrev |record |data )?(\S+?)(?= (?::|\())"
+# The crates that read a source share these names: each crate has its own kind of thing for them.
+SHARED = """Answers AreMarks AreTables AreWithin Holds IsCast IsFound IsPart Leads base_of base_subobject begins cast_of class_of contains_all declared
+destructor_of function_in function_of functions_in functions_of global_of in_turn index_of is_class is_constructor is_of_class last_of member_in
+members_of name_at number_of parameters_in parameters_of parts_of place_of return_of right_of the_only this_of ◌>>=◌""".split()
+ALIKE = {"IsTold": ["abi_dyncast", "text_told"]}  # what a base tells of a view, and what a run tells
+LONGEST = 380
+LONG = 300
+FEW = 5
+
+
+def crate_of(path):
+    return os.path.relpath(path, CRATES).split(os.sep)[0]
+
+
+def texts(pattern):
+    for path in sorted(glob.glob(os.path.join(CRATES, "*", pattern), recursive=True)):
+        with open(path, encoding="utf-8") as file:
+            yield path, file.read()
+
+
+def clauses(text):
+    """The clauses of contracts, each with its keyword, on one line."""
+    for found in re.finditer(r"^ *(?:requires|ensures)\b[^{\n]*\{", text, re.M):
+        depth, end = 1, found.end()
+        while depth:
+            depth += {"{": 1, "}": -1}.get(text[end], 0)
+            end += 1
+        yield " ".join(text[found.start():end].split())
+
+
+class Definitions(unittest.TestCase):
+    def test_a_name_stands_in_one_crate(self):
+        owners = {}
+        for path, text in texts(os.path.join("specs", "**", "*.antt")):
+            for name in re.findall(DEFINED, text, re.M):
+                owners.setdefault(name, set()).add(crate_of(path))
+        self.assertGreater(len(owners), 2500)
+        several = {name: sorted(crates) for name, crates in owners.items() if len(crates) > 1}
+        self.assertEqual({name: crates for name, crates in several.items() if name not in SHARED}, ALIKE)
+        for name in SHARED:
+            self.assertTrue(all(crate.startswith("cxx_") for crate in several[name]), f"{name}: {several[name]}")
+
+    def test_clauses_are_short(self):
+        lengths = [(len(clause), path) for path, text in texts(os.path.join("src", "**", "*.rt")) for clause in clauses(text)]
+        self.assertGreater(len(lengths), 4000)
+        self.assertLessEqual(max(lengths)[0], LONGEST, max(lengths)[1])
+        self.assertLessEqual(sum(length > LONG for length, _ in lengths), FEW, [path for length, path in sorted(lengths)[-FEW - 2:]])
+
+
+if __name__ == "__main__":
+    unittest.main()
