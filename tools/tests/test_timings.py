@@ -6,7 +6,7 @@ import tempfile
 import unittest
 
 import support
-from lib import timed
+from lib import interpreters, timed
 
 # It reads its source, prints its command and says how it ends: `run` well, `gen` by a limit, `layout` by the one that some texts meet,
 # and `paths` by the limit of a source that is known, with 60 MB in use for arrays, or never.
