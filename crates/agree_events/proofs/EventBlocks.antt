@@ -32,7 +32,7 @@ use Rattle.agree_events.proofs.Turns.{event_runs}
 
 -- what a block of a plan goes on to: frames that wait for the parts that are opened
 abbrev pub GoesOn : World → PlaceNumbers → Heap → Planned → List PathFrame → (List Going → List MachineFrame → Type 0) → List Going → Running → (Running → MachineTurn → Type 0) → Type 0
-GoesOn w at g p path under gs r Q = (above : List MachineFrame) (b : MachineFrame) (bs : List MachineFrame) → WaitInPlan w at g p path gs (above ++ b ∷ bs) under → Q (record r { opened_goings = above; top = b; below = bs }) Went
+GoesOn w at g p path under gs r Q = (above : List MachineFrame) (b : MachineFrame) (bs : List MachineFrame) → WaitInPlan w at g p path gs (above ++ b ∷ bs) under → Q (record r { opened = above; top = b; below = bs }) Went
 
 pub leads_event : (w : World) (at : PlaceNumbers) → IsProgramWorld w → (p : Planned) (path : List PathFrame) (under : List Going → List MachineFrame → Type 0) (Q : Running → MachineTurn → Type 0) (s : Objects) (f : Going) (k : Kind) (left : List Item) (below : List Going) → IsOwnEvent w s.classes s.phases f k left below → (r : Running)
     → r.opened ≡ [] → s.is_closed f.part.object ≡ false → ColumnsStand w s r.memory r.objects r.heap r.notes → IsTopFrame w at (heap_of s.classes r.memory.regions) p path under (at_left f left) below r.top r.below

@@ -168,7 +168,7 @@ next_place_own course form c (Holds way m d n ∷ left) = next_place_own course 
 
 -- ops run on with the frames that are opened
 abbrev pub with_opened : Running → List MachineFrame → Running
-with_opened r frames = record r { opened_goings = frames }
+with_opened r frames = record r { opened = frames }
 
 pub leads_openings : (w : World) (at : PlaceNumbers) → IsProgramWorld w → (g : Heap) → AreObjectsLaid (world_classes w) w.setup.rows g → (p : Planned) (path : List PathFrame) (under : List Going → List MachineFrame → Type 0) (f : Going) (below : List Going) (me : List MachineFrame) → (holds : Holding w g.classes f below)
     → (r : Running) → RunsGoing w g f below holds.complete r.top → (bases : Bool) (left : List Item) → AreLeft w.setup f.course f.form f.class bases left → (rest : List Op) (P : Running → Stop → Type 0) → WaitInPlan w at g p path (at_left f (next_own left) ∷ below) me under

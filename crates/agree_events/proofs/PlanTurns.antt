@@ -101,7 +101,7 @@ module _ (w : World) (at : PlaceNumbers) (world : IsProgramWorld w) (s : Program
   -- what stands, whatever the frames of the state are
   stands_now : (registers : List (Option ℕ)) (memory : Store) (notes : Notes) (outs : List RawOut) → IsAfter w at (objects_after w.setup.program s.objects e) r (event_outs s.objects e) memory notes outs
       → (frames : List PathFrame) (above : List MachineFrame) (b : MachineFrame) (bs : List MachineFrame) → StandOver w at g None frames gs (above ++ b ∷ bs) → open_count frames ≡ open_count (InPlan p ∷ path)
-      → Agrees w at (Moves (with_frames (state_after w s e) frames) (event_outs s.objects e)) (record (now r registers memory notes outs) { opened_goings = above; top = b; below = bs }) Went
+      → Agrees w at (Moves (with_frames (state_after w s e) frames) (event_outs s.objects e)) (record (now r registers memory notes outs) { opened = above; top = b; below = bs }) Went
   stands_now registers memory notes outs then frames above b bs stand count =
       let same : heap_of s.objects.classes memory.regions ≡ g = ap (λ (starts : List ℕ). record { classes = s.objects.classes; starts = starts }) then.starts in
       let told : outs ≡ then.tells.more = then.tells.is ∙ ap (λ (o : List RawOut). o ++ then.tells.more) turn.outs in (
@@ -170,14 +170,14 @@ module _ (w : World) (at : PlaceNumbers) (world : IsProgramWorld w) (s : Program
 
   module _ (registers : List (Option ℕ)) (memory : Store) (notes : Notes) (outs : List RawOut) (then : IsAfter w at (objects_after w.setup.program s.objects e) r (event_outs s.objects e) memory notes outs) (s' : ProgramState) (told : List Out) where
     abbrev Agreed : List MachineFrame → MachineFrame → List MachineFrame → Type 0
-    Agreed above b bs = Agrees w at (Moves s' told) (record (now r registers memory notes outs) { opened_goings = above; top = b; below = bs }) Went
+    Agreed above b bs = Agrees w at (Moves s' told) (record (now r registers memory notes outs) { opened = above; top = b; below = bs }) Went
 
     goes_to : (frames : List PathFrame) (above : List MachineFrame) (b : MachineFrame) (bs : List MachineFrame) → Goes (with_frames (state_after w s e) frames) (event_outs s.objects e) ≡ Goes s' told → StandOver w at g None frames gs (above ++ b ∷ bs) → open_count frames ≡ open_count (InPlan p ∷ path) → Agreed above b bs
     goes_to frames above b bs same stand count =
         let state : with_frames (state_after w s e) frames ≡ s' = cc (same) in
         let told_is : event_outs s.objects e ≡ told = cc (same) in
-        subst (λ (x : ProgramState). Agrees w at (Moves x told) (record (now r registers memory notes outs) { opened_goings = above; top = b; below = bs }) Went) state
-        (subst (λ (o : List Out). Agrees w at (Moves (with_frames (state_after w s e) frames) o) (record (now r registers memory notes outs) { opened_goings = above; top = b; below = bs }) Went) told_is
+        subst (λ (x : ProgramState). Agrees w at (Moves x told) (record (now r registers memory notes outs) { opened = above; top = b; below = bs }) Went) state
+        (subst (λ (o : List Out). Agrees w at (Moves (with_frames (state_after w s e) frames) o) (record (now r registers memory notes outs) { opened = above; top = b; below = bs }) Went) told_is
         (stands_now registers memory notes outs then frames above b bs stand count))
 
     by_body : (q : ObjectPart) (es : List PartEvent) → Body q ∷ es ≡ events_left w own → (o : Option TypedBody) → owned_body w.setup.program (body_owner p.is_building (class_of_part q)) ≡ o → body_opened (state_after w s e) q (event_outs s.objects e) (plan_left p es ∷ path) o ≡ Goes s' told

@@ -59,12 +59,12 @@ module _ (w : World) (at : PlaceNumbers) (world : IsProgramWorld w) (g : Heap) (
 
   pub leads_tail : (Q : Running → MachineTurn → Type 0) (f : Going) (below : List Going) (r : Running) → r.opened ≡ [] → (holds : Holding w g.classes f below) → AreGoing w g.classes below → (left : List Item) (stop bases : Bool) → Choice stop (left ≡ []) (AreLeft w.setup f.course f.form f.class bases left)
       → IsTopFrame w at g p path under (at_left f left) below r.top r.below
-      → ((above : List MachineFrame) (b : MachineFrame) (bs : List MachineFrame) → WaitInPlan w at g p path (opened_goings w f left below) (above ++ b ∷ bs) under → Q (record r { opened_goings = above; top = b; below = bs }) Went)
+      → ((above : List MachineFrame) (b : MachineFrame) (bs : List MachineFrame) → WaitInPlan w at g p path (opened_goings w f left below) (above ++ b ∷ bs) under → Q (record r { opened = above; top = b; below = bs }) Went)
       → (left ≡ [] → IsPlanFrame w at g (at_left f left) below r.top → IsOuter w g p (at_left f left) path r.top → under below r.below → OpsLead (fixed w) (plan_return f.course ∷ []) r (HoldsOfAnswer (fixed w) Q))
       → OpsLead (fixed w) (plan_tail w.setup at f.course f.form f.class left) r (HoldsOfAnswer (fixed w) Q)
   leads_tail Q f below r none holds are [] stop bases behind top go outer =
       leads_plan_return w at world g laid p path under Q (at_left f []) below r none holds.made are top
-      (λ b bs wait. subst (λ (o : List MachineFrame). Q (record r { opened_goings = o; top = b; below = bs }) Went) (sym none) (go [] b bs wait))
+      (λ b bs wait. subst (λ (o : List MachineFrame). Q (record r { opened = o; top = b; below = bs }) Went) (sym none) (go [] b bs wait))
       (λ o rest. outer refl top.frame o rest)
   leads_tail Q f below r none holds are (i ∷ left) stop bases behind top go outer =
       let block = at (next_place f.course f.form f.class (i ∷ left)) in
