@@ -18,7 +18,6 @@ returns-then-is_full c = λ s f below outs taken known.
     let program = c.args.run.now.program.now in
     let sizes = size_in c.args.run.now.sizes.now in
     let at = with_frames s (InBody f ∷ below) in
-    let counts = ap (λ (x : BodyFrame). x.depth) c.get.ensures ∙ taken.counts in
     limited h sizes program c.args.machine.now outs _ _ (limit_of sizes at (asks_object c.args.class)) _
     (heap_limited sizes at c.args.class c.size_of-size.result c.is_full.result c.size_of-size.ensures (c.is_full.ensures.is h sizes program (with_frames s below) taken.machine_stands) c.if-is_full.true)
 
