@@ -32,7 +32,8 @@ use Rattle.cxxabi_cmd.specs.declared.reply.Reply.{Reply}
 use Rattle.cxxabi_cmd.specs.Commands.{IsOnBytes, RunsMain, input_of, divided_input}
 use Rattle.cxxabi_cmd.specs.Verdict.{Verdict, Stops, Accepts}
 use Rattle.cxxabi_cmd.specs.Handed.{SeenMachine, HandsOut, RunsSource}
-use Rattle.cxxabi_cmd.specs.Output.{Answer, AsksFor, AsksForName, Output, undivided, stopped, yielded, Yields, counted, no_main, ran, unknown_class, listed, arrayed, pointed, inspected, no_layout, Lists, whole, too_much, text_answer, command_text_limit, IsAnswerWritten, line_alone, status_of_stop}
+use Rattle.text_told.specs.Told.{text_limit}
+use Rattle.cxxabi_cmd.specs.Output.{Answer, AsksFor, AsksForName, Output, undivided, stopped, yielded, Yields, counted, no_main, ran, unknown_class, listed, arrayed, pointed, inspected, no_layout, Lists, whole, too_much, text_answer, IsAnswerWritten, line_alone, status_of_stop}
 use Rattle.cxxabi_cmd.specs.declared.listing.Listing.{Listing}
 use Rattle.cxxabi_cmd.specs.invariants.Listings.{ListsName, is_unknown, is_class}
 use Rattle.cxxabi_cmd.specs.invariants.Replies.{as_answer, machine_of, HandsBy}
@@ -72,7 +73,7 @@ lists_answered h listing classes _ (whole rows text laid are short) = tt
 lists_answered h listing classes _ (too_much rows text laid are long) = tt
 
 limited_answered : (text : List ℕ) → IsAnswerWritten (limited_answer text).status
-limited_answered text = split (nat_le (length text) command_text_limit) (λ b. IsAnswerWritten (if b then text_answer text else line_alone (Limit L9)).status) (λ short. tt) (λ long. tt)
+limited_answered text = split (nat_le (length text) text_limit) (λ b. IsAnswerWritten (if b then text_answer text else line_alone (Limit L9)).status) (λ short. tt) (λ long. tt)
 
 array_answered : (answer : ArrayAnswer) → IsAnswerWritten (array_answer answer).status
 array_answered Abstract = tt

@@ -47,7 +47,8 @@ use Rattle.abi_inspect.specs.Faults.{AreNamesWords}
 use Rattle.cxx_syntax.specs.declared.tree.BodyTree.{BodyTree}
 use Rattle.cxxabi_cmd.specs.Verdict.{AreLexemes, SpellsSource, MeetsNoFault, Judgement, Verdict, Stops, Accepts, by_text, by_records, by_classes, by_bodies, by_words, accepted}
 use Rattle.abi_foreign.specs.Lines.{class_by_number}
-use Rattle.cxxabi_cmd.specs.Output.{source_limit, command_text_limit, Answer, AsksFor, all_layouts, one_layout, all_tables, one_tables, AsksForName, named_layout, named_tables, Lists, whole, too_much, Yields, counted, unknown_class, listed, arrayed, pointed, Output, usage, too_long, line_alone, count_answer, text_answer, status_of_stop, first_classes, no_main, inspected, no_layout}
+use Rattle.text_told.specs.Told.{text_limit}
+use Rattle.cxxabi_cmd.specs.Output.{source_limit, Answer, AsksFor, all_layouts, one_layout, all_tables, one_tables, AsksForName, named_layout, named_tables, Lists, whole, too_much, Yields, counted, unknown_class, listed, arrayed, pointed, Output, usage, too_long, line_alone, count_answer, text_answer, status_of_stop, first_classes, no_main, inspected, no_layout}
 use Rattle.cxxabi_cmd.proofs.Accepting.{ProgramsAreTyped, source_keeps, accepted_keeps, accepted_fine, accepted_names, accepted_typed, accepted_main}
 use Rattle.cxxabi_cmd.proofs.Asking.{Judged, is_stopped, is_yielded, Parted, parted_output}
 use Rattle.cxxabi_cmd.proofs.SourceLemmas.{parts_short}
@@ -122,7 +123,7 @@ lists law h listing classes keeps fine known =
     let laid = some_layout h keeps in
     let texts = some_texts law h laid.0 listing classes keeps (no_meaning h fine) (sound_rows h laid.0 keeps fine laid.1) known in
     ⊎_elim (λ long. (line_alone (Limit L9), too_much laid.0 texts.0 laid.1 texts.1 long)) (λ short. (text_answer texts.0, whole laid.0 texts.0 laid.1 texts.1 short))
-    (cases_lt command_text_limit (length texts.0))
+    (cases_lt text_limit (length texts.0))
 
 yields_list : SomeTables → (front : List ℕ) (size : ℕ) (source : SourceText) (h : Classes) (typed : TypedProgram) (command : Command) (listing : Listing) (classes : List ClassId) → IsHierarchy h → MeetsNoFault h → AsksFor h command listing classes → (answer : Answer) × Yields front size source h typed command answer
 yields_list law front size source h typed command listing classes keeps fine asks =

@@ -17,7 +17,8 @@ use Rattle.abi_lower.specs.Bounds.{IsSmall}
 use Rattle.cxxabi_cmd.specs.declared.listing.Listing.{Listing}
 use Rattle.cxxabi_cmd.specs.declared.status.Status.TheVariants.{Refused}
 use Rattle.cxxabi_cmd.specs.declared.verdict.Accepted.{Accepted}
-use Rattle.cxxabi_cmd.specs.Output.{Answer, IsClassText, AreTexts, Lists, line_alone, command_text_limit}
+use Rattle.text_told.specs.Told.{text_limit}
+use Rattle.cxxabi_cmd.specs.Output.{Answer, IsClassText, AreTexts, Lists, line_alone}
 
 -- the layout, the final overriders, and what the classes list for their tables are those of the classes, whose names are words, and
 -- the tables are within the limit; the program is typed, has a main where the source has one, and is small enough to be lowered
@@ -40,13 +41,13 @@ pub record IsAppended (h : Classes) (rows : List ClassLayout) (listing : Listing
 -- the texts of classes, within the limit
 pub record AreListedTexts (h : Classes) (rows : List ClassLayout) (listing : Listing) (classes : List ClassId) (text : List ℕ) : Type 0 where
   pub are : AreTexts h rows listing classes text
-  pub short : length text ≤ command_text_limit
+  pub short : length text ≤ text_limit
 
 -- the texts of classes pass the limit
 pub record IsTooMuch (h : Classes) (rows : List ClassLayout) (listing : Listing) (classes : List ClassId) : Type 0 where
   pub text : List ℕ
   pub are : AreTexts h rows listing classes text
-  pub past : command_text_limit < length text
+  pub past : text_limit < length text
 
 -- what is answered where the class of a name is listed, for a source of so many bytes
 pub data ListsName (size : ℕ) (h : Classes) (listing : Listing) (name : List ℕ) : Answer → Type 0 where
