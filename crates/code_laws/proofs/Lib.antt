@@ -1,0 +1,5 @@
+pub mod Every
+pub mod Reading
+pub mod Copying
+pub mod RightOps
+pub mod StatementOps
