@@ -1,0 +1,2 @@
+pub mod LeavesHeld
+pub mod TurnDumps
