@@ -8,12 +8,7 @@ import support  # noqa: F401 (it puts lib on the path)
 from lib import program
 
 CRATES = os.path.join(program.TOP, "crates")
-DEFINED = r"^(?:unfoldable |abbrev )?pub (?:abbrev |record |data )?(\S+?)(?= (?::|\())"
-# The crates that read a source share these names: each crate has its own kind of thing for them.
-SHARED = """Answers AreMarks AreTables AreWithin Holds IsCast IsFound IsPart Leads base_of base_subobject begins cast_of class_of contains_all declared
-destructor_of function_in function_of functions_in functions_of global_of in_turn index_of is_class is_constructor is_of_class last_of member_in
-members_of name_at number_of parameters_in parameters_of parts_of place_of return_of right_of the_only this_of ◌>>=◌""".split()
-ALIKE = {"IsTold": ["abi_dyncast", "text_told"]}  # what a base tells of a view, and what a run tells
+DEFINED = r"^(?:unfoldable |abbrev )?pub (?:abbrev |record |data )?(\S+?)(?= (?::|\(|\{))"
 LONGEST = 380
 LONG = 300
 FEW = 5
@@ -45,11 +40,9 @@ class Definitions(unittest.TestCase):
         for path, text in texts(os.path.join("specs", "**", "*.antt")):
             for name in re.findall(DEFINED, text, re.M):
                 owners.setdefault(name, set()).add(crate_of(path))
-        self.assertGreater(len(owners), 2500)
+        self.assertGreater(len(owners), 4000)
         several = {name: sorted(crates) for name, crates in owners.items() if len(crates) > 1}
-        self.assertEqual({name: crates for name, crates in several.items() if name not in SHARED}, ALIKE)
-        for name in SHARED:
-            self.assertTrue(all(crate.startswith("cxx_") for crate in several[name]), f"{name}: {several[name]}")
+        self.assertEqual(several, {})
 
     def test_clauses_are_short(self):
         lengths = [(len(clause), path) for path, text in texts(os.path.join("src", "**", "*.rt")) for clause in clauses(text)]

@@ -14,7 +14,7 @@ use Rattle.abi_dyncast.specs.declared.work.Entry.{Entry}
 use Rattle.abi_dyncast.specs.Graph.{Graph, graph_of, any_edge, LeadsByEdges, stays, steps}
 use Rattle.abi_dyncast.specs.Casts.{AreClosedParts}
 use Rattle.abi_dyncast.specs.invariants.Chain.{IsMet, IsEachOnce}
-use Rattle.abi_dyncast.specs.invariants.Finding.{IsOfTarget, IsTold, TellsBelow, found_itself, found_with_base}
+use Rattle.abi_dyncast.specs.invariants.Finding.{IsOfTarget, IsToldAlready, TellsBelow, found_itself, found_with_base}
 use Rattle.abi_dyncast.specs.invariants.Walks.{AreDone, MayBeginWalk, Visited}
 use Rattle.abi_dyncast.proofs.OnceLists.{each_once, once_short}
 use Rattle.abi_dyncast.proofs.Entries.{part_in, met_entry, met_left, met_cases, none_met, one_there, one_met, last_met, met_part}
@@ -111,7 +111,7 @@ none_below g goal parts part end are has low l q =
     (leads_lower g any_edge parts part end are l has)
 
 -- an edge that is left out
-pub going_past : (g : Graph) (goal : Goal) (parts : List Part) (part : Part) (k : ℕ) (found : Found) (way : Edge) (class : ℕ) (old new : List Entry) → AreClosedParts g parts → Contains parts part → Going g goal part k found old new → k < g.count part → way ≡ g.edge part k → class ≡ g.class way.part → IsTold goal found class → Going g goal part (k + 1) found old new
+pub going_past : (g : Graph) (goal : Goal) (parts : List Part) (part : Part) (k : ℕ) (found : Found) (way : Edge) (class : ℕ) (old new : List Entry) → AreClosedParts g parts → Contains parts part → Going g goal part k found old new → k < g.count part → way ≡ g.edge part k → class ≡ g.class way.part → IsToldAlready goal found class → Going g goal part (k + 1) found old new
 going_past g goal parts part k found way class old new are has going lt is of_way told =
     let there : class ≡ g.class (g.edge part k).part = of_way ∙ ap (λ (w : Edge). g.class w.part) is in
     let inside = are.inside part k has lt in

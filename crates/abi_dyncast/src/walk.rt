@@ -5,7 +5,7 @@ ghost use Rattle.byte_code.specs.Images.{word_at};
 ghost use Rattle.byte_code.specs.Readers.{image_of, visits_of};
 ghost use Rattle.byte_code.specs.Records.{IsInfoAt};
 ghost use Rattle.abi_dyncast.specs.Graph.{graph_of, info_at};
-ghost use Rattle.abi_dyncast.specs.invariants.Finding.{is_source, found_itself, found_with_base, IsTold, TellsBelow};
+ghost use Rattle.abi_dyncast.specs.invariants.Finding.{is_source, found_itself, found_with_base, IsToldAlready, TellsBelow};
 ghost use Rattle.abi_dyncast.specs.invariants.Walks.{MayBeginWalk, Visited, HasRead};
 
 use crate::parts::{Part, edge_at};
@@ -47,7 +47,7 @@ fn joined(own: Found, below: Found, is_public: bool) -> Found
 /// class of the base is below that of the target class. The numbers of classes fall along edges.
 fn is_told(reader: &BaseReader<'_>, goal: Goal, found: Found, base: Part) -> bool
     requires { IsInfoAt (word_at (image_of reader.now)) base.info (info_at (word_at (image_of reader.now)) base.info) }
-    ensures { result ≡ true → IsTold goal found (info_at (word_at (image_of reader.now)) base.info).class }
+    ensures { result ≡ true → IsToldAlready goal found (info_at (word_at (image_of reader.now)) base.info).class }
 {
     if found.source && found.public_source {
         let info = reader.info(base.info);

@@ -5,7 +5,7 @@ use Rattle.std.proofs.lemmas.List.{append_cancel_left, take_all}
 use Rattle.foundation.proofs.Members.{Has, contains_from_has, has_from_contains, has_cases, has_right, has_at, has_map}
 use Rattle.foundation.proofs.Places.{contains_first, contains_later, get_mapped, get_within}
 use Rattle.cxx_hierarchy.specs.declared.records.ClassId.{ClassId}
-use Rattle.cxx_hierarchy.specs.Classes.{Class, Classes, class_names, IsFound}
+use Rattle.cxx_hierarchy.specs.Classes.{Class, Classes, class_names, IsClassNamed}
 use Rattle.abi_primary.specs.declared.Primary.{Primary}
 use Rattle.abi_primary.specs.declared.Primary.TheVariants.{None as NoPrimary, Direct, Virtual}
 use Rattle.abi_print.specs.LayoutTexts.{name_in_class, declared_class_name, primary_text}
@@ -133,20 +133,20 @@ name_there h c known =
 pub says_none : (h : Classes) (word : List ℕ) → word ≡ codes "none" → IsPrimaryWord h word (Some NoPrimary)
 says_none h word e = (tt, e)
 
-pub says_virtual : (h : Classes) (word name : List ℕ) (v : ClassId) → (Contains word 10 → ⊥) → word ≡ codes "virtual " ++ name → IsFound h name (Some v) → IsPrimaryWord h word (Some (Virtual v))
+pub says_virtual : (h : Classes) (word name : List ℕ) (v : ClassId) → (Contains word 10 → ⊥) → word ≡ codes "virtual " ++ name → IsClassNamed h name (Some v) → IsPrimaryWord h word (Some (Virtual v))
 says_virtual h word name v plain e found =
     let there = found_name h v name found in
     let is : word ≡ codes "virtual " ++ declared_class_name h v = e ∙ ap (λ (t : List ℕ). codes "virtual " ++ t) (sym there.1) in
     ((there.0, λ has. plain (subst (λ (t : List ℕ). Contains t 10) (sym is) (contains_from_has (codes "virtual " ++ declared_class_name h v) 10 (has_right (codes "virtual ") (declared_class_name h v) 10 (has_from_contains (declared_class_name h v) 10 has))))), is)
 
-pub says_no_virtual : (h : Classes) (word name : List ℕ) → word ≡ codes "virtual " ++ name → IsFound h name None → IsPrimaryWord h word None
+pub says_no_virtual : (h : Classes) (word name : List ℕ) → word ≡ codes "virtual " ++ name → IsClassNamed h name None → IsPrimaryWord h word None
 says_no_virtual h word name e none NoPrimary writable is = let same : codes "none" ≡ codes "virtual " ++ name = sym is ∙ e in absurd (cc)
 says_no_virtual h word name e none (Direct b) writable is = writable.1.not_virtual name (sym is ∙ e)
 says_no_virtual h word name e none (Virtual v) writable is =
     let same : declared_class_name h v ≡ name = append_cancel_left (codes "virtual ") (declared_class_name h v) name (sym is ∙ e) in
     none (subst (λ (t : List ℕ). Contains (class_names h) t) same (name_there h v writable.0))
 
-pub says_direct : (h : Classes) (word : List ℕ) (b : ClassId) → (Contains word 10 → ⊥) → (word ≡ codes "none" → ⊥) → IsNotBehind word (codes "virtual ") → IsFound h word (Some b) → IsPrimaryWord h word (Some (Direct b))
+pub says_direct : (h : Classes) (word : List ℕ) (b : ClassId) → (Contains word 10 → ⊥) → (word ≡ codes "none" → ⊥) → IsNotBehind word (codes "virtual ") → IsClassNamed h word (Some b) → IsPrimaryWord h word (Some (Direct b))
 says_direct h word b plain not_none not_virtual found =
     let there = found_name h b word found in
     let name : word ≡ declared_class_name h b = sym there.1 in (
@@ -161,7 +161,7 @@ says_direct h word b plain not_none not_virtual found =
       name,
     )
 
-pub says_no_direct : (h : Classes) (word : List ℕ) → (word ≡ codes "none" → ⊥) → IsNotBehind word (codes "virtual ") → IsFound h word None → IsPrimaryWord h word None
+pub says_no_direct : (h : Classes) (word : List ℕ) → (word ≡ codes "none" → ⊥) → IsNotBehind word (codes "virtual ") → IsClassNamed h word None → IsPrimaryWord h word None
 says_no_direct h word not_none not_virtual none NoPrimary writable is = not_none is
 says_no_direct h word not_none not_virtual none (Direct b) writable is = none (subst (λ (t : List ℕ). Contains (class_names h) t) (sym is) (name_there h b writable.0))
 says_no_direct h word not_none not_virtual none (Virtual v) writable is = not_virtual (declared_class_name h v) is

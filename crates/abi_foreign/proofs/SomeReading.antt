@@ -8,7 +8,7 @@ use Rattle.foundation.proofs.Deciding.{decide_number, decide_list}
 use Rattle.foundation.proofs.Members.{has_from_contains, contains_from_has}
 use Rattle.cxx_hierarchy.specs.declared.records.ClassId.{ClassId}
 use Rattle.cxx_hierarchy.specs.declared.records.Member.{Member}
-use Rattle.cxx_hierarchy.specs.Classes.{Classes, class_names, members_of, IsFound}
+use Rattle.cxx_hierarchy.specs.Classes.{Classes, class_names, members_of, IsClassNamed}
 use Rattle.cxx_hierarchy.specs.Hierarchies.{IsHierarchy}
 use Rattle.cxx_subobject.specs.declared.Subobject.{Subobject}
 use Rattle.cxx_subobject.specs.Preorder.{preorder}
@@ -167,7 +167,7 @@ named (first ∷ names) name = ⊎_elim
     (named names name))
     (decide_list decide_number first name)
 
-class_named : (h : Classes) (name : List ℕ) → (found : Option ClassId) × IsFound h name found
+class_named : (h : Classes) (name : List ℕ) → (found : Option ClassId) × IsClassNamed h name found
 class_named h name = ⊎_elim (λ at. (Some (class_by_number at.0), at.1)) (λ none. (None, none)) (named (class_names h) name)
 
 word_said : (h : Classes) (word : List ℕ) → (Contains word 10 → ⊥) → (primary : Option Primary) × IsPrimaryWord h word primary
@@ -179,11 +179,11 @@ word_said h word plain = ⊎_elim
     (behind_decided word (codes "virtual ")))
     (decide_list decide_number word (codes "none"))
   where
-    by_virtual : (name : List ℕ) → word ≡ codes "virtual " ++ name → (found : Option ClassId) → IsFound h name found → (primary : Option Primary) × IsPrimaryWord h word primary
+    by_virtual : (name : List ℕ) → word ≡ codes "virtual " ++ name → (found : Option ClassId) → IsClassNamed h name found → (primary : Option Primary) × IsPrimaryWord h word primary
     by_virtual name e None none = (None, says_no_virtual h word name e none)
     by_virtual name e (Some v) there = (Some (Virtual v), says_virtual h word name v plain e there)
 
-    by_direct : (word ≡ codes "none" → ⊥) → IsNotBehind word (codes "virtual ") → (found : Option ClassId) → IsFound h word found → (primary : Option Primary) × IsPrimaryWord h word primary
+    by_direct : (word ≡ codes "none" → ⊥) → IsNotBehind word (codes "virtual ") → (found : Option ClassId) → IsClassNamed h word found → (primary : Option Primary) × IsPrimaryWord h word primary
     by_direct not no_virtual None none = (None, says_no_direct h word not no_virtual none)
     by_direct not no_virtual (Some b) there = (Some (Direct b), says_direct h word b plain not no_virtual there)
 

@@ -24,7 +24,7 @@ use Rattle.abi_primary.specs.declared.Primary.TheVariants.{None as NoPrimary, Di
 use Rattle.abi_sound.specs.Places.{Places}
 use Rattle.abi_slots.specs.declared.words.EntryKey.{EntryKey}
 use Rattle.abi_slots.specs.Limits.{most_entries}
-use Rattle.cxx_overrider.specs.Virtuals.{index_of, implicit_index, indices_in, function_at, functions_in, declared, is_virtual, own}
+use Rattle.cxx_overrider.specs.Virtuals.{index_of, implicit_index, indices_in, function_at, function_ids_in, declared, is_virtual, own}
 use Rattle.abi_slots.specs.Listing.{kinds_in, keys_of, shares, primary_entries, new_entries, with_new_entries, entries_in, entries}
 
 -- functions
@@ -99,7 +99,7 @@ few_own h keeps c =
     let few = by_class (class_at h c) refl in
     omega arith
   where
-    by_class : (o : Option Class) → class_at h c ≡ o → length (functions_in c o) ≤ 1025
+    by_class : (o : Option Class) → class_at h c ≡ o → length (function_ids_in c o) ≤ 1025
     by_class None at = omega arith
     by_class (Some class) at =
         let few : length class.functions ≤ 1024 = subst (λ o. length (Rattle.cxx_hierarchy.specs.Classes.functions_in o) ≤ 1024) at (keeps.few_functions c) in

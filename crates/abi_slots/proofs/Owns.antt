@@ -5,11 +5,11 @@ use Rattle.cxx_hierarchy.specs.Classes.{Class, Classes, class_at}
 use Rattle.cxx_hierarchy.specs.Hierarchies.{IsHierarchy}
 use Rattle.cxx_overrider.specs.declared.FunctionId.{FunctionId}
 use Rattle.cxx_overrider.specs.Overriding.{IsVirtual}
-use Rattle.cxx_overrider.specs.Virtuals.{function_at, functions_in, indices_in, declared, is_virtual, own}
+use Rattle.cxx_overrider.specs.Virtuals.{function_at, function_ids_in, indices_in, declared, is_virtual, own}
 use Rattle.cxx_search.proofs.Virtuals.{test_virtual}
 use Rattle.abi_slots.proofs.Lists.{Item, item_none, from_map, from_filter}
 
-declared_class : (h : Classes) (c : ClassId) (o : Option Class) (f : FunctionId) → Item (functions_in c o) f → f.class ≡ c
+declared_class : (h : Classes) (c : ClassId) (o : Option Class) (f : FunctionId) → Item (function_ids_in c o) f → f.class ≡ c
 declared_class h c None f i = absurd (item_none f i)
 declared_class h c (Some class) f i = let r = from_map (function_at c) (indices_in class) f i in ap (λ (g : FunctionId). g.class) (sym r.2)
 

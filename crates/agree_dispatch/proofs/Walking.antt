@@ -15,7 +15,7 @@ use Rattle.cxx_subobject.specs.Preorder.{preorder}
 use Rattle.cxx_subobject.specs.Inside.{IsInside}
 use Rattle.cxx_subobject.proofs.TestLemmas.{base_class}
 use Rattle.cxx_subobject.proofs.InsideLemmas.{join_class, join_whole, inside_itself, inside_valid}
-use Rattle.cxx_search.specs.Searches.{preorder_of, parts_of}
+use Rattle.cxx_search.specs.Searches.{preorder_of, subobjects_under}
 use Rattle.cxx_search.proofs.Within.{parts_inside, inside_parts}
 use Rattle.abi_primary.specs.Kinds.{IsDynamic}
 use Rattle.abi_sound.specs.declared.class_layout.ClassLayout.{ClassLayout}
@@ -42,7 +42,7 @@ module _ (h : Classes) (rows : List ClassLayout) (x : View) (placed : PlacedTabl
   part = part_of (places_of h rows) x placed start
 
   abbrev parts : List Part
-  parts = map (part_of (places_of h rows) x placed start) (parts_of h x.at_sub)
+  parts = map (part_of (places_of h rows) x placed start) (subobjects_under h x.at_sub)
 
   -- what a part of the list is that of
   record IsOrigin (p : Part) : Type 0 where
@@ -54,13 +54,13 @@ module _ (h : Classes) (rows : List ClassLayout) (x : View) (placed : PlacedTabl
 
   origin : (p : Part) → Contains parts p → IsOrigin p
   origin p has =
-      let m = from_map part (parts_of h x.at_sub) p (has_from_contains parts p has) in
+      let m = from_map part (subobjects_under h x.at_sub) p (has_from_contains parts p has) in
       let k = parts_inside h x.at_sub m.0 m.1 in
       let c = class_in h x.complete x.at_sub part g (shows h rows x placed memory start stands) m.0 k in
       record { of = m.0; there = k; class = c.0; of_class = c.1; is = m.2 }
 
   listed : (u : Subobject) → IsInside h x.at_sub u → Contains parts (part u)
-  listed u k = contains_from_has parts (part u) (has_map part (parts_of h x.at_sub) u (inside_parts h stands.keeps x.at_sub u k))
+  listed u k = contains_from_has parts (part u) (has_map part (subobjects_under h x.at_sub) u (inside_parts h stands.keeps x.at_sub u k))
 
   -- the edge from a part of the list
   edge_at : (p : Part) (i : ℕ) → (o : IsOrigin p) → i < g.count p → IsEdge h x.complete x.at_sub part g (shows h rows x placed memory start stands) o.of p i
@@ -102,7 +102,7 @@ module _ (h : Classes) (rows : List ClassLayout) (x : View) (placed : PlacedTabl
     read = are_read;
     has = listed x.at_sub view_there;
     few =
-        let a = length-map (parts_of h x.at_sub) part in
+        let a = length-map (subobjects_under h x.at_sub) part in
         let b = length-map (preorder_of h (class_of x.at_sub)) (join x.at_sub) in
         let c : length (preorder_of h (class_of x.at_sub)) ≡ length (preorder h x.class) = ap (λ o. length (preorder_of h o)) stands.view.of_class in
         omega arith;

@@ -7,8 +7,8 @@ ghost use Rattle.cxx_grammar.specs.declared.sort.Sort.{Sort};
 ghost use Rattle.cxx_grammar.specs.Event.{State};
 ghost use Rattle.cxx_grammar.specs.invariants.Run.{Follows};
 ghost use Rattle.cxx_grammar.specs.Table.{Only, AName, APointer, AConstant, AfterOperand, AfterPointer, RightEnd, is_pointer, is_constant, is_operator};
-ghost use Rattle.cxx_syntax.specs.Operands.{OperandReads, RightReads, operator_of, cast_of};
-ghost use Rattle.cxx_body_parser.specs.invariants.Through.{right_of};
+ghost use Rattle.cxx_syntax.specs.Operands.{OperandReads, RightReads, operator_of, cast_kind};
+ghost use Rattle.cxx_body_parser.specs.invariants.Through.{right_through};
 
 use crate::place::{Through, behind_pointer, place};
 use crate::texts::{Reading, Text};
@@ -36,7 +36,7 @@ fn operator_of(sort: Sort) -> Option<BinaryOp>
 
 // A place or a call as a right side.
 fn right_of(read: Through) -> Right
-    ensures { result ≡ right_of read }
+    ensures { result ≡ right_through read }
 {
     match read {
         Through::Place(place) => Right::Place(place),
@@ -131,7 +131,7 @@ fn cast_right<'a>(
     kind: CastKind,
     rest: &'a [Lexeme],
 ) -> Reading<'a, Right>
-    requires { cast_of first.sort ≡ Some kind }
+    requires { cast_kind first.sort ≡ Some kind }
     ensures reads { IfOk result (λ x. RightReads text.now.bytes.now x.0 (first ∷ rest.now) x.1.now) }
     ensures shorter { IfOk result (λ x. length x.1.now ≤ length rest.now) }
     ensures follows { (s : State) → Follows (λ x. x.1.now) s (Only Sort.Less ∷ AName ∷ Only Sort.Star ∷ Only Sort.Greater ∷ Only Sort.OpenParen ∷ APointer ∷ Only Sort.CloseParen ∷ Only Sort.Semicolon ∷ []) rest.now s (Only Sort.Semicolon ∷ []) result }

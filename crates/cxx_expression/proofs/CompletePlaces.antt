@@ -28,10 +28,10 @@ use Rattle.cxx_expression.specs.declared.typed.FoundFunction.{FoundFunction}
 use Rattle.cxx_expression.specs.declared.typed.Reached.{Reached}
 use Rattle.cxx_expression.specs.Checked.{pure, warn, ◌>>=◌, both, beside, kept}
 use Rattle.cxx_expression.specs.Lookups.{looked_up, member_record, function_record}
-use Rattle.cxx_expression.specs.Values.{class_of}
-use Rattle.cxx_expression.specs.Places.{as_found, member_in, as_member, member_of, index_of, object_of, step_of, steps_of, begun, with_last, ended, place_of, as_leaf, leaf_of, as_object, object_place_of}
+use Rattle.cxx_expression.specs.Values.{class_of_spot}
+use Rattle.cxx_expression.specs.Places.{as_found, member_in, as_member, member_of, checked_index, object_of, step_of, steps_of, begun, with_last, ended, place_of, as_leaf, leaf_of, as_object, object_place_of}
 use Rattle.cxx_expression.specs.Calls as calls
-use Rattle.cxx_expression.specs.Calls.{function_in, as_function, function_of, counted, target_of, plain_operand, argument_of, arguments_of, parameters_in, plain_value, plain_call, defined, named_function, receiver_of, parameters_of, qualified_value, qualified_call, call_by, call_of, whole_call}
+use Rattle.cxx_expression.specs.Calls.{function_in, as_function, function_of, counted, target_of, plain_operand, argument_of, arguments_of, target_parameters, plain_value, plain_call, defined, named_function, receiver_of, found_parameters, qualified_value, qualified_call, call_by, call_of, whole_call}
 use Rattle.cxx_expression.specs.Laws.{IsComplete}
 use Rattle.cxx_expression.proofs.Complete.{complete_pure, complete_fail, complete_warn, complete_bind, complete_both, complete_if, complete_nested, beside_whole}
 use Rattle.cxx_expression.proofs.CompleteValues.{c_class_of, c_operand, c_pointer, c_path, c_converted_operand}
@@ -55,8 +55,8 @@ c_member : (h : Classes) (at : ℕ) (c : ClassId) (x : Spot) → IsComplete (mem
 unfolding member_of
 c_member h at c x = c_as_member h at x.at (looked_up h c x.name)
 
-c_index : (at : ℕ) (count : Option ℕ) (index : Option (ℕ × ℕ)) → IsComplete (index_of at count index)
-unfolding index_of
+c_index : (at : ℕ) (count : Option ℕ) (index : Option (ℕ × ℕ)) → IsComplete (checked_index at count index)
+unfolding checked_index
 c_index at None None = complete_pure _
 c_index at None (Some index) = complete_fail _ _
 c_index at (Some count) None = complete_fail _ _
@@ -144,9 +144,9 @@ c_arguments h e s at ps n (x ∷ xs) = complete_bind _ _ (complete_both _ _ (c_a
 c_plain_call : (h : Classes) (e : Setting) (s : Scene) (at : ℕ) (call : CallText) → IsComplete (plain_call h e s at call >>= (λ v. kept v.call))
 unfolding plain_call
 c_plain_call h e s at call =
-    complete_nested (beside (target_of h e s at call) (λ t. arguments_of h e s at (parameters_in t) 0 call.arguments)) (λ r. pure (plain_value r.0 (is_virtual h r.0.found.function) r.1)) (λ v. kept v.call)
-    (beside_whole (target_of h e s at call) (λ t. arguments_of h e s at (parameters_in t) 0 call.arguments) (λ t o. plain_value t (is_virtual h t.found.function) o) (λ v. v.call) (λ t list. refl)
-    (c_target h e s at call) (λ t. c_arguments h e s at (parameters_in t) 0 call.arguments))
+    complete_nested (beside (target_of h e s at call) (λ t. arguments_of h e s at (target_parameters t) 0 call.arguments)) (λ r. pure (plain_value r.0 (is_virtual h r.0.found.function) r.1)) (λ v. kept v.call)
+    (beside_whole (target_of h e s at call) (λ t. arguments_of h e s at (target_parameters t) 0 call.arguments) (λ t o. plain_value t (is_virtual h t.found.function) o) (λ v. v.call) (λ t list. refl)
+    (c_target h e s at call) (λ t. c_arguments h e s at (target_parameters t) 0 call.arguments))
 
 pub c_defined : (at : ℕ) (f : FoundFunction) → IsComplete (defined at f)
 c_defined at f = complete_if f.is_pure (warn rule.Abstract at f) (pure f) (complete_warn _ _ _) (complete_pure _)
@@ -159,13 +159,13 @@ c_receiver : (h : Classes) (e : Setting) (s : Scene) (at : ℕ) (k : ClassId) (x
 unfolding receiver_of
 c_receiver h e s at k x = complete_bind _ _ (c_pointer e s at x) (λ p. complete_bind _ _ (c_path h at p.class k) (λ path. complete_pure _))
 
-c_passed : (h : Classes) (e : Setting) (s : Scene) (at : ℕ) (k : ClassId) (call : CallText) (f : Option FoundFunction) → IsComplete (both (receiver_of h e s at k call.pointer) (arguments_of h e s at (parameters_of f) 0 call.arguments))
-c_passed h e s at k call f = complete_both _ _ (c_receiver h e s at k call.pointer) (c_arguments h e s at (parameters_of f) 0 call.arguments)
+c_passed : (h : Classes) (e : Setting) (s : Scene) (at : ℕ) (k : ClassId) (call : CallText) (f : Option FoundFunction) → IsComplete (both (receiver_of h e s at k call.pointer) (arguments_of h e s at (found_parameters f) 0 call.arguments))
+c_passed h e s at k call f = complete_both _ _ (c_receiver h e s at k call.pointer) (c_arguments h e s at (found_parameters f) 0 call.arguments)
 
 c_qualified : (h : Classes) (e : Setting) (s : Scene) (at : ℕ) (call : CallText) (x : Spot) → IsComplete (qualified_call h e s at call x >>= (λ v. kept v.call))
 unfolding qualified_call
-c_qualified h e s at call x = complete_nested (class_of h x) _ (λ v. kept v.call) (complete_bind _ _ (c_class_of h x) (λ k.
-    let passed = λ (f : Option FoundFunction). both (receiver_of h e s at k call.pointer) (arguments_of h e s at (parameters_of f) 0 call.arguments) in
+c_qualified h e s at call x = complete_nested (class_of_spot h x) _ (λ v. kept v.call) (complete_bind _ _ (c_class_of h x) (λ k.
+    let passed = λ (f : Option FoundFunction). both (receiver_of h e s at k call.pointer) (arguments_of h e s at (found_parameters f) 0 call.arguments) in
     complete_nested (beside (named_function h at k call) passed) (λ r. pure (qualified_value r.0 r.1)) (λ v. kept v.call)
     (beside_whole (named_function h at k call) passed (λ f o. qualified_value f o) (λ v. v.call) (λ f r. refl) (c_named h at k call) (c_passed h e s at k call))))
 

@@ -36,7 +36,7 @@ use Rattle.cxx_expression.specs.declared.scene.Setting.{Setting}
 use Rattle.cxx_expression.specs.declared.typed.RightValue.{RightValue}
 use Rattle.cxx_expression.specs.Checked.{Checked, pure, ◌>>=◌, both, kept}
 use Rattle.cxx_expression.specs.Lookups.{base_up, is_polymorphic}
-use Rattle.cxx_expression.specs.Values.{class_of, operand_of, pointer_of, number_of, conversion_of}
+use Rattle.cxx_expression.specs.Values.{class_of_spot, operand_of, pointer_of, number_operand, conversion_of}
 use Rattle.cxx_expression.specs.Places.{leaf_of, object_place_of}
 use Rattle.cxx_expression.specs.Calls.{call_of}
 use Rattle.cxx_expression.specs.Operators.{arithmetic_right, one_converted, to_one_class, if_null, pointers_right, null_right, compared, equal_right, binary_right, not_right}
@@ -53,7 +53,7 @@ all_of p = p >>= (λ r. kept r.right)
 
 c_arithmetic : (e : Setting) (s : Scene) (at : ℕ) (op : Arithmetic) (x y : Operand) → IsComplete (all_of (arithmetic_right e s at op x y))
 unfolding arithmetic_right
-c_arithmetic e s at op x y = complete_nested (both (number_of e s at x) (number_of e s at y)) _ _ (complete_bind _ _ (complete_both _ _ (c_number e s at x) (c_number e s at y)) (λ p. complete_pure _))
+c_arithmetic e s at op x y = complete_nested (both (number_operand e s at x) (number_operand e s at y)) _ _ (complete_bind _ _ (complete_both _ _ (c_number e s at x) (c_number e s at y)) (λ p. complete_pure _))
 
 c_one_converted : (at : ℕ) (up down : Based) → IsComplete (one_converted at up down)
 c_one_converted at (based.Base s) down = complete_pure _
@@ -102,7 +102,7 @@ c_binary h e s at x binary.NotEqual y = c_equal h e s at true x y
 
 c_not : (e : Setting) (s : Scene) (at : ℕ) (x : Operand) → IsComplete (all_of (not_right e s at x))
 unfolding not_right
-c_not e s at x = complete_nested (number_of e s at x) _ _ (complete_bind _ _ (c_number e s at x) (λ v. complete_pure _))
+c_not e s at x = complete_nested (number_operand e s at x) _ _ (complete_bind _ _ (c_number e s at x) (λ v. complete_pure _))
 
 c_down : (at : ℕ) (d : ClassId) (s : Subobject) (root : Root) → IsComplete (down_to at d s root)
 c_down at d s Whole = complete_pure _
@@ -140,7 +140,7 @@ c_cast_of h at kind.Dynamic c d = c_dynamic h at c d
 
 c_cast : (h : Classes) (e : Setting) (s : Scene) (at : ℕ) (text : CastText) → IsComplete (all_of (cast_right h e s at text))
 unfolding cast_right
-c_cast h e s at text = complete_nested (both (class_of h text.target) (pointer_of e s at text.pointer)) _ _ (complete_bind _ _ (complete_both _ _ (c_class_of h text.target) (c_pointer e s at text.pointer))
+c_cast h e s at text = complete_nested (both (class_of_spot h text.target) (pointer_of e s at text.pointer)) _ _ (complete_bind _ _ (complete_both _ _ (c_class_of h text.target) (c_pointer e s at text.pointer))
     (λ p. complete_nested (cast_of h at text.kind p.1.class p.0) _ _ (complete_bind _ _ (c_cast_of h at text.kind p.1.class p.0) (λ c. complete_pure _))))
 
 c_typeid : (h : Classes) (e : Setting) (s : Scene) (at : ℕ) (x : PointerText) → IsComplete (polymorphic_pointer h e s at x)
@@ -153,7 +153,7 @@ c_made at false c = complete_pure _
 
 c_type_equal : (h : Classes) (e : Setting) (s : Scene) (at : ℕ) (x : PointerText) (name : Spot) → IsComplete (all_of (type_right h e s at x name))
 unfolding type_right
-c_type_equal h e s at x name = complete_nested (both (polymorphic_pointer h e s at x) (class_of h name)) _ _ (complete_bind _ _ (complete_both _ _ (c_typeid h e s at x) (c_class_of h name)) (λ p. complete_pure _))
+c_type_equal h e s at x name = complete_nested (both (polymorphic_pointer h e s at x) (class_of_spot h name)) _ _ (complete_bind _ _ (complete_both _ _ (c_typeid h e s at x) (c_class_of h name)) (λ p. complete_pure _))
 
 c_operand_right : (e : Setting) (s : Scene) (at : ℕ) (x : Operand) → IsComplete (all_of (operand_right e s at x))
 unfolding operand_right
@@ -187,7 +187,7 @@ c_call_right h e s at x = complete_nested (call_of h e s at x) _ _ (complete_who
 
 c_new : (h : Classes) (x : Spot) → IsComplete (all_of (new_right h x))
 unfolding new_right
-c_new h x = complete_nested (class_of h x) _ _ (complete_bind _ _ (c_class_of h x) (λ c. c_made x.at (is_abstract h c) c))
+c_new h x = complete_nested (class_of_spot h x) _ _ (complete_bind _ _ (c_class_of h x) (λ c. c_made x.at (is_abstract h c) c))
 
 -- a right side has a fault, or all of it is typed
 pub c_right : (h : Classes) (e : Setting) (s : Scene) (at : ℕ) (r : Right) → IsComplete (all_of (right_of h e s at r))

@@ -17,8 +17,8 @@ use Rattle.cxx_expression.specs.declared.scene.Entry.{Entry}
 use Rattle.cxx_expression.specs.declared.scene.Scene.{Scene}
 use Rattle.cxx_expression.specs.declared.scene.Setting.{Setting}
 use Rattle.cxx_expression.specs.Lookups.{find_class, base_up}
-use Rattle.cxx_expression.specs.Scenes.{last_of}
-use Rattle.cxx_expression.specs.Values.{as_class, class_named, class_of, type_of, global_of, local_of, variable_of, named_value, this_of, operand_of, pointer_value, as_pointer, pointer_of, as_number, number_of, as_base, path_to, class_conversion, conversion_of, converted_operand}
+use Rattle.cxx_expression.specs.Scenes.{innermost_entry}
+use Rattle.cxx_expression.specs.Values.{as_class, class_named, class_of_spot, type_of, named_global, local_of, variable_of, named_value, this_pointer_value, operand_of, pointer_value, as_pointer, pointer_of, as_number, number_operand, as_base, path_to, class_conversion, conversion_of, converted_operand}
 use Rattle.cxx_expression.specs.Laws.{IsComplete}
 use Rattle.cxx_expression.proofs.Complete.{complete_pure, complete_fail, complete_bind, complete_if}
 
@@ -30,8 +30,8 @@ pub c_class_named : (h : Classes) (name : Text) (at : ℕ) → IsComplete (class
 unfolding class_named
 c_class_named h name at = c_as_class at (find_class h name)
 
-pub c_class_of : (h : Classes) (x : Spot) → IsComplete (class_of h x)
-unfolding class_of
+pub c_class_of : (h : Classes) (x : Spot) → IsComplete (class_of_spot h x)
+unfolding class_of_spot
 c_class_of h x = c_class_named h x.name x.at
 
 pub c_type : (h : Classes) (ty : ValueType Text) (at : ℕ) → IsComplete (type_of h ty at)
@@ -39,23 +39,23 @@ unfolding type_of
 c_type h (type.Number t) at = complete_pure _
 c_type h (type.Pointer name) at = complete_bind _ _ (c_class_named h name at) (λ c. complete_pure _)
 
-c_global : (at : ℕ) (o : Option Entry) → IsComplete (global_of at o)
+c_global : (at : ℕ) (o : Option Entry) → IsComplete (named_global at o)
 c_global at None = complete_fail _ _
 c_global at (Some entry) = complete_pure _
 
 c_local : (e : Setting) (x : Spot) (o : Option Entry) → IsComplete (local_of e x o)
-c_local e x None = c_global x.at (last_of e.globals x.name)
+c_local e x None = c_global x.at (innermost_entry e.globals x.name)
 c_local e x (Some entry) = complete_pure _
 
 pub c_variable : (e : Setting) (s : Scene) (x : Spot) → IsComplete (variable_of e s x)
 unfolding variable_of
-c_variable e s x = c_local e x (last_of s.entries x.name)
+c_variable e s x = c_local e x (innermost_entry s.entries x.name)
 
 c_named : (e : Setting) (s : Scene) (x : Spot) → IsComplete (named_value e s x)
 unfolding named_value
 c_named e s x = complete_bind _ _ (c_variable e s x) (λ v. complete_pure _)
 
-c_this : (at : ℕ) (o : Option ClassId) → IsComplete (this_of at o)
+c_this : (at : ℕ) (o : Option ClassId) → IsComplete (this_pointer_value at o)
 c_this at None = complete_fail _ _
 c_this at (Some c) = complete_pure _
 
@@ -82,8 +82,8 @@ pub c_pointer : (e : Setting) (s : Scene) (at : ℕ) (x : PointerText) → IsCom
 unfolding pointer_of
 c_pointer e s at x = complete_bind _ _ (c_pointer_value e s at x) (λ v. c_as_pointer at v.operand v.ty)
 
-pub c_number : (e : Setting) (s : Scene) (at : ℕ) (x : Operand) → IsComplete (number_of e s at x)
-unfolding number_of
+pub c_number : (e : Setting) (s : Scene) (at : ℕ) (x : Operand) → IsComplete (number_operand e s at x)
+unfolding number_operand
 c_number e s at x = complete_bind _ _ (c_operand e s at x) (λ v. c_as_number at v.operand v.ty)
 
 c_base : (at : ℕ) (b : Based) → IsComplete (as_base at b)

@@ -8,7 +8,7 @@ use Rattle.cxx_hierarchy.specs.declared.records.ClassId.{ClassId}
 use Rattle.cxx_hierarchy.specs.declared.records.Base.{Base}
 use Rattle.cxx_hierarchy.specs.declared.records.Member.{Member as MemberRecord}
 use Rattle.cxx_hierarchy.specs.declared.records.Function.{Function as FunctionRecord}
-use Rattle.cxx_hierarchy.specs.Classes.{Class, Classes, class_at, class_names, bases_in, members_in, functions_in, IsFound}
+use Rattle.cxx_hierarchy.specs.Classes.{Class, Classes, class_at, class_names, bases_in, members_in, functions_in, IsClassNamed}
 use Rattle.cxx_hierarchy.specs.Hierarchies.{IsHierarchy}
 use Rattle.cxx_hierarchy.specs.NameTables.{Text, place_in}
 use Rattle.cxx_subobject.specs.declared.Subobject.{Subobject}
@@ -20,9 +20,9 @@ use Rattle.cxx_lookup.specs.declared.LookupFault.TheVariants.{NoSuchMember}
 use Rattle.cxx_lookup.specs.declared.BaseFault.TheVariants.{NotBase as NoBase}
 use Rattle.cxx_lookup.specs.Lookup.{IsFound as IsNameFound, TwoRemain, IsLookupFault}
 use Rattle.cxx_lookup.specs.UniqueBase.{IsUniqueBase, HasTwoBases, IsBaseFault}
-use Rattle.cxx_lookup.specs.Findings.{finds_none, finds_one, finds_more, found_among, declared_as, declaration_at, is_of_class, the_only}
+use Rattle.cxx_lookup.specs.Findings.{finds_none, finds_one, finds_more, found_among, declared_as, declaration_at, is_of_sought_class, the_only_found}
 use Rattle.cxx_overrider.specs.declared.FunctionId.{FunctionId}
-use Rattle.cxx_overrider.specs.Virtuals.{is_virtual, functions_in as declared_by}
+use Rattle.cxx_overrider.specs.Virtuals.{is_virtual, function_ids_in as declared_by}
 use Rattle.cxx_search.specs.Searches.{is_abstract, has_pure_in, is_pure_overrider, final_in}
 use Rattle.cxx_hierarchy.proofs.Builds.{place_missing}
 use Rattle.cxx_hierarchy.proofs.Listed.{place_listed, mapped}
@@ -87,14 +87,14 @@ missing_beyond h c name none =
 pub itself_beyond : (h : Classes) (c d : ClassId) → class_at h c ≡ None → nat_eq c.0 d.0 ≡ true → base_up h c d ≡ ABase (whole_of c)
 unfolding base_up
 itself_beyond h c d none same =
-    ap (λ (list : List Subobject). as_based (the_only (filter (is_of_class d) list))) (lone h c none)
-    ∙ ap (λ (b : Bool). as_based (the_only (cond b (whole_of c ∷ []) []))) same
+    ap (λ (list : List Subobject). as_based (the_only_found (filter (is_of_sought_class d) list))) (lone h c none)
+    ∙ ap (λ (b : Bool). as_based (the_only_found (cond b (whole_of c ∷ []) []))) same
 
 pub other_beyond : (h : Classes) (c d : ClassId) → class_at h c ≡ None → nat_eq c.0 d.0 ≡ false → base_up h c d ≡ NotBase
 unfolding base_up
 other_beyond h c d none differ =
-    ap (λ (list : List Subobject). as_based (the_only (filter (is_of_class d) list))) (lone h c none)
-    ∙ ap (λ (b : Bool). as_based (the_only (cond b (whole_of c ∷ []) []))) differ
+    ap (λ (list : List Subobject). as_based (the_only_found (filter (is_of_sought_class d) list))) (lone h c none)
+    ∙ ap (λ (b : Bool). as_based (the_only_found (cond b (whole_of c ∷ []) []))) differ
 
 pub plain_beyond : (h : Classes) (c : ClassId) → class_at h c ≡ None → is_polymorphic h c ≡ false
 unfolding is_polymorphic
@@ -123,11 +123,11 @@ one_class_named h keeps name c d at_c at_d =
     same_id c d (keeps.names c d x.item y.item x.listed y.listed (sym x.same ∙ y.same))
 
 -- the class that the table has for a name is the first of the name
-pub class_is : (h : Classes) → IsHierarchy h → (name : Text) (found : Option ClassId) → IsFound h name found → found ≡ find_class h name
+pub class_is : (h : Classes) → IsHierarchy h → (name : Text) (found : Option ClassId) → IsClassNamed h name found → found ≡ find_class h name
 unfolding find_class
 class_is h keeps name found is = first (place_in (class_names h) name) found is refl
   where
-    first : (o : Option ℕ) (found : Option ClassId) → IsFound h name found → place_in (class_names h) name ≡ o → found ≡ class_numbered o
+    first : (o : Option ℕ) (found : Option ClassId) → IsClassNamed h name found → place_in (class_names h) name ≡ o → found ≡ class_numbered o
     first None None is e = refl
     first None (Some c) is e = absurd (place_missing (class_names h) name e (contains_at (class_names h) c.0 name is))
     first (Some n) None is e = absurd (is (contains_at (class_names h) n name (place_listed (class_names h) name n e)))

@@ -15,7 +15,7 @@ use Rattle.cxx_expression.specs.declared.known.KnownName.{KnownName}
 use Rattle.cxx_expression.specs.declared.known.Known.{Known}
 use Rattle.cxx_expression.specs.declared.look_up.Based.{Based}
 use Rattle.cxx_expression.specs.Lookups.{looked_up, base_up, is_polymorphic}
-use Rattle.cxx_expression.specs.invariants.Known.{key_of, same_pair, name_at, base_at, polymorphic_at, Knows}
+use Rattle.cxx_expression.specs.invariants.Known.{key_of, same_pair, known_name, base_at, polymorphic_at, Knows}
 
 equal_numbers : (m n : ℕ) → nat_eq m n ≡ true → m ≡ n
 equal_numbers m n e = grind (arith, nat_tests)
@@ -33,13 +33,13 @@ put_cases true new old there v P e f here before = let g : Some new ≡ Some v =
 put_cases false new old there v P e f here before = before (sym e ∙ f)
 
 pub name_kept : (h : Classes) (old new : Known) (key : Pair) (c : ClassId) (n : ℕ) (text : Text) (name : KnownName) → key ≡ key_of c n → name.name ≡ text →
-    ((q : Pair) → name_at new q ≡ (if same_pair key q then Some name else name_at old q)) → new.bases ≡ old.bases → new.polymorphic ≡ old.polymorphic →
+    ((q : Pair) → known_name new q ≡ (if same_pair key q then Some name else known_name old q)) → new.bases ≡ old.bases → new.polymorphic ≡ old.polymorphic →
     looked_up h c text ≡ name.looked → Knows h old → Knows h new
 name_kept h old new key c n text name is named put bases polymorphic means knows =
     let here : looked_up h c name.name ≡ name.looked = ap (looked_up h c) named ∙ means in
     record {
-      names = λ d k m at. put_cases (same_pair (key_of c n) (key_of d k)) name (name_at old (key_of d k)) (name_at new (key_of d k)) m (looked_up h d m.name ≡ m.looked)
-          (put (key_of d k) ∙ ap (λ (q : Pair). if same_pair q (key_of d k) then Some name else name_at old (key_of d k)) is) at
+      names = λ d k m at. put_cases (same_pair (key_of c n) (key_of d k)) name (known_name old (key_of d k)) (known_name new (key_of d k)) m (looked_up h d m.name ≡ m.looked)
+          (put (key_of d k) ∙ ap (λ (q : Pair). if same_pair q (key_of d k) then Some name else known_name old (key_of d k)) is) at
           (λ same e. subst (λ (x : KnownName). looked_up h d x.name ≡ x.looked) e (subst (λ (x : ClassId). looked_up h x name.name ≡ name.looked) (same_class c d n k same) here))
           (λ before. knows.names d k m before);
       bases = λ d e b at. knows.bases d e b (ap (get_by (same_pair (key_of d e.0))) (sym bases) ∙ at);
@@ -76,5 +76,5 @@ pub base_known : (h : Classes) (known : Known) (key : Pair) (c d : ClassId) (o :
 base_known h known key c d None is found knows = tt
 base_known h known key c d (Some based) is found knows = knows.bases c d based.now (sym (found ∙ ap (base_at known) is))
 
-pub name_known : (h : Classes) (known : Known) (key : Pair) (c : ClassId) (n : ℕ) (text : Text) (name : KnownName) → key ≡ key_of c n → Some name ≡ name_at known key → name.name ≡ text → Knows h known → looked_up h c text ≡ name.looked
-name_known h known key c n text name is found named knows = subst (λ (t : Text). looked_up h c t ≡ name.looked) named (knows.names c n name (sym (found ∙ ap (name_at known) is)))
+pub name_known : (h : Classes) (known : Known) (key : Pair) (c : ClassId) (n : ℕ) (text : Text) (name : KnownName) → key ≡ key_of c n → Some name ≡ known_name known key → name.name ≡ text → Knows h known → looked_up h c text ≡ name.looked
+name_known h known key c n text name is found named knows = subst (λ (t : Text). looked_up h c t ≡ name.looked) named (knows.names c n name (sym (found ∙ ap (known_name known) is)))

@@ -26,8 +26,8 @@ use Rattle.cxx_expression.specs.declared.typed.Receiver.{Receiver}
 use Rattle.cxx_expression.specs.declared.typed.CallValue.{CallValue}
 use Rattle.cxx_expression.specs.declared.typed.RightValue.{RightValue}
 use Rattle.cxx_expression.specs.Checked.{Checked, pure, warn, ◌>>=◌, then_typed, then_faults, with_option, both, beside, kept}
-use Rattle.cxx_expression.specs.Values.{pointer_of, class_of, conversion_of}
-use Rattle.cxx_expression.specs.Calls.{function_of, counted, target, target_of, arguments_of, parameters_in, plain_value, plain_call, defined, named_function, receiver_of, parameters_of, qualified_value, qualified_call, call_by, call_of, whole_call}
+use Rattle.cxx_expression.specs.Values.{pointer_of, class_of_spot, conversion_of}
+use Rattle.cxx_expression.specs.Calls.{function_of, counted, target, target_of, arguments_of, target_parameters, plain_value, plain_call, defined, named_function, receiver_of, found_parameters, qualified_value, qualified_call, call_by, call_of, whole_call}
 use Rattle.cxx_expression.specs.Rights.{result_value, as_result, call_right, right_of, converted, converted_value, converted_right}
 use Rattle.cxx_expression.specs.Laws.{class_asked, result_in, result_known, result_faults, ResultsAreAsked}
 
@@ -82,7 +82,7 @@ plain_known : (h : Classes) (e : Setting) (s : Scene) (at : ℕ) (call : CallTex
 unfolding plain_call target_of
 plain_known h e s at call r is =
     let t = target_of h e s at call in
-    plain_by h t.typed (arguments_of h e s at (parameters_in t.typed) 0 call.arguments).typed r (pointer_known h at (length call.arguments) call.name (pointer_of e s at call.pointer).typed r is)
+    plain_by h t.typed (arguments_of h e s at (target_parameters t.typed) 0 call.arguments).typed r (pointer_known h at (length call.arguments) call.name (pointer_of e s at call.pointer).typed r is)
 
 -- a call with one
 
@@ -102,16 +102,16 @@ qualified_by o passed r i = record {
 }
 
 class_known : (h : Classes) (e : Setting) (s : Scene) (at : ℕ) (call : CallText) (o : Option ClassId) (r : ReturnType ClassId) → result_in h at call.name o ≡ Some r →
-    Returns call_returns (then_typed o (λ k. beside (named_function h at k call) (λ f. both (receiver_of h e s at k call.pointer) (arguments_of h e s at (parameters_of f) 0 call.arguments)) >>= (λ x. pure (qualified_value x.0 x.1)))) r
+    Returns call_returns (then_typed o (λ k. beside (named_function h at k call) (λ f. both (receiver_of h e s at k call.pointer) (arguments_of h e s at (found_parameters f) 0 call.arguments)) >>= (λ x. pure (qualified_value x.0 x.1)))) r
 unfolding named_function
 class_known h e s at call None r is = absurd (cc)
 class_known h e s at call (Some k) r is =
     let f = named_function h at k call in
-    qualified_by f.typed (both (receiver_of h e s at k call.pointer) (arguments_of h e s at (parameters_of f.typed) 0 call.arguments)).typed r (named_known at call.name.at (length call.arguments) (function_of h at k call.name).typed r is)
+    qualified_by f.typed (both (receiver_of h e s at k call.pointer) (arguments_of h e s at (found_parameters f.typed) 0 call.arguments)).typed r (named_known at call.name.at (length call.arguments) (function_of h at k call.name).typed r is)
 
 qualified_known : (h : Classes) (e : Setting) (s : Scene) (at : ℕ) (call : CallText) (x : Spot) (r : ReturnType ClassId) → result_in h at call.name (class_asked h e s at call.pointer (Some x)) ≡ Some r → Returns call_returns (qualified_call h e s at call x).typed r
 unfolding qualified_call
-qualified_known h e s at call x r is = class_known h e s at call (class_of h x).typed r is
+qualified_known h e s at call x r is = class_known h e s at call (class_of_spot h x).typed r is
 
 -- a call of either kind
 

@@ -28,7 +28,7 @@ use Rattle.cxx_expression.specs.declared.typed.Receiver.{Receiver}
 use Rattle.cxx_expression.specs.declared.typed.CallValue.{CallValue}
 use Rattle.cxx_expression.specs.Checked.{Checked, pure, fail, warn, ◌>>=◌, both, beside, kept}
 use Rattle.cxx_expression.specs.Lookups.{looked_up, function_record}
-use Rattle.cxx_expression.specs.Values.{operand_of, pointer_of, class_of, path_to, converted_operand, argument}
+use Rattle.cxx_expression.specs.Values.{operand_of, pointer_of, class_of_spot, path_to, converted_operand, argument}
 
 -- the types of parameters
 abbrev pub types_of : List (Param ClassId) → List (ValueType ClassId)
@@ -94,9 +94,9 @@ arguments_of h e s at parameters n (x ∷ xs) = do
   pure (r.0 ∷ r.1)
 
 -- the types of the parameters of a function that was found
-abbrev pub parameters_in : Option Target → List (ValueType ClassId)
-parameters_in None = []
-parameters_in (Some t) = t.found.parameters
+abbrev pub target_parameters : Option Target → List (ValueType ClassId)
+target_parameters None = []
+target_parameters (Some t) = t.found.parameters
 
 -- a call in the class of the pointer: the final overrider runs where the function is virtual (ISO C++03 10.3 p6)
 abbrev pub dispatched : Target → Bool → List Argument → TypedCall
@@ -117,7 +117,7 @@ plain_value t virtual arguments = record { call = option_map (dispatched t virtu
 -- the arguments are asked also where the function is none
 unfoldable pub plain_call : Classes → Setting → Scene → ℕ → CallText → Checked CallValue
 plain_call h e s at call = do
-  r ← beside (target_of h e s at call) (λ t. arguments_of h e s at (parameters_in t) 0 call.arguments)
+  r ← beside (target_of h e s at call) (λ t. arguments_of h e s at (target_parameters t) 0 call.arguments)
   pure (plain_value r.0 (is_virtual h r.0.found.function) r.1)
 
 -- E14: a qualified call of a pure function
@@ -143,9 +143,9 @@ receiver_of h e s at k x = do
   pure (receiver p path)
 
 -- the types of the parameters of a function that was found
-abbrev pub parameters_of : Option FoundFunction → List (ValueType ClassId)
-parameters_of None = []
-parameters_of (Some f) = f.parameters
+abbrev pub found_parameters : Option FoundFunction → List (ValueType ClassId)
+found_parameters None = []
+found_parameters (Some f) = f.parameters
 
 -- a call with a class before `::`: the function itself runs (ISO C++03 10.3 p12)
 abbrev pub qualified : FoundFunction → Receiver × List Argument → TypedCall
@@ -166,8 +166,8 @@ qualified_value f passed = record { call = option_map (qualified f) passed; retu
 -- the receiver and the arguments are asked also where the function is none (ISO C++03 5.2.2 p1)
 unfoldable pub qualified_call : Classes → Setting → Scene → ℕ → CallText → Spot → Checked CallValue
 qualified_call h e s at call x = do
-  k ← class_of h x
-  r ← beside (named_function h at k call) (λ f. both (receiver_of h e s at k call.pointer) (arguments_of h e s at (parameters_of f) 0 call.arguments))
+  k ← class_of_spot h x
+  r ← beside (named_function h at k call) (λ f. both (receiver_of h e s at k call.pointer) (arguments_of h e s at (found_parameters f) 0 call.arguments))
   pure (qualified_value r.0 r.1)
 
 -- a call with a class before `::`, or without one

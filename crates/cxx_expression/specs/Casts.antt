@@ -23,7 +23,7 @@ use Rattle.cxx_expression.specs.declared.typed.Pointer.{Pointer}
 use Rattle.cxx_expression.specs.declared.typed.RightValue.{RightValue}
 use Rattle.cxx_expression.specs.Checked.{Checked, pure, fail, ◌>>=◌, both}
 use Rattle.cxx_expression.specs.Lookups.{base_up, is_polymorphic}
-use Rattle.cxx_expression.specs.Values.{class_of, pointer_of}
+use Rattle.cxx_expression.specs.Values.{class_of_spot, pointer_of}
 use Rattle.cxx_expression.specs.Operators.{right_value, truth_value}
 
 -- E17: down along a virtual base
@@ -66,7 +66,7 @@ cast_of h at kind.Dynamic c d = dynamic_cast h at c d
 -- E3: the source does not define the target's class
 unfoldable pub cast_right : Classes → Setting → Scene → ℕ → CastText → Checked RightValue
 cast_right h e s at text = do
-  p ← both (class_of h text.target) (pointer_of e s at text.pointer)
+  p ← both (class_of_spot h text.target) (pointer_of e s at text.pointer)
   c ← cast_of h at text.kind p.1.class p.0
   pure (right_value (typed.Cast c p.1.operand) (type.Pointer p.0) false)
 
@@ -80,5 +80,5 @@ polymorphic_pointer h e s at x = do
 -- `typeid(*pointer) == typeid(class)`
 unfoldable pub type_right : Classes → Setting → Scene → ℕ → PointerText → Spot → Checked RightValue
 type_right h e s at x name = do
-  p ← both (polymorphic_pointer h e s at x) (class_of h name)
+  p ← both (polymorphic_pointer h e s at x) (class_of_spot h name)
   pure (truth_value (typed.TypeEqual p.0.operand p.1))

@@ -20,7 +20,7 @@ use Rattle.cxx_expression.specs.declared.scene.Setting.{Setting}
 use Rattle.cxx_expression.specs.declared.typed.Pointer.{Pointer}
 use Rattle.cxx_expression.specs.declared.typed.FoundFunction.{FoundFunction}
 use Rattle.cxx_expression.specs.Checked.{Checked, noted}
-use Rattle.cxx_expression.specs.Values.{class_named, class_of, type_of, variable_of, operand_of, pointer_of, number_of, class_conversion, conversion_of, converted_operand}
+use Rattle.cxx_expression.specs.Values.{class_named, class_of_spot, type_of, variable_of, operand_of, pointer_of, number_operand, class_conversion, conversion_of, converted_operand}
 use Rattle.cxx_expression.specs.Places.{leaf_of}
 use Rattle.cxx_expression.specs.Calls.{function_of, whole_call}
 use Rattle.cxx_expression.specs.Casts.{polymorphic_pointer}
@@ -34,12 +34,12 @@ pub record IsComplete {X : Type 0} (p : Checked X) : Type 0 where
 -- each piece of a statement is refused, or typed
 pub record PiecesAreComplete : Type 0 where
   pub class_named : (h : Classes) (name : Text) (at : ℕ) → IsComplete (class_named h name at)
-  pub class_of : (h : Classes) (x : Spot) → IsComplete (class_of h x)
+  pub class_of : (h : Classes) (x : Spot) → IsComplete (class_of_spot h x)
   pub type_of : (h : Classes) (ty : ValueType Text) (at : ℕ) → IsComplete (type_of h ty at)
   pub variable : (e : Setting) (s : Scene) (x : Spot) → IsComplete (variable_of e s x)
   pub operand : (e : Setting) (s : Scene) (at : ℕ) (x : Operand) → IsComplete (operand_of e s at x)
   pub pointer : (e : Setting) (s : Scene) (at : ℕ) (x : PointerText) → IsComplete (pointer_of e s at x)
-  pub number : (e : Setting) (s : Scene) (at : ℕ) (x : Operand) → IsComplete (number_of e s at x)
+  pub number : (e : Setting) (s : Scene) (at : ℕ) (x : Operand) → IsComplete (number_operand e s at x)
   pub class_conversion : (h : Classes) (at : ℕ) (c d : ClassId) → IsComplete (class_conversion h at c d)
   pub conversion : (h : Classes) (at : ℕ) (t : ValueType ClassId) (is_null : Bool) (u : ValueType ClassId) → IsComplete (conversion_of h at t is_null u)
   pub converted_operand : (h : Classes) (e : Setting) (s : Scene) (at : ℕ) (t : ValueType ClassId) (x : Operand) → IsComplete (converted_operand h e s at t x)
@@ -52,7 +52,7 @@ pub record PiecesAreComplete : Type 0 where
 -- the class in which a call looks its function up: the one before `::`, or else that of the pointer
 abbrev pub class_asked : Classes → Setting → Scene → ℕ → PointerText → Option Spot → Option ClassId
 class_asked h e s at pointer None = option_map (λ (p : Pointer). p.class) (pointer_of e s at pointer).typed
-class_asked h e s at pointer (Some x) = (class_of h x).typed
+class_asked h e s at pointer (Some x) = (class_of_spot h x).typed
 
 -- what the function of a name in a class returns
 abbrev pub result_in : Classes → ℕ → Spot → Option ClassId → Option (ReturnType ClassId)

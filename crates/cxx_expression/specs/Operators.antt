@@ -25,7 +25,7 @@ use Rattle.cxx_expression.specs.declared.scene.Setting.{Setting}
 use Rattle.cxx_expression.specs.declared.typed.RightValue.{RightValue}
 use Rattle.cxx_expression.specs.Checked.{Checked, pure, fail, ◌>>=◌, both}
 use Rattle.cxx_expression.specs.Lookups.{base_up}
-use Rattle.cxx_expression.specs.Values.{operand_of, number_of, argument}
+use Rattle.cxx_expression.specs.Values.{operand_of, number_operand, argument}
 
 -- a right side with its type
 abbrev pub right_value : TypedRight → ValueType ClassId → Bool → RightValue
@@ -53,7 +53,7 @@ calculated op a s b t = right_value (typed.Arithmetic op (common_type s t) a b) 
 -- E19: an arithmetic operator or `<` on a pointer
 unfoldable pub arithmetic_right : Setting → Scene → ℕ → Arithmetic → Operand → Operand → Checked RightValue
 arithmetic_right e s at op x y = do
-  p ← both (number_of e s at x) (number_of e s at y)
+  p ← both (number_operand e s at x) (number_operand e s at y)
   pure (calculated op p.0.operand p.0.scalar p.1.operand p.1.scalar)
 
 -- a comparison of two pointers, each with its conversion
@@ -121,5 +121,5 @@ binary_right h e s at x binary.NotEqual y = equal_right h e s at true x y
 -- `!` of a number (ISO C++03 5.3.1 p8)
 unfoldable pub not_right : Setting → Scene → ℕ → Operand → Checked RightValue
 not_right e s at x = do
-  v ← number_of e s at x
+  v ← number_operand e s at x
   pure (truth_value (typed.Not v.operand))

@@ -55,11 +55,11 @@ member_of h at c x = as_member h at x.at (looked_up h c x.name)
 
 -- E19: an array without an index, or an index on none; E20: an index that is not below the length, at the number, and
 -- what follows is asked all the same
-unfoldable pub index_of : ℕ → Option ℕ → Option (ℕ × ℕ) → Checked ℕ
-index_of at None None = pure 0
-index_of at None (Some index) = fail rule.TypeMismatch at
-index_of at (Some count) None = fail rule.TypeMismatch at
-index_of at (Some count) (Some index) = if nat_lt index.0 count then pure index.0 else warn rule.Index index.1 0
+unfoldable pub checked_index : ℕ → Option ℕ → Option (ℕ × ℕ) → Checked ℕ
+checked_index at None None = pure 0
+checked_index at None (Some index) = fail rule.TypeMismatch at
+checked_index at (Some count) None = fail rule.TypeMismatch at
+checked_index at (Some count) (Some index) = if nat_lt index.0 count then pure index.0 else warn rule.Index index.1 0
 
 -- E19: what follows a member that is no object
 unfoldable pub object_of : ℕ → FieldType ClassId → Checked ClassId
@@ -74,7 +74,7 @@ place_step found index = record { base = found.base; member = found.number; inde
 unfoldable pub step_of : Classes → ℕ → ClassId → PlacePart → Checked PlaceStep
 step_of h at c part = do
   found ← member_of h at c part.name
-  index ← index_of at found.count part.index
+  index ← checked_index at found.count part.index
   pure (place_step found index)
 
 -- the object of the class that a step leads to

@@ -23,7 +23,7 @@ use Rattle.cxx_expression.specs.declared.scene.Scene.{Scene}
 use Rattle.cxx_expression.specs.declared.scene.Setting.{Setting}
 use Rattle.cxx_expression.specs.declared.typed.RightValue.{RightValue}
 use Rattle.cxx_expression.specs.Checked.{Checked, pure, fail, ◌>>=◌, kept}
-use Rattle.cxx_expression.specs.Values.{operand_of, class_of, conversion_of}
+use Rattle.cxx_expression.specs.Values.{operand_of, class_of_spot, conversion_of}
 use Rattle.cxx_expression.specs.Places.{leaf_of, object_place_of}
 use Rattle.cxx_expression.specs.Calls.{call_of}
 use Rattle.cxx_expression.specs.Operators.{right_value, binary_right, not_right}
@@ -69,7 +69,7 @@ made at is_pure c = if is_pure then fail rule.Abstract at else pure (right_value
 -- a new object (ISO C++03 5.3.4)
 unfoldable pub new_right : Classes → Spot → Checked RightValue
 new_right h x = do
-  c ← class_of h x
+  c ← class_of_spot h x
   made x.at (is_abstract h c) c
 
 -- the type of a right side, where it is known, and the right side, where all of it is typed

@@ -10,16 +10,16 @@ use Rattle.cxx_expression.specs.declared.scene.Entry.{Entry}
 use Rattle.cxx_expression.specs.declared.scene.Scene.{Scene}
 
 -- the innermost variable of a name
-abbrev pub last_of : List Entry → Text → Option Entry
-last_of entries name = find (λ (entry : Entry). bytes_eq entry.name name) (reverse entries)
+abbrev pub innermost_entry : List Entry → Text → Option Entry
+innermost_entry entries name = find (λ (entry : Entry). bytes_eq entry.name name) (reverse entries)
 
 -- the innermost scope has the name
 abbrev pub is_taken : Scene → Text → Bool
 is_taken s name = list_any (λ (entry : Entry). bytes_eq entry.name name) (drop s.start s.entries)
 
 -- one more variable in the innermost scope
-abbrev pub declared : Scene → Text → ValueType ClassId → Scene
-declared s name ty = record {
+abbrev pub with_variable : Scene → Text → ValueType ClassId → Scene
+with_variable s name ty = record {
   entries = s.entries ++ (record { name = name; number = length s.types; ty = ty }) ∷ [];
   start = s.start;
   types = s.types ++ ty ∷ [];

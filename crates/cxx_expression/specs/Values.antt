@@ -32,7 +32,7 @@ use Rattle.cxx_expression.specs.declared.typed.Pointer.{Pointer}
 use Rattle.cxx_expression.specs.declared.typed.Number.{Number}
 use Rattle.cxx_expression.specs.Checked.{Checked, pure, fail, ◌>>=◌}
 use Rattle.cxx_expression.specs.Lookups.{find_class, base_up}
-use Rattle.cxx_expression.specs.Scenes.{last_of}
+use Rattle.cxx_expression.specs.Scenes.{innermost_entry}
 
 -- E3: the source defines no class of the name
 abbrev pub as_class : ℕ → Option ClassId → Checked ClassId
@@ -44,8 +44,8 @@ unfoldable pub class_named : Classes → Text → ℕ → Checked ClassId
 class_named h name at = as_class at (find_class h name)
 
 -- the class of a name and its place
-unfoldable pub class_of : Classes → Spot → Checked ClassId
-class_of h x = class_named h x.name x.at
+unfoldable pub class_of_spot : Classes → Spot → Checked ClassId
+class_of_spot h x = class_named h x.name x.at
 
 -- the type of a declaration, whose first token stands at the place
 unfoldable pub type_of : Classes → ValueType Text → ℕ → Checked (ValueType ClassId)
@@ -59,18 +59,18 @@ abbrev pub value : TypedOperand → ValueType ClassId → Bool → Value
 value operand ty is_null = record { operand = operand; ty = ty; is_null = is_null }
 
 -- E22: no variable of the name is in scope
-abbrev pub global_of : ℕ → Option Entry → Checked (Variable × ValueType ClassId)
-global_of at None = fail rule.UnknownName at
-global_of at (Some entry) = pure (Global entry.number, entry.ty)
+abbrev pub named_global : ℕ → Option Entry → Checked (Variable × ValueType ClassId)
+named_global at None = fail rule.UnknownName at
+named_global at (Some entry) = pure (Global entry.number, entry.ty)
 
 -- a local of the name, or else a global
 abbrev pub local_of : Setting → Spot → Option Entry → Checked (Variable × ValueType ClassId)
-local_of e x None = global_of x.at (last_of e.globals x.name)
+local_of e x None = named_global x.at (innermost_entry e.globals x.name)
 local_of e x (Some entry) = pure (Local entry.number, entry.ty)
 
 -- the variable that a name means, and its type (ISO C++03 3.4.1)
 unfoldable pub variable_of : Setting → Scene → Spot → Checked (Variable × ValueType ClassId)
-variable_of e s x = local_of e x (last_of s.entries x.name)
+variable_of e s x = local_of e x (innermost_entry s.entries x.name)
 
 -- the value of the variable of a name
 unfoldable pub named_value : Setting → Scene → Spot → Checked Value
@@ -79,9 +79,9 @@ named_value e s x = do
   pure (value (typed.Variable v.0) v.1 false)
 
 -- E19: `this` in main (ISO C++03 9.3.2)
-abbrev pub this_of : ℕ → Option ClassId → Checked Value
-this_of at None = fail rule.TypeMismatch at
-this_of at (Some c) = pure (value typed.This (type.Pointer c) false)
+abbrev pub this_pointer_value : ℕ → Option ClassId → Checked Value
+this_pointer_value at None = fail rule.TypeMismatch at
+this_pointer_value at (Some c) = pure (value typed.This (type.Pointer c) false)
 
 -- a source has no number above 2^63 - 1
 abbrev pub within_long : ℕ → ℕ
@@ -105,13 +105,13 @@ constant_of (constant.Truth b at) = value (typed.Number (truth b)) (type.Number 
 -- the value of an operand
 unfoldable pub operand_of : Setting → Scene → ℕ → Operand → Checked Value
 operand_of e s at (operand.Name x) = named_value e s x
-operand_of e s at (operand.This place) = this_of at e.this_class
+operand_of e s at (operand.This place) = this_pointer_value at e.this_class
 operand_of e s at (operand.Constant c) = pure (constant_of c)
 
 -- the value of what stands before `->`
 unfoldable pub pointer_value : Setting → Scene → ℕ → PointerText → Checked Value
 pointer_value e s at (pointer.Name x) = named_value e s x
-pointer_value e s at (pointer.This place) = this_of at e.this_class
+pointer_value e s at (pointer.This place) = this_pointer_value at e.this_class
 
 -- E19: a number where a pointer is needed
 abbrev pub as_pointer : ℕ → TypedOperand → ValueType ClassId → Checked Pointer
@@ -130,8 +130,8 @@ as_number at v (type.Number t) = pure (record { operand = v; scalar = t })
 as_number at v (type.Pointer c) = fail rule.TypeMismatch at
 
 -- an operand that must be a number
-unfoldable pub number_of : Setting → Scene → ℕ → Operand → Checked Number
-number_of e s at x = do
+unfoldable pub number_operand : Setting → Scene → ℕ → Operand → Checked Number
+number_operand e s at x = do
   v ← operand_of e s at x
   as_number at v.operand v.ty
 

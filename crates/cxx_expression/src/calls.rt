@@ -7,7 +7,7 @@ ghost use Rattle.cxx_subobject.specs.Subobjects.{class_of as class_of_subobject}
 ghost use Rattle.cxx_overrider.specs.Overriders.{AreOverriders};
 ghost use Rattle.cxx_overrider.specs.Virtuals.{function_at, is_virtual};
 ghost use Rattle.cxx_expression.specs.Checked.{Answers};
-ghost use Rattle.cxx_expression.specs.Calls.{types_of, function_in, function_of, target_of, parameters_in, plain_value, plain_call, call_of, whole_call};
+ghost use Rattle.cxx_expression.specs.Calls.{types_of, function_in, function_of, target_of, target_parameters, plain_value, plain_call, call_of, whole_call};
 ghost use Rattle.cxx_expression.specs.invariants.Known.{Knows};
 
 use crate::arguments::arguments_of;
@@ -120,7 +120,7 @@ fn target_of(
 
 /// The types of the parameters of a call's function.
 fn parameters_in(target: &Option<Target>) -> &[ValueType<ClassId>]
-    ensures { result.now ≡ parameters_in target.now }
+    ensures { result.now ≡ target_parameters target.now }
 {
     match target {
         None => &[],

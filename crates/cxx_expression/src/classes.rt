@@ -3,7 +3,7 @@
 ghost use Rattle.std.specs.Prelude.{◌≡◌};
 ghost use Rattle.cxx_expression.specs.Checked.{Answers};
 ghost use Rattle.cxx_expression.specs.Lookups.{find_class};
-ghost use Rattle.cxx_expression.specs.Values.{class_named, class_of, type_of};
+ghost use Rattle.cxx_expression.specs.Values.{class_named, class_of_spot, type_of};
 
 use crate::faults::{FaultList, refuse};
 use cxx_hierarchy::{ClassId, Hierarchy, Name, Rule, ValueType};
@@ -36,13 +36,13 @@ pub fn class_named(
 }
 
 /// The class of a name. Faults: E3.
-#[tactic(auto, unfolding(crate::specs::Values::class_of))]
+#[tactic(auto, unfolding(crate::specs::Values::class_of_spot))]
 pub fn class_of(
     h: &Hierarchy,
     faults: &mut FaultList,
     x: &Spot,
 ) -> Result<Option<ClassId>, NoMemory>
-    ensures { Answers result faults.old faults.new (class_of h.now x.now) }
+    ensures { Answers result faults.old faults.new (class_of_spot h.now x.now) }
 {
     class_named(h, faults, &x.name, x.at)
 }

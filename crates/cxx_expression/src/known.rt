@@ -4,7 +4,7 @@ ghost use Rattle.std.specs.Prelude.{◌≡◌, Some, if◌then◌else◌, nat_eq
 ghost use Rattle.std.specs.Option.{option_copied};
 ghost use Rattle.cxx_hierarchy.specs.Classes.{Classes};
 ghost use Rattle.cxx_expression.specs.Lookups.{looked_up, base_up, is_polymorphic};
-ghost use Rattle.cxx_expression.specs.invariants.Known.{Knows, key_of, same_pair, name_at, base_at, polymorphic_at};
+ghost use Rattle.cxx_expression.specs.invariants.Known.{Knows, key_of, same_pair, known_name, base_at, polymorphic_at};
 ghost use Rattle.cxx_expression.specs.declared.known.Pair.{Pair};
 
 use crate::look_up::{Based, Looked};
@@ -64,14 +64,14 @@ impl Known {
 
     /// The name under a key.
     fn name_at(&self, key: Pair) -> Option<&KnownName>
-        ensures { option_copied result ≡ name_at self.now key }
+        ensures { option_copied result ≡ known_name self.now key }
     {
         self.names.get(&key)
     }
 
     /// Puts a name under a key.
     fn put_name(&mut self, key: Pair, name: KnownName) -> Result<(), NoMemory>
-        ensures put { OnOk result ((q : Pair) → name_at self.new q ≡ (if same_pair key q then Some name else name_at self.old q)) }
+        ensures put { OnOk result ((q : Pair) → known_name self.new q ≡ (if same_pair key q then Some name else known_name self.old q)) }
         ensures bases { self.new.bases ≡ self.old.bases }
         ensures polymorphic { self.new.polymorphic ≡ self.old.polymorphic }
     {

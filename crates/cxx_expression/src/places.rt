@@ -4,7 +4,7 @@ ghost use Rattle.std.specs.Prelude.{◌≡◌, OnOk, IfOk};
 ghost use Rattle.cxx_subobject.specs.Subobjects.{class_of};
 ghost use Rattle.cxx_program.specs.Typed.{place_width};
 ghost use Rattle.cxx_expression.specs.Checked.{Answers};
-ghost use Rattle.cxx_expression.specs.Places.{member_in, member_of, index_of, object_of, step_of, further, begun, steps_of, with_last, place_of, leaf_of, object_place_of};
+ghost use Rattle.cxx_expression.specs.Places.{member_in, member_of, checked_index, object_of, step_of, further, begun, steps_of, with_last, place_of, leaf_of, object_place_of};
 ghost use Rattle.cxx_expression.specs.invariants.Known.{Knows};
 
 use crate::copies::copy_field;
@@ -68,14 +68,14 @@ fn member_of(
 }
 
 /// The index of an element of an array of a length.
-#[tactic(auto, unfolding(crate::specs::Places::index_of))]
+#[tactic(auto, unfolding(crate::specs::Places::checked_index))]
 fn index_of(
     at: u32,
     faults: &mut FaultList,
     count: Option<u32>,
     index: Option<(u64, u32)>,
 ) -> Result<Option<u32>, NoMemory>
-    ensures { Answers result faults.old faults.new (index_of at count index) }
+    ensures { Answers result faults.old faults.new (checked_index at count index) }
 {
     match (count, index) {
         (None, None) => Ok(Some(0)),

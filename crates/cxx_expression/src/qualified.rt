@@ -2,7 +2,7 @@
 
 ghost use Rattle.std.specs.Prelude.{◌≡◌, OnOk};
 ghost use Rattle.cxx_expression.specs.Checked.{Answers, pair_of};
-ghost use Rattle.cxx_expression.specs.Calls.{named_function, receiver_of, parameters_of, qualified_value, qualified_call};
+ghost use Rattle.cxx_expression.specs.Calls.{named_function, receiver_of, found_parameters, qualified_value, qualified_call};
 ghost use Rattle.cxx_expression.specs.invariants.Known.{Knows};
 
 use crate::arguments::arguments_of;
@@ -68,7 +68,7 @@ fn receiver_of(
 
 /// The types of the parameters of a function.
 fn parameters_of(found: &Option<FoundFunction>) -> &[ValueType<ClassId>]
-    ensures { result.now ≡ parameters_of found.now }
+    ensures { result.now ≡ found_parameters found.now }
 {
     match found {
         None => &[],

@@ -2,7 +2,7 @@
 
 ghost use Rattle.std.specs.Prelude.{◌≡◌, ◌<◌, ◌+◌, ◌^◌, OnOk};
 ghost use Rattle.std.specs.Option.{option_copied};
-ghost use Rattle.cxx_expression.specs.Scenes.{last_of, is_taken, declared};
+ghost use Rattle.cxx_expression.specs.Scenes.{innermost_entry, is_taken, with_variable};
 
 use crate::copies::copy_type;
 use cxx_hierarchy::{ClassId, Name, ValueType};
@@ -49,7 +49,7 @@ pub struct Scene {
 
 /// The innermost variable of a name.
 pub(crate) fn last_of<'a>(entries: &'a [Entry], name: &[u8]) -> Option<&'a Entry>
-    ensures { option_copied result ≡ last_of entries.now name.now }
+    ensures { option_copied result ≡ innermost_entry entries.now name.now }
 {
     entries
         .iter()
@@ -79,7 +79,7 @@ impl Scene {
         ty: &ValueType<ClassId>,
     ) -> Result<(), NoMemory>
         requires { self.old.declared + 1 < 2 ^ 32 }
-        ensures { OnOk result (self.new ≡ declared self.old name.now ty.now) }
+        ensures { OnOk result (self.new ≡ with_variable self.old name.now ty.now) }
     {
         let number = self.types.len();
         let name = Sequence::from_vec(Vec::from_slice(alloc, name.as_slice())?);

@@ -2,7 +2,7 @@
 
 ghost use Rattle.std.specs.Prelude.{◌≡◌};
 ghost use Rattle.cxx_expression.specs.Checked.{Answers};
-ghost use Rattle.cxx_expression.specs.Values.{variable_of, named_value, this_of, within_long, spelled, truth, constant_of, operand_of, pointer_value, as_pointer, as_number, pointer_of, number_of};
+ghost use Rattle.cxx_expression.specs.Values.{variable_of, named_value, this_pointer_value, within_long, spelled, truth, constant_of, operand_of, pointer_value, as_pointer, as_number, pointer_of, number_operand};
 
 use crate::copies::copy_type;
 use crate::faults::{FaultList, refuse};
@@ -58,7 +58,7 @@ fn named_value(site: &Site, faults: &mut FaultList, x: &Spot) -> Answer<Value>
 
 /// `this`, of the class, where there is one.
 fn this_of(at: u32, faults: &mut FaultList, class: Option<ClassId>) -> Answer<Value>
-    ensures { Answers result faults.old faults.new (this_of at class) }
+    ensures { Answers result faults.old faults.new (this_pointer_value at class) }
 {
     let Some(class) = class else {
         return refuse(faults, Rule::TypeMismatch, at);
@@ -175,9 +175,9 @@ fn as_number(at: u32, faults: &mut FaultList, value: &Value) -> Answer<Number>
 }
 
 /// An operand that must be a number; `at` is the place of the statement's first token. Faults: E22, E19.
-#[tactic(auto, unfolding(crate::specs::Values::number_of))]
+#[tactic(auto, unfolding(crate::specs::Values::number_operand))]
 pub fn number_of(site: &Site, faults: &mut FaultList, operand: &Operand) -> Answer<Number>
-    ensures { Answers result faults.old faults.new (number_of site.now.setting.now site.now.scene.now site.now.at operand.now) }
+    ensures { Answers result faults.old faults.new (number_operand site.now.setting.now site.now.scene.now site.now.at operand.now) }
 {
     let Some(value) = operand_of(site, faults, operand)? else {
         return Ok(None);

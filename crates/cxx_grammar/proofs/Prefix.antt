@@ -11,7 +11,7 @@ use Rattle.cxx_grammar.specs.Grammar.{NonTerminal, AnyName, Symbol, tok, part, g
 use Rattle.cxx_grammar.specs.Table.{Written, Read, Task, Only, AName, ANumber, AConstant, AnOperand, APointer, UnsignedName, LongName, AParam, RightEnd, ReadPlaceEnd, AfterOperand, AfterPointer, Member, Named, Tail, ArgumentsEnd, MoreArgumentsEnd, InitEnd, ResultEnd, AfterName, PrintEnd, ABlock, StatementsEnd, ElseEnd, BaseAfterVirtual, BaseAfterAccess, ABase, BasesEnd, ClassTail, FieldEnd, ParamsEnd, MoreParamsEnd, AfterDeclared, AfterScalar, AfterType, AfterOwnName, AnInit, ConstructorEnd, InitsEnd, AfterVirtual, VirtualEnd, PartsEnd, AfterInt, ItemsEnd, after, Line, lines, look_up}
 use Rattle.cxx_grammar.specs.Event.{State, admit, passes, and_then, refusal, excess, sorts, Event, DerivesPrefix}
 use Rattle.cxx_grammar.specs.Event as events
-use Rattle.cxx_grammar.specs.invariants.Run.{Outcome, admits, go_on, run, Done, Stopped, Stops, Leads, Follows}
+use Rattle.cxx_grammar.specs.invariants.Run.{Outcome, admits, go_on, run, Done, Stopped, Stops, TasksLead, Follows}
 use Rattle.cxx_grammar.proofs.Sorts.{is_same_eq, is_same_refl}
 use Rattle.cxx_grammar.proofs.Engine.{In-left}
 use Rattle.cxx_grammar.proofs.Link.{Spells, reads_some, after_complete, after_sound, forms}
@@ -369,7 +369,7 @@ prefix_where m f ts rest st p i h =
     let e : sorts r.0 ++ [] ≡ sorts r.0 = grind (arith, common_steps) in
     record { prefix = r.0; after = r.1; split = r.2; derives = spells_form m f (sorts r.0) i (subst (Spells (m ∷ [])) e s); admitted = r.4 }
 
-prefix_of : (m : Task) (f : List Symbol) (ts rest : List Lexeme) (st st' : State) → plain (m ∷ []) ≡ true → forms (m ∷ []) ≡ f ∷ [] → Leads st (m ∷ []) ts st' [] rest → DerivesPrefix f st ts rest
+prefix_of : (m : Task) (f : List Symbol) (ts rest : List Lexeme) (st st' : State) → plain (m ∷ []) ≡ true → forms (m ∷ []) ≡ f ∷ [] → TasksLead st (m ∷ []) ts st' [] rest → DerivesPrefix f st ts rest
 prefix_of m f ts rest st st' p i h = prefix_where m f ts rest st p i (h [] ∙ run_done rest st')
 
 -- what reading by the table comes to, by the grammar
@@ -404,13 +404,13 @@ block_either st ts z = on (run ts st (ABlock ∷ [])) refl where
   on (Done rest) h = inl (rest, block_prefix st ts rest h)
   on (Stopped e) h = inr (e, block_event st ts e z h)
 
-pub block_front : (st : State) (ts rest : List Lexeme) → Leads st (ABlock ∷ []) ts st [] rest → DerivesPrefix block_form st ts rest
+pub block_front : (st : State) (ts rest : List Lexeme) → TasksLead st (ABlock ∷ []) ts st [] rest → DerivesPrefix block_form st ts rest
 block_front st ts rest h = prefix_of ABlock block_form ts rest st st refl refl h
 
 pub block_stop : (st : State) (ts : List Lexeme) (e : Stop) → In Bad (sorts ts) → Stops st (ABlock ∷ []) ts e → (e ≡ stop.NoMemory) ⊎ Event block_form st ts e
 block_stop st ts e z h = stopped ABlock block_form ts st e refl refl refl z h
 
-pub source_front : (st st' : State) (ts rest : List Lexeme) → Leads st (ItemsEnd ∷ []) ts st' [] rest → DerivesPrefix source_form st ts rest
+pub source_front : (st st' : State) (ts rest : List Lexeme) → TasksLead st (ItemsEnd ∷ []) ts st' [] rest → DerivesPrefix source_form st ts rest
 source_front st st' ts rest h = prefix_of ItemsEnd source_form ts rest st st' refl refl h
 
 pub source_stop : (st : State) (ts : List Lexeme) (e : Stop) → In Bad (sorts ts) → Stops st (ItemsEnd ∷ []) ts e → (e ≡ stop.NoMemory) ⊎ Event source_form st ts e

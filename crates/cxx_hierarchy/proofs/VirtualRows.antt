@@ -12,7 +12,7 @@ use Rattle.cxx_hierarchy.specs.declared.records.Base.{Base}
 use Rattle.cxx_hierarchy.specs.Classes.{Class, Classes, class_at, bases_in, bases_of}
 use Rattle.cxx_hierarchy.specs.Hierarchies.{IsHierarchy}
 use Rattle.cxx_hierarchy.specs.VirtualBases.{IsDirectBase, HasVirtualBase, direct, further, IsPublicBase, HasPublicVirtualBase, public_direct, public_further}
-use Rattle.cxx_hierarchy.specs.invariants.VirtualRows.{Row, mark, is_open, gives, HaveSizes, AreRows, AreTables}
+use Rattle.cxx_hierarchy.specs.invariants.VirtualRows.{Row, mark, is_open, gives, HaveSizes, AreRows, AreVirtualRows}
 use Rattle.cxx_hierarchy.proofs.Places.{split}
 
 any_same : {X : Type 0} (f g : X → Bool) (xs : List X) → ((k : ℕ) (x : X) → slice_get xs k ≡ Some x → f x ≡ g x) → list_any f xs ≡ list_any g xs

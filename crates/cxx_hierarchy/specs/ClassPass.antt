@@ -175,5 +175,5 @@ pub record IsInOrder (definition : Record) : Type 0 where
   pub destructors : has_kind is_destructor definition.order ≡ not (is_implicit definition.destructor)
 
 -- no fault, or a stop at the first of them
-abbrev pub Answers : {A : Type 0} → List Stop → Result A Stop → Type 0
-Answers faults result = MatchResult result (λ _. faults ≡ []) (StopsAt faults)
+abbrev pub StopsAtFirst : {A : Type 0} → List Stop → Result A Stop → Type 0
+StopsAtFirst faults result = MatchResult result (λ _. faults ≡ []) (StopsAt faults)

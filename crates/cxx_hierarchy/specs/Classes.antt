@@ -71,6 +71,6 @@ abbrev pub class_names : Classes → List (List ℕ)
 class_names h = map (λ class. class.name) h
 
 -- the class of the name, or none where no class has it
-abbrev pub IsFound : Classes → List ℕ → Option ClassId → Type 0
-IsFound h name None = Contains (class_names h) name → ⊥
-IsFound h name (Some c) = slice_get (class_names h) c.0 ≡ Some name
+abbrev pub IsClassNamed : Classes → List ℕ → Option ClassId → Type 0
+IsClassNamed h name None = Contains (class_names h) name → ⊥
+IsClassNamed h name (Some c) = slice_get (class_names h) c.0 ≡ Some name

@@ -26,5 +26,5 @@ abbrev pub is_in : List Text → Text → Bool
 is_in names name = is_some (place_in names name)
 
 -- the table has these names, and no other
-pub record Holds (table : NameTable) (names : List Text) : Type 0 where
+pub record HoldsNames (table : NameTable) (names : List Text) : Type 0 where
   pub has : (name : Text) → is_some (number_in table name) ≡ is_in names name

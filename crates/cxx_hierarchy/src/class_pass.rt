@@ -8,8 +8,8 @@ ghost use Rattle.cxx_hierarchy.specs.declared.records.PartAt.{PartAt};
 ghost use Rattle.cxx_hierarchy.specs.declared.records.FieldType.TheVariants.{Value as ValueField};
 ghost use Rattle.cxx_hierarchy.specs.declared.stop.Stop.{Stop};
 ghost use Rattle.cxx_hierarchy.specs.declared.stop.Rule.{Rule};
-ghost use Rattle.cxx_hierarchy.specs.NameTables.{Numbers, Holds, is_in};
-ghost use Rattle.cxx_hierarchy.specs.ClassPass.{fault_if, known_faults, complete_faults, value_faults, field_faults, return_faults, base_faults, param_faults, member_faults, function_faults, part_faults, content_faults, class_faults, faults_of, in_turn, is_bad_count, most_width, is_bad_width, is_repeat, is_second, part_name, names_of, names_taken, Answers, IsInOrder};
+ghost use Rattle.cxx_hierarchy.specs.NameTables.{Numbers, HoldsNames, is_in};
+ghost use Rattle.cxx_hierarchy.specs.ClassPass.{fault_if, known_faults, complete_faults, value_faults, field_faults, return_faults, base_faults, param_faults, member_faults, function_faults, part_faults, content_faults, class_faults, faults_of, in_turn, is_bad_count, most_width, is_bad_width, is_repeat, is_second, part_name, names_of, names_taken, StopsAtFirst, IsInOrder};
 ghost use Rattle.cxx_hierarchy.specs.Orders.{has_kind, is_constructor, is_destructor};
 ghost use Rattle.cxx_hierarchy.specs.Scalars.{most_bits};
 
@@ -46,7 +46,7 @@ pub(crate) struct Scope<'a> {
 }
 
 fn stop_if(condition: bool, stop: Stop) -> Result<(), Stop>
-    ensures { Answers (fault_if condition stop) result }
+    ensures { StopsAtFirst (fault_if condition stop) result }
 {
     if condition { Err(stop) } else { Ok(()) }
 }
@@ -72,7 +72,7 @@ fn is_complete(scope: &Scope, class: &Name) -> bool
 
 fn check_known(scope: &Scope, at: u32, class: &Name) -> Result<(), Stop>
     requires { Numbers scope.now.table.now (names_of scope.now.records.now) }
-    ensures { Answers (known_faults (names_of scope.now.records.now) at class.now) result }
+    ensures { StopsAtFirst (known_faults (names_of scope.now.records.now) at class.now) result }
 {
     stop_if(
         !is_known(scope, class),
@@ -82,7 +82,7 @@ fn check_known(scope: &Scope, at: u32, class: &Name) -> Result<(), Stop>
 
 fn check_complete(scope: &Scope, at: u32, class: &Name) -> Result<(), Stop>
     requires { Numbers scope.now.table.now (names_of scope.now.records.now) }
-    ensures { Answers (complete_faults (names_of scope.now.records.now) (names_of (take scope.now.earlier scope.now.records.now)) at class.now) result }
+    ensures { StopsAtFirst (complete_faults (names_of scope.now.records.now) (names_of (take scope.now.earlier scope.now.records.now)) at class.now) result }
 {
     check_known(scope, at, class)?;
     stop_if(
@@ -101,7 +101,7 @@ fn is_base(before: &[Base<Name>], class: &Name) -> bool
 
 fn check_base(scope: &Scope, before: &[Base<Name>], base: &Base<Name>) -> Result<(), Stop>
     requires { Numbers scope.now.table.now (names_of scope.now.records.now) }
-    ensures { Answers (base_faults (names_of scope.now.records.now) (names_of (take scope.now.earlier scope.now.records.now)) before.now base.now) result }
+    ensures { StopsAtFirst (base_faults (names_of scope.now.records.now) (names_of (take scope.now.earlier scope.now.records.now)) before.now base.now) result }
 {
     stop_if(before.len() >= MOST_BASES, Stop::Limit(LimitNo::L3))?;
     check_complete(scope, base.at, &base.class)?;
@@ -113,7 +113,7 @@ fn check_base(scope: &Scope, before: &[Base<Name>], base: &Base<Name>) -> Result
 
 fn check_bases(scope: &Scope, bases: &[Base<Name>]) -> Result<(), Stop>
     requires { Numbers scope.now.table.now (names_of scope.now.records.now) }
-    ensures { Answers (in_turn (base_faults (names_of scope.now.records.now) (names_of (take scope.now.earlier scope.now.records.now))) [] bases.now) result }
+    ensures { StopsAtFirst (in_turn (base_faults (names_of scope.now.records.now) (names_of (take scope.now.earlier scope.now.records.now))) [] bases.now) result }
 {
     for (number, base) in bases.iter().enumerate() {
         check_base(scope, &bases[..number], base)?;
@@ -123,7 +123,7 @@ fn check_bases(scope: &Scope, bases: &[Base<Name>]) -> Result<(), Stop>
 
 fn check_value(scope: &Scope, at: u32, ty: &ValueType<Name>) -> Result<(), Stop>
     requires { Numbers scope.now.table.now (names_of scope.now.records.now) }
-    ensures { Answers (value_faults (names_of scope.now.records.now) at ty.now) result }
+    ensures { StopsAtFirst (value_faults (names_of scope.now.records.now) at ty.now) result }
 {
     match ty {
         ValueType::Number(_) => Ok(()),
@@ -133,7 +133,7 @@ fn check_value(scope: &Scope, at: u32, ty: &ValueType<Name>) -> Result<(), Stop>
 
 fn check_field(scope: &Scope, at: u32, ty: &FieldType<Name>) -> Result<(), Stop>
     requires { Numbers scope.now.table.now (names_of scope.now.records.now) }
-    ensures { Answers (field_faults (names_of scope.now.records.now) (names_of (take scope.now.earlier scope.now.records.now)) at ty.now) result }
+    ensures { StopsAtFirst (field_faults (names_of scope.now.records.now) (names_of (take scope.now.earlier scope.now.records.now)) at ty.now) result }
 {
     match ty {
         FieldType::Value(ty) => check_value(scope, at, ty),
@@ -143,7 +143,7 @@ fn check_field(scope: &Scope, at: u32, ty: &FieldType<Name>) -> Result<(), Stop>
 
 fn check_return(scope: &Scope, at: u32, ty: &ReturnType<Name>) -> Result<(), Stop>
     requires { Numbers scope.now.table.now (names_of scope.now.records.now) }
-    ensures { Answers (return_faults (names_of scope.now.records.now) at ty.now) result }
+    ensures { StopsAtFirst (return_faults (names_of scope.now.records.now) at ty.now) result }
 {
     match ty {
         ReturnType::Void => Ok(()),
@@ -161,7 +161,7 @@ fn is_param(before: &[Param<Name>], name: &Name) -> bool
 
 fn check_param(scope: &Scope, before: &[Param<Name>], param: &Param<Name>) -> Result<(), Stop>
     requires { Numbers scope.now.table.now (names_of scope.now.records.now) }
-    ensures { Answers (param_faults (names_of scope.now.records.now) before.now param.now) result }
+    ensures { StopsAtFirst (param_faults (names_of scope.now.records.now) before.now param.now) result }
 {
     stop_if(before.len() >= MOST_PARAMETERS, Stop::Limit(LimitNo::L3))?;
     check_value(scope, param.ty_at, &param.ty)?;
@@ -173,7 +173,7 @@ fn check_param(scope: &Scope, before: &[Param<Name>], param: &Param<Name>) -> Re
 
 fn check_params(scope: &Scope, params: &[Param<Name>]) -> Result<(), Stop>
     requires { Numbers scope.now.table.now (names_of scope.now.records.now) }
-    ensures { Answers (in_turn (param_faults (names_of scope.now.records.now)) [] params.now) result }
+    ensures { StopsAtFirst (in_turn (param_faults (names_of scope.now.records.now)) [] params.now) result }
 {
     for (number, param) in params.iter().enumerate() {
         check_param(scope, &params[..number], param)?;
@@ -243,7 +243,7 @@ fn is_bad_width(most: u32, width: Option<u32>) -> bool
 }
 
 fn check_width(member: &Member<Name>) -> Result<(), Stop>
-    ensures { Answers (fault_if (is_bad_width (most_width member.now.count member.now.ty) member.now.width) (Stop.Refused Rule.BadWidth member.now.width_at)) result }
+    ensures { StopsAtFirst (fault_if (is_bad_width (most_width member.now.count member.now.ty) member.now.width) (Stop.Refused Rule.BadWidth member.now.width_at)) result }
 {
     let most = most_width(member.count, &member.ty);
     let is_bad = is_bad_width(most, member.width);
@@ -252,7 +252,7 @@ fn check_width(member: &Member<Name>) -> Result<(), Stop>
 
 fn check_member(scope: &Scope, at: u32, member: Option<&Member<Name>>) -> Result<(), Stop>
     requires { Numbers scope.now.table.now (names_of scope.now.records.now) }
-    ensures { Answers (member_faults (names_of scope.now.records.now) (names_of (take scope.now.earlier scope.now.records.now)) at (option_copied member.entry)) result }
+    ensures { StopsAtFirst (member_faults (names_of scope.now.records.now) (names_of (take scope.now.earlier scope.now.records.now)) at (option_copied member.entry)) result }
 {
     match member {
         Some(member) => {
@@ -266,7 +266,7 @@ fn check_member(scope: &Scope, at: u32, member: Option<&Member<Name>>) -> Result
 
 fn check_function(scope: &Scope, at: u32, function: Option<&Function<Name>>) -> Result<(), Stop>
     requires { Numbers scope.now.table.now (names_of scope.now.records.now) }
-    ensures { Answers (function_faults (names_of scope.now.records.now) at (option_copied function.entry)) result }
+    ensures { StopsAtFirst (function_faults (names_of scope.now.records.now) at (option_copied function.entry)) result }
 {
     match function {
         Some(function) => {
@@ -326,7 +326,7 @@ fn is_taken(
     before: &[PartAt],
     part: &PartAt,
 ) -> bool
-    requires { Holds taken.now (names_taken definition.now before.now) }
+    requires { HoldsNames taken.now (names_taken definition.now before.now) }
     ensures { result ≡ is_repeat definition.now before.now part.now }
 {
     let is_named = match name_of(definition, part) {
@@ -338,7 +338,7 @@ fn is_taken(
 
 fn check_content(scope: &Scope, definition: &ClassRec<Name>, part: &PartAt) -> Result<(), Stop>
     requires { Numbers scope.now.table.now (names_of scope.now.records.now) }
-    ensures { Answers (content_faults (names_of scope.now.records.now) (names_of (take scope.now.earlier scope.now.records.now)) definition.now (unwrap_or part.now.ty_at 0) part.now.kind part.now.number) result }
+    ensures { StopsAtFirst (content_faults (names_of scope.now.records.now) (names_of (take scope.now.earlier scope.now.records.now)) definition.now (unwrap_or part.now.ty_at 0) part.now.kind part.now.number) result }
 {
     let at = part.ty_at.unwrap_or(0);
     let number = part.number as usize;
@@ -361,8 +361,8 @@ fn check_part(
     part: &PartAt,
 ) -> Result<(), Stop>
     requires numbers { Numbers scope.now.table.now (names_of scope.now.records.now) }
-    requires taken { Holds taken.now (names_taken definition.now before.now) }
-    ensures { Answers (part_faults (names_of scope.now.records.now) (names_of (take scope.now.earlier scope.now.records.now)) definition.now before.now part.now) result }
+    requires taken { HoldsNames taken.now (names_taken definition.now before.now) }
+    ensures { StopsAtFirst (part_faults (names_of scope.now.records.now) (names_of (take scope.now.earlier scope.now.records.now)) definition.now before.now part.now) result }
 {
     stop_if(before.len() >= MOST_DECLARED, Stop::Limit(LimitNo::L3))?;
     stop_if(
@@ -380,7 +380,7 @@ fn note_part(
     part: &PartAt,
     number: usize,
 ) -> Result<(), NoMemory>
-    ensures { OnOk result ((parts : List PartAt) → Holds taken.old (names_taken definition.now parts) → Holds taken.new (names_taken definition.now (parts ++ part.now ∷ []))) }
+    ensures { OnOk result ((parts : List PartAt) → HoldsNames taken.old (names_taken definition.now parts) → HoldsNames taken.new (names_taken definition.now (parts ++ part.now ∷ []))) }
 {
     if let Some(name) = name_of(definition, part) {
         taken.note(alloc, name.as_slice(), number)?;
@@ -390,7 +390,7 @@ fn note_part(
 
 fn check_parts(alloc: Global, scope: &Scope, definition: &ClassRec<Name>) -> Result<(), Stop>
     requires { Numbers scope.now.table.now (names_of scope.now.records.now) }
-    ensures { Answers (in_turn (part_faults (names_of scope.now.records.now) (names_of (take scope.now.earlier scope.now.records.now)) definition.now) [] definition.now.order) result }
+    ensures { StopsAtFirst (in_turn (part_faults (names_of scope.now.records.now) (names_of (take scope.now.earlier scope.now.records.now)) definition.now) [] definition.now.order) result }
 {
     let order = definition.order.as_slice();
     let mut taken = NameTable::new(alloc);
@@ -405,7 +405,7 @@ fn check_parts(alloc: Global, scope: &Scope, definition: &ClassRec<Name>) -> Res
 fn check_class(alloc: Global, scope: &Scope, definition: &ClassRec<Name>) -> Result<(), Stop>
     requires numbers { Numbers scope.now.table.now (names_of scope.now.records.now) }
     requires within { scope.now.earlier ≤ length scope.now.records.now }
-    ensures { Answers (class_faults (names_of scope.now.records.now) (take scope.now.earlier scope.now.records.now) definition.now) result }
+    ensures { StopsAtFirst (class_faults (names_of scope.now.records.now) (take scope.now.earlier scope.now.records.now) definition.now) result }
 {
     stop_if(
         is_complete(scope, &definition.name),
@@ -423,7 +423,7 @@ pub(crate) fn check_classes(
     table: &NameTable,
 ) -> Result<(), Stop>
     requires { Numbers table.now (names_of records.now) }
-    ensures { Answers (faults_of records.now) result }
+    ensures { StopsAtFirst (faults_of records.now) result }
 {
     for (earlier, definition) in records.iter().enumerate() {
         let scope = Scope {

@@ -1,7 +1,7 @@
 //! The classes of a source.
 
 ghost use Rattle.std.specs.Prelude.{◌≡◌, ◌==◌, ◌<◌, ◌↔◌, Some, [], All, IfOk, IfErr, IsTrue, length};
-ghost use Rattle.cxx_hierarchy.specs.Classes.{class_at, IsFound};
+ghost use Rattle.cxx_hierarchy.specs.Classes.{class_at, IsClassNamed};
 ghost use Rattle.cxx_hierarchy.specs.ClassPass.{faults_of, StopsAt, IsInOrder};
 ghost use Rattle.cxx_hierarchy.specs.Resolved.{resolved};
 ghost use Rattle.cxx_hierarchy.specs.Hierarchies.{IsHierarchy};
@@ -33,13 +33,13 @@ impl Model for Hierarchy {
     ghost use Rattle.cxx_hierarchy.specs.Classes.{class_names};
     ghost use Rattle.cxx_hierarchy.specs.NameTables.{Numbers};
     ghost use Rattle.cxx_hierarchy.specs.Hierarchies.{IsHierarchy};
-    ghost use Rattle.cxx_hierarchy.specs.invariants.VirtualRows.{AreTables};
+    ghost use Rattle.cxx_hierarchy.specs.invariants.VirtualRows.{AreVirtualRows};
 
     ghost Value = { List (ClassRec ClassId) };
 
     ghost view = { λ h. h.classes.items };
 
-    ghost invariant = { λ h. IsHierarchy h.classes.items × Numbers h.names (class_names h.classes.items) × AreTables h.classes.items h.virtual_bases.items h.public_virtual_bases.items };
+    ghost invariant = { λ h. IsHierarchy h.classes.items × Numbers h.names (class_names h.classes.items) × AreVirtualRows h.classes.items h.virtual_bases.items h.public_virtual_bases.items };
 }
 
 /// The hierarchy of the class definitions of a source, in its order.
@@ -91,7 +91,7 @@ impl Hierarchy {
 
     /// The class of a name, and None exactly where no class has it.
     pub fn find(&self, name: &[u8]) -> Option<ClassId>
-        ensures { IsFound self.now name.now result }
+        ensures { IsClassNamed self.now name.now result }
     {
         match self.names.find(name) {
             Some(number) => Some(ClassId(number as u32)),

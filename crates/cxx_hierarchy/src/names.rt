@@ -1,7 +1,7 @@
 //! Names numbered by their first places, in first-seen order.
 
 ghost use Rattle.std.specs.Prelude.{◌≡◌, ◌++◌, ◌∷◌, [], ℕ, List, length, is_some, OnOk, IfOk};
-ghost use Rattle.cxx_hierarchy.specs.NameTables.{Text, Numbers, Holds, number_in};
+ghost use Rattle.cxx_hierarchy.specs.NameTables.{Text, Numbers, HoldsNames, number_in};
 
 use foundation::NoMemory;
 use indexmap::IndexMap;
@@ -17,7 +17,7 @@ impl NameTable {
     /// The table of no names, which takes no memory.
     pub fn new(alloc: Global) -> NameTable
         ensures numbers { Numbers result [] }
-        ensures holds { Holds result [] }
+        ensures holds { HoldsNames result [] }
     {
         NameTable {
             numbers: IndexMap::new(alloc),
@@ -33,7 +33,7 @@ impl NameTable {
 
     /// Numbers the next name of a list, unless it is there already.
     pub fn note(&mut self, alloc: Global, name: &[u8], number: usize) -> Result<(), NoMemory>
-        ensures holds { OnOk result ((names : List Text) → Holds self.old names → Holds self.new (names ++ name.now ∷ [])) }
+        ensures holds { OnOk result ((names : List Text) → HoldsNames self.old names → HoldsNames self.new (names ++ name.now ∷ [])) }
         ensures numbers { OnOk result ((names : List Text) → Numbers self.old names → number ≡ length names → Numbers self.new (names ++ name.now ∷ [])) }
     {
         if self.find(name).is_none() {

@@ -10,7 +10,7 @@ use Rattle.cxx_subobject.specs.declared.Subobject.{Subobject}
 use Rattle.cxx_subobject.specs.Subobjects.{IsSubobject}
 use Rattle.cxx_subobject.specs.Preorder.{ListsSubobjects}
 use Rattle.cxx_lookup.specs.declared.Found.{Found}
-use Rattle.cxx_lookup.specs.Lookup.{place_of, IsDeclared}
+use Rattle.cxx_lookup.specs.Lookup.{place_of_found, IsDeclared}
 use Rattle.cxx_lookup.specs.invariants.Searches.{IsDeclaredAt, AreDeclarations}
 use Rattle.cxx_lookup.proofs.Listing.{at_place, before_or_here}
 use Rattle.cxx_lookup.proofs.Named.{one_declaration}
@@ -55,8 +55,8 @@ pub all_gathered : (h : Classes) (c : ClassId) (name : List ℕ) (parts : List S
 all_gathered h c name parts i list lists all far = record {
   declared = far.declared;
   listed = λ found d.
-      let has = lists.listed (place_of found) d.valid in
-      let at = at_place parts (place_of found) has in
-      let within = slice_get_within parts has.0 (place_of found) at in
-      far.listed has.0 (place_of found) found (omega arith) at (record { place = refl; named = d.named });
+      let has = lists.listed (place_of_found found) d.valid in
+      let at = at_place parts (place_of_found found) has in
+      let within = slice_get_within parts has.0 (place_of_found found) at in
+      far.listed has.0 (place_of_found found) found (omega arith) at (record { place = refl; named = d.named });
 }

@@ -10,7 +10,7 @@ use Rattle.cxx_subobject.specs.declared.Subobject.{Subobject}
 use Rattle.cxx_subobject.specs.Subobjects.{IsSubobject}
 use Rattle.cxx_subobject.specs.Inside.{IsInside}
 use Rattle.cxx_lookup.specs.declared.Found.{Found}
-use Rattle.cxx_lookup.specs.Lookup.{place_of, IsDeclared, Remains, IsFound, TwoRemain}
+use Rattle.cxx_lookup.specs.Lookup.{place_of_found, IsDeclared, Remains, IsFound, TwoRemain}
 use Rattle.cxx_lookup.specs.invariants.Searches.{AreDeclarations, IsPlaceIn, found_at, IsHidden, GoesOver, AreHidden, IsHighest}
 use Rattle.cxx_lookup.proofs.Listing.{at_place, before_or_here}
 use Rattle.cxx_lookup.proofs.Named.{one_declaration}
@@ -35,14 +35,14 @@ none_yet h hider list = record { place = tt; tells = record { each = λ k found 
 
 -- the best one stays so where the next one that is free and goes over it stands at its place
 still_highest : (h : Classes) (hider : Option Found) (list : List Found) (i : ℕ) (x : Found) (b : ℕ) → slice_get list i ≡ Some x → (best : IsHighest h hider list i b) →
-    ((IsHidden h hider x → ⊥) → IsInside h (place_of x) (place_of best.found) → place_of x ≡ place_of best.found) → IsHighest h hider list (i + 1) b
+    ((IsHidden h hider x → ⊥) → IsInside h (place_of_found x) (place_of_found best.found) → place_of_found x ≡ place_of_found best.found) → IsHighest h hider list (i + 1) b
 still_highest h hider list i x b at best next = record {
   found = best.found;
   there = best.there;
   outside = best.outside;
   top = λ j other lt there. ⊎_elim
       (λ l. best.top j other l there)
-      (λ same. subst (λ (f : Found). (IsHidden h hider f → ⊥) → IsInside h (place_of f) (place_of best.found) → place_of f ≡ place_of best.found) (sym same) next)
+      (λ same. subst (λ (f : Found). (IsHidden h hider f → ⊥) → IsInside h (place_of_found f) (place_of_found best.found) → place_of_found f ≡ place_of_found best.found) (sym same) next)
       (before_or_here list i j x other lt at there);
 }
 
@@ -68,13 +68,13 @@ taken h order hider list i x None within is free over far =
         found = x;
         there = at;
         outside = free;
-        top = λ j other lt there out inside. ⊎_elim (λ l. absurd (out (far.tells.each j other l there))) (λ same. ap place_of same) (before_or_here list i j x other lt at there);
+        top = λ j other lt there out inside. ⊎_elim (λ l. absurd (out (far.tells.each j other l there))) (λ same. ap place_of_found same) (before_or_here list i j x other lt at there);
       };
     }
 taken h order hider list i x (Some b) within is free over far =
     let at : slice_get list i ≡ Some x = slice_get_read list (length list) i x refl within is in
     let best : IsHighest h hider list i b = far.tells in
-    let above : IsInside h (place_of x) (place_of best.found) = subst (GoesOver h x) best.there over in
+    let above : IsInside h (place_of_found x) (place_of_found best.found) = subst (GoesOver h x) best.there over in
     record {
       place = within;
       tells = record {
@@ -82,10 +82,10 @@ taken h order hider list i x (Some b) within is free over far =
         there = at;
         outside = free;
         top = λ j other lt there out inside. ⊎_elim
-            (λ l. let same : place_of other ≡ place_of best.found = best.top j other l there out (order.through (place_of other) (place_of x) (place_of best.found) inside above) in
-            let back : IsInside h (place_of best.found) (place_of x) = subst (λ (s : Subobject). IsInside h s (place_of x)) same inside in
-            same ∙ order.back (place_of best.found) (place_of x) back above)
-            (λ same. ap place_of same)
+            (λ l. let same : place_of_found other ≡ place_of_found best.found = best.top j other l there out (order.through (place_of_found other) (place_of_found x) (place_of_found best.found) inside above) in
+            let back : IsInside h (place_of_found best.found) (place_of_found x) = subst (λ (s : Subobject). IsInside h s (place_of_found x)) same inside in
+            same ∙ order.back (place_of_found best.found) (place_of_found x) back above)
+            (λ same. ap place_of_found same)
             (before_or_here list i j x other lt at there);
       };
     }
@@ -101,7 +101,7 @@ kept h hider list i x (Some b) within is below far =
 
 -- one that nothing hides but what is hidden by a hider remains, where the hider hides none that hide it
 remains : (h : Classes) → IsHierarchy h → (c : ClassId) (name : List ℕ) (list : List Found) (hider : Option Found) (k : ℕ) → AreDeclarations h c name list → (a : IsHighest h hider list (length list) k) →
-    ((t : Found) → IsInside h (place_of t) (place_of a.found) → IsHidden h hider t → ⊥) → Remains h c name a.found
+    ((t : Found) → IsInside h (place_of_found t) (place_of_found a.found) → IsHidden h hider t → ⊥) → Remains h c name a.found
 remains h keeps c name list hider k are a free =
     let here : IsDeclared h c name a.found = are.declared a.found (contains_at list k a.found a.there) in
     record {
@@ -109,8 +109,8 @@ remains h keeps c name list hider k are a free =
       unhidden = λ t d inside.
           let has = are.listed t d in
           let at = at_place list t has in
-          let same : place_of t ≡ place_of a.found = a.top has.0 t (slice_get_within list has.0 t at) at (free t inside) inside in
-          one_declaration h keeps (place_of a.found) name t a.found (record { place = same; named = d.named }) (record { place = refl; named = here.named });
+          let same : place_of_found t ≡ place_of_found a.found = a.top has.0 t (slice_get_within list has.0 t at) at (free t inside) inside in
+          one_declaration h keeps (place_of_found a.found) name t a.found (record { place = same; named = d.named }) (record { place = refl; named = here.named });
     }
 
 pub one_found : (h : Classes) → IsHierarchy h → (c : ClassId) (name : List ℕ) (list : List Found) (k : ℕ) → AreDeclarations h c name list → (a : IsHighest h None list (length list) k) → AreHidden h (Some a.found) list (length list) → IsFound h c name a.found
@@ -131,8 +131,8 @@ two_found h keeps order c name list k m are a b =
       one = a.found;
       other = b.found;
       one_remains = first;
-      other_remains = remains h keeps c name list (Some a.found) m are b (λ t inside hidden. b.outside (order.through (place_of a.found) (place_of t) (place_of b.found) hidden inside));
-      differ = λ e. b.outside (subst (λ (f : Found). IsInside h (place_of a.found) (place_of f)) e (order.itself c (place_of a.found) first.declared.valid));
+      other_remains = remains h keeps c name list (Some a.found) m are b (λ t inside hidden. b.outside (order.through (place_of_found a.found) (place_of_found t) (place_of_found b.found) hidden inside));
+      differ = λ e. b.outside (subst (λ (f : Found). IsInside h (place_of_found a.found) (place_of_found f)) e (order.itself c (place_of_found a.found) first.declared.valid));
     }
 
 -- what the two walks tell together

@@ -19,8 +19,8 @@ use Rattle.cxx_subobject.proofs.InsideLemmas.{inside_itself, inside_through, ins
 use Rattle.cxx_subobject.proofs.DecidingLemmas.{decide_inside}
 use Rattle.cxx_lookup.specs.declared.Found.{Found}
 use Rattle.cxx_lookup.specs.declared.Found.TheVariants.{Member, Function}
-use Rattle.cxx_lookup.specs.Lookup.{place_of, IsDeclared, Remains, IsFound, TwoRemain}
-use Rattle.cxx_lookup.specs.Findings.{Finding, finds_none, finds_one, finds_more, declared_as, declared_in, declaration_at, declarations_of, is_joined, is_inside, contains_all, among, found_by, IsNameFinding}
+use Rattle.cxx_lookup.specs.Lookup.{place_of_found, IsDeclared, Remains, IsFound, TwoRemain}
+use Rattle.cxx_lookup.specs.Findings.{Finding, finds_none, finds_one, finds_more, declared_as, declared_in, declaration_at, declarations_of, is_joined, is_inside, contains_all_found, among, found_by, IsNameFinding}
 use Rattle.cxx_lookup.specs.invariants.Searches.{IsDeclaredAt}
 use Rattle.cxx_lookup.proofs.Named.{one_declaration, member_in_class, function_in_class, nothing_in_class, nowhere}
 
@@ -84,27 +84,27 @@ listed_declared h c name found has =
 
 pub declared_listed : (h : Classes) → IsHierarchy h → (c : ClassId) (name : List ℕ) (found : Found) → IsDeclared h c name found → Has (declarations_of h c name) found
 declared_listed h keeps c name found k =
-    let at : IsDeclaredAt h (place_of found) name found = record { place = refl; named = k.named } in
-    let there = declared_there h name (place_of found) found at in
-    let one : there.found ≡ found = one_declaration h keeps (place_of found) name there.found found (declaration_is h name (place_of found) there.found there.is) at in
-    has_filter_map (declaration_at h name) (preorder h c) (place_of found) found (preorder_has h c keeps (place_of found) k.valid) (there.is ∙ ap (λ (x : Found). Some x) one)
+    let at : IsDeclaredAt h (place_of_found found) name found = record { place = refl; named = k.named } in
+    let there = declared_there h name (place_of_found found) found at in
+    let one : there.found ≡ found = one_declaration h keeps (place_of_found found) name there.found found (declaration_is h name (place_of_found found) there.found there.is) at in
+    has_filter_map (declaration_at h name) (preorder h c) (place_of_found found) found (preorder_has h c keeps (place_of_found found) k.valid) (there.is ∙ ap (λ (x : Found). Some x) one)
 
 -- two declarations of which each lies in the other are one
-same_found : (h : Classes) → IsHierarchy h → (c : ClassId) (name : List ℕ) (x y : Found) → IsDeclared h c name x → IsDeclared h c name y → IsInside h (place_of x) (place_of y) → IsInside h (place_of y) (place_of x) → x ≡ y
+same_found : (h : Classes) → IsHierarchy h → (c : ClassId) (name : List ℕ) (x y : Found) → IsDeclared h c name x → IsDeclared h c name y → IsInside h (place_of_found x) (place_of_found y) → IsInside h (place_of_found y) (place_of_found x) → x ≡ y
 same_found h keeps c name x y dx dy xy yx =
-    let place = inside_back h (place_of x) (place_of y) keeps xy yx in
-    one_declaration h keeps (place_of y) name x y (record { place = place; named = dx.named }) (record { place = refl; named = dy.named })
+    let place = inside_back h (place_of_found x) (place_of_found y) keeps xy yx in
+    one_declaration h keeps (place_of_found y) name x y (record { place = place; named = dx.named }) (record { place = refl; named = dy.named })
 
 -- an order of the declarations of a list
 abbrev IsOver : Classes → Found → Found → Type 0
-IsOver h x y = IsInside h (place_of x) (place_of y)
+IsOver h x y = IsInside h (place_of_found x) (place_of_found y)
 
 declaration_order : (h : Classes) → IsHierarchy h → (c : ClassId) (name : List ℕ) → IsOrderOn (IsDeclared h c name) (IsOver h) (declarations_of h c name)
 declaration_order h keeps c name = record {
   has = λ x listed. inl (listed_declared h c name x listed);
-  over = λ x y dx dy. decide_inside h keeps c (place_of x) (place_of y) dx.valid dy.valid;
-  itself = λ x dx. inside_itself h c (place_of x) dx.valid;
-  through = λ x y z a b. inside_through h (place_of x) (place_of y) (place_of z) a b;
+  over = λ x y dx dy. decide_inside h keeps c (place_of_found x) (place_of_found y) dx.valid dy.valid;
+  itself = λ x dx. inside_itself h c (place_of_found x) dx.valid;
+  through = λ x y z a b. inside_through h (place_of_found x) (place_of_found y) (place_of_found z) a b;
 }
 
 top_found : (h : Classes) → IsHierarchy h → (c : ClassId) (name : List ℕ) (top : Found) → IsDeclared h c name top → ((y : Found) → IsDeclared h c name y → IsOver h top y) → IsFound h c name top
@@ -124,13 +124,13 @@ module _ (h : Classes) (keeps : IsHierarchy h) (c : ClassId) (name : List ℕ) w
   all : List Found
   all = declarations_of h c name
 
-  over_all : (top : Found) → contains_all h (declarations_of h c name) top ≡ true → (y : Found) → IsDeclared h c name y → IsOver h top y
-  over_all top test y d = tested_inside h (place_of top) (place_of y) (all_each (λ other. is_inside h (place_of top) (place_of other)) (declarations_of h c name) test y (declared_listed h keeps c name y d))
+  over_all : (top : Found) → contains_all_found h (declarations_of h c name) top ≡ true → (y : Found) → IsDeclared h c name y → IsOver h top y
+  over_all top test y d = tested_inside h (place_of_found top) (place_of_found y) (all_each (λ other. is_inside h (place_of_found top) (place_of_found other)) (declarations_of h c name) test y (declared_listed h keeps c name y d))
 
-  all_over : (top : Found) → ((y : Found) → IsDeclared h c name y → IsOver h top y) → contains_all h (declarations_of h c name) top ≡ true
-  all_over top over = each_all (λ other. is_inside h (place_of top) (place_of other)) (declarations_of h c name) (λ y listed. inside_tested h keeps (place_of top) (place_of y) (over y (listed_declared h c name y listed)))
+  all_over : (top : Found) → ((y : Found) → IsDeclared h c name y → IsOver h top y) → contains_all_found h (declarations_of h c name) top ≡ true
+  all_over top over = each_all (λ other. is_inside h (place_of_found top) (place_of_found other)) (declarations_of h c name) (λ y listed. inside_tested h keeps (place_of_found top) (place_of_found y) (over y (listed_declared h c name y listed)))
 
-  two_remain : (start : Found) → Has (declarations_of h c name) start → ((top : Found) → Has (declarations_of h c name) top → contains_all h (declarations_of h c name) top ≡ true → ⊥) → TwoRemain h c name
+  two_remain : (start : Found) → Has (declarations_of h c name) start → ((top : Found) → Has (declarations_of h c name) top → contains_all_found h (declarations_of h c name) top ≡ true → ⊥) → TwoRemain h c name
   two_remain start has none = ⊎_elim
       (λ k. absurd (none k.0 (declared_listed h keeps c name k.0 k.1.is) (all_over k.0 (λ y d. k.1.all y (declared_listed h keeps c name y d) d))))
       (λ two. record {
@@ -138,20 +138,20 @@ module _ (h : Classes) (keeps : IsHierarchy h) (c : ClassId) (name : List ℕ) w
         other = two.other;
         one_remains = high_remains h keeps c name two.one two.one_high;
         other_remains = high_remains h keeps c name two.other two.other_high;
-        differ = λ e. two.apart (subst (λ (x : Found). IsOver h two.one x) e (inside_itself h c (place_of two.one) two.one_high.is.valid));
+        differ = λ e. two.apart (subst (λ (x : Found). IsOver h two.one x) e (inside_itself h c (place_of_found two.one) two.one_high.is.valid));
       })
       (top_or_two (IsDeclared h c name) (IsOver h) (declarations_of h c name) (declaration_order h keeps c name) start (listed_declared h c name start has))
 
-  by_lists : (list tops : List Found) → declarations_of h c name ≡ list → filter (contains_all h (declarations_of h c name)) (declarations_of h c name) ≡ tops → IsNameFinding h c name (among list tops)
+  by_lists : (list tops : List Found) → declarations_of h c name ≡ list → filter (contains_all_found h (declarations_of h c name)) (declarations_of h c name) ≡ tops → IsNameFinding h c name (among list tops)
   by_lists [] tops e f = λ x d. subst (λ (xs : List Found). Has xs x) e (declared_listed h keeps c name x d)
   by_lists (one ∷ rest) [] e f = two_remain one (subst (λ (xs : List Found). Has xs one) (sym e) (inl refl))
-      (λ top listed test. subst (λ (xs : List Found). Has xs top) f (filter_has (contains_all h (declarations_of h c name)) (declarations_of h c name) top listed test))
+      (λ top listed test. subst (λ (xs : List Found). Has xs top) f (filter_has (contains_all_found h (declarations_of h c name)) (declarations_of h c name) top listed test))
   by_lists (one ∷ rest) (top ∷ tops) e f =
-      let k = has_filter (contains_all h (declarations_of h c name)) (declarations_of h c name) top (subst (λ (xs : List Found). Has xs top) (sym f) (inl refl)) in
+      let k = has_filter (contains_all_found h (declarations_of h c name)) (declarations_of h c name) top (subst (λ (xs : List Found). Has xs top) (sym f) (inl refl)) in
       top_found h keeps c name top (listed_declared h c name top k.0) (over_all top k.1)
 
   pub name_is : IsNameFinding h c name (found_by h c name)
-  name_is = by_lists (declarations_of h c name) (filter (contains_all h (declarations_of h c name)) (declarations_of h c name)) refl refl
+  name_is = by_lists (declarations_of h c name) (filter (contains_all_found h (declarations_of h c name)) (declarations_of h c name)) refl refl
 
 -- two findings are one
 same_name : (h : Classes) (c : ClassId) (name : List ℕ) (f g : Finding Found) → IsNameFinding h c name f → IsNameFinding h c name g → f ≡ g

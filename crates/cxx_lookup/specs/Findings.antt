@@ -13,7 +13,7 @@ use Rattle.cxx_lookup.specs.declared.Found.{Found}
 use Rattle.cxx_lookup.specs.declared.Found.TheVariants.{Member, Function}
 use Rattle.cxx_lookup.specs.declared.LookupFault.TheVariants.{NoSuchMember}
 use Rattle.cxx_lookup.specs.declared.BaseFault.TheVariants.{NotBase}
-use Rattle.cxx_lookup.specs.Lookup.{place_of, IsFound, TwoRemain, IsLookupFault}
+use Rattle.cxx_lookup.specs.Lookup.{place_of_found, IsFound, TwoRemain, IsLookupFault}
 use Rattle.cxx_lookup.specs.UniqueBase.{IsUniqueBase, HasTwoBases, IsBaseFault}
 
 -- what is found: nothing, one thing, or more than one
@@ -50,8 +50,8 @@ abbrev pub is_inside : Classes → Subobject → Subobject → Bool
 is_inside h outer inner = is_joined h outer inner (class_of outer)
 
 -- the subobject of a declaration contains those of all
-abbrev pub contains_all : Classes → List Found → Found → Bool
-contains_all h all found = list_all (λ other. is_inside h (place_of found) (place_of other)) all
+abbrev pub contains_all_found : Classes → List Found → Found → Bool
+contains_all_found h all found = list_all (λ other. is_inside h (place_of_found found) (place_of_found other)) all
 
 abbrev pub among : List Found → List Found → Finding Found
 among [] tops = finds_none
@@ -59,28 +59,28 @@ among (one ∷ all) [] = finds_more
 among (one ∷ all) (top ∷ tops) = finds_one top
 
 abbrev pub found_among : Classes → List Found → Finding Found
-found_among h all = among all (filter (contains_all h all) all)
+found_among h all = among all (filter (contains_all_found h all) all)
 
 -- what a name finds in class c: the declaration whose subobject contains those of all others
 abbrev pub found_by : Classes → ClassId → List ℕ → Finding Found
 found_by h c name = found_among h (declarations_of h c name)
 
-abbrev pub is_class : ClassId → Option ClassId → Bool
-is_class d None = false
-is_class d (Some c) = nat_eq c.0 d.0
+abbrev pub is_sought_class : ClassId → Option ClassId → Bool
+is_sought_class d None = false
+is_sought_class d (Some c) = nat_eq c.0 d.0
 
 -- the test that s is of class d
-abbrev pub is_of_class : ClassId → Subobject → Bool
-is_of_class d s = is_class d (class_of s)
+abbrev pub is_of_sought_class : ClassId → Subobject → Bool
+is_of_sought_class d s = is_sought_class d (class_of s)
 
-abbrev pub the_only : List Subobject → Finding Subobject
-the_only [] = finds_none
-the_only (one ∷ []) = finds_one one
-the_only (one ∷ other ∷ rest) = finds_more
+abbrev pub the_only_found : List Subobject → Finding Subobject
+the_only_found [] = finds_none
+the_only_found (one ∷ []) = finds_one one
+the_only_found (one ∷ other ∷ rest) = finds_more
 
 -- the base of class d that c has
 abbrev pub base_by : Classes → ClassId → ClassId → Finding Subobject
-base_by h c d = the_only (filter (is_of_class d) (preorder h c))
+base_by h c d = the_only_found (filter (is_of_sought_class d) (preorder h c))
 
 -- what a finding says of a name
 abbrev pub IsNameFinding : Classes → ClassId → List ℕ → Finding Found → Type 0

@@ -14,9 +14,9 @@ use Rattle.cxx_lookup.specs.declared.LookupFault.{LookupFault}
 use Rattle.cxx_lookup.specs.declared.LookupFault.TheVariants.{AmbiguousName, NoSuchMember, NoMemory}
 
 -- the subobject that has the declaration
-abbrev pub place_of : Found → Subobject
-place_of (Member s number) = s
-place_of (Function s number) = s
+abbrev pub place_of_found : Found → Subobject
+place_of_found (Member s number) = s
+place_of_found (Function s number) = s
 
 abbrev pub name_in : Classes → Option ClassId → Found → Option (List ℕ)
 name_in h None found = None
@@ -25,17 +25,17 @@ name_in h (Some c) (Function s number) = option_map (λ (f : FunctionRecord Clas
 
 -- the name that is declared: that of the member or function of the number in the subobject's class
 abbrev pub name_of : Classes → Found → Option (List ℕ)
-name_of h found = name_in h (class_of (place_of found)) found
+name_of h found = name_in h (class_of (place_of_found found)) found
 
 -- the name is declared there, in a subobject of c
 pub record IsDeclared (h : Classes) (c : ClassId) (name : List ℕ) (found : Found) : Type 0 where
-  pub valid : IsSubobject h c (place_of found)
+  pub valid : IsSubobject h c (place_of_found found)
   pub named : name_of h found ≡ Some name
 
 -- no other declaration hides it: one hides those in subobjects that lie in its own
 pub record Remains (h : Classes) (c : ClassId) (name : List ℕ) (found : Found) : Type 0 where
   pub declared : IsDeclared h c name found
-  pub unhidden : (other : Found) → IsDeclared h c name other → IsInside h (place_of other) (place_of found) → other ≡ found
+  pub unhidden : (other : Found) → IsDeclared h c name other → IsInside h (place_of_found other) (place_of_found found) → other ≡ found
 
 -- it is what the name finds: the one declaration that remains
 pub record IsFound (h : Classes) (c : ClassId) (name : List ℕ) (found : Found) : Type 0 where

@@ -2,7 +2,7 @@
 
 ghost use Rattle.std.specs.Prelude.{◌≡◌, ◌<◌, IfOk, IfErr, position, length};
 ghost use Rattle.cxx_lookup.specs.UniqueBase.{IsUniqueBase, IsBaseFault};
-ghost use Rattle.cxx_lookup.specs.Findings.{is_of_class};
+ghost use Rattle.cxx_lookup.specs.Findings.{is_of_sought_class};
 
 use crate::BaseFault;
 use cxx_hierarchy::{ClassId, Hierarchy};
@@ -11,7 +11,7 @@ use std::alloc::Global;
 
 /// Whether a subobject is of a class.
 fn is_of_class(s: &Subobject, d: ClassId) -> bool
-    ensures { result ≡ is_of_class d s.now }
+    ensures { result ≡ is_of_sought_class d s.now }
 {
     match class_of(s) {
         None => false,
@@ -21,7 +21,7 @@ fn is_of_class(s: &Subobject, d: ClassId) -> bool
 
 /// The place of the first subobject of a class in a list.
 fn first_of_class(list: &[Subobject], d: ClassId) -> Option<usize>
-    ensures { result ≡ position (is_of_class d) list.now }
+    ensures { result ≡ position (is_of_sought_class d) list.now }
 {
     list.iter().position(|s| is_of_class(s, d))
 }

@@ -33,11 +33,11 @@ pub enum Found {
 
 impl Found {
     ghost use Rattle.std.specs.Prelude.{◌≡◌};
-    ghost use Rattle.cxx_lookup.specs.Lookup.{place_of};
+    ghost use Rattle.cxx_lookup.specs.Lookup.{place_of_found};
 
     /// The subobject whose class has the declaration.
     pub fn place(&self) -> &Subobject
-        ensures { result.now ≡ place_of self.now }
+        ensures { result.now ≡ place_of_found self.now }
     {
         match self {
             Found::Member(place, _) | Found::Function(place, _) => place,

@@ -3,7 +3,7 @@
 ghost use Rattle.std.specs.Prelude.{◌≡◌, ◌<◌, ◌↔◌, IsTrue, IfOk, IfErr, MatchOption, length};
 ghost use Rattle.cxx_subobject.specs.Subobjects.{IsSubobject};
 ghost use Rattle.cxx_subobject.specs.Inside.{IsInside};
-ghost use Rattle.cxx_lookup.specs.Lookup.{place_of, IsFound, IsLookupFault};
+ghost use Rattle.cxx_lookup.specs.Lookup.{place_of_found, IsFound, IsLookupFault};
 ghost use Rattle.cxx_lookup.specs.invariants.Searches.{AreIn, IsPlaceIn, found_at, IsHidden, GoesOver, AreHidden, IsHighest};
 
 use crate::declarations::declarations;
@@ -14,9 +14,9 @@ use std::alloc::Global;
 
 /// Whether the subobject of one declaration has that of another in it.
 fn hides(h: &Hierarchy, c: ClassId, one: &Found, other: &Found) -> bool
-    requires one { IsSubobject h.now c (place_of one.now) }
-    requires other { IsSubobject h.now c (place_of other.now) }
-    ensures { IsTrue result ↔ IsInside h.now (place_of one.now) (place_of other.now) }
+    requires one { IsSubobject h.now c (place_of_found one.now) }
+    requires other { IsSubobject h.now c (place_of_found other.now) }
+    ensures { IsTrue result ↔ IsInside h.now (place_of_found one.now) (place_of_found other.now) }
 {
     contains(h, c, one.place(), other.place())
 }
@@ -25,7 +25,7 @@ fn hides(h: &Hierarchy, c: ClassId, one: &Found, other: &Found) -> bool
 fn is_hidden(h: &Hierarchy, c: ClassId, list: &[Found], hider: Option<usize>, found: &Found) -> bool
     requires list { AreIn h.now c list.now }
     requires hider { IsPlaceIn list.now hider }
-    requires found { IsSubobject h.now c (place_of found.now) }
+    requires found { IsSubobject h.now c (place_of_found found.now) }
     ensures { IsTrue result ↔ IsHidden h.now (found_at list.now hider) found.now }
 {
     match hider {
@@ -38,7 +38,7 @@ fn is_hidden(h: &Hierarchy, c: ClassId, list: &[Found], hider: Option<usize>, fo
 fn goes_over(h: &Hierarchy, c: ClassId, list: &[Found], best: Option<usize>, found: &Found) -> bool
     requires list { AreIn h.now c list.now }
     requires best { IsPlaceIn list.now best }
-    requires found { IsSubobject h.now c (place_of found.now) }
+    requires found { IsSubobject h.now c (place_of_found found.now) }
     ensures { IsTrue result ↔ GoesOver h.now found.now (found_at list.now best) }
 {
     match best {

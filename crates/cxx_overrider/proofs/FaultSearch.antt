@@ -16,7 +16,8 @@ use Rattle.cxx_subobject.specs.Parts.{IsWithinLimits}
 use Rattle.cxx_overrider.specs.declared.FunctionId.{FunctionId}
 use Rattle.cxx_overrider.specs.Overriding.{HasTwoFinalOverriders, IsAbstract}
 use Rattle.cxx_overrider.specs.Covariance.{HasMismatch, HasIncompleteReturn, HasAmbiguousReturn}
-use Rattle.cxx_overrider.specs.Faults.{Spot, spot, IsBefore, function_of, Fault, too_large, mismatch, incomplete, ambiguous, two_overriders, abstract_member, IsFirstFault, HasNoFault, IsFirstFaultIn, HasNoFaultIn}
+use Rattle.cxx_overrider.specs.Virtuals.{function_at}
+use Rattle.cxx_overrider.specs.Faults.{Spot, spot, IsBefore, Fault, too_large, mismatch, incomplete, ambiguous, two_overriders, abstract_member, IsFirstFault, HasNoFault, IsFirstFaultIn, HasNoFaultIn}
 use Rattle.std.proofs.lemmas.Option.{slice_get_within}
 use Rattle.std.proofs.lemmas.Bool.{cases_lt}
 use Rattle.cxx_overrider.proofs.PassLemmas.{before_cases, HasAbstractMember, fault_known}
@@ -33,7 +34,7 @@ record IsTooLarge (h : Classes) (c : ClassId) (item test : ℕ) : Type 0 where
 record HasFunctionFault (h : Classes) (c : ClassId) (item : ℕ) (P : FunctionId → Type 0) : Type 0 where
   function : Function ClassId
   at : slice_get (functions_of h c) item ≡ Some function
-  is : P (function_of c item)
+  is : P (function_at c item)
 
 record HasTwoAt (h : Classes) (c : ClassId) (item test : ℕ) : Type 0 where
   first_item : item ≡ 0
@@ -88,7 +89,7 @@ decide_function_fault h c item P decide = by_place (slice_get (functions_of h c)
   where
     by_place : (o : Option (Function ClassId)) → slice_get (functions_of h c) item ≡ o → Decided (HasFunctionFault h c item P)
     by_place None e = inr (λ k. let a = k.at in cc)
-    by_place (Some f) e = decide_as (decide (function_of c item)) (λ is. record { function = f; at = e; is = is }) (λ k. k.is)
+    by_place (Some f) e = decide_as (decide (function_at c item)) (λ is. record { function = f; at = e; is = is }) (λ k. k.is)
 
 decide_large : (h : Classes) (c : ClassId) (item test : ℕ) → Decided (IsTooLarge h c item test)
 decide_large h c item test = ⊎_elim

@@ -17,7 +17,8 @@ use Rattle.cxx_overrider.specs.declared.FunctionId.{FunctionId}
 use Rattle.cxx_overrider.specs.declared.Overrider.{Overrider}
 use Rattle.cxx_overrider.specs.Functions.{Signature, signature_of}
 use Rattle.cxx_overrider.specs.Overriding.{IsVirtualIn, IsCandidate, IsLeft, IsFinalOverrider, HasTwoFinalOverriders}
-use Rattle.cxx_overrider.specs.Faults.{function_of, HasNoFault, two_overriders, spot, overrider_part}
+use Rattle.cxx_overrider.specs.Virtuals.{function_at}
+use Rattle.cxx_overrider.specs.Faults.{HasNoFault, two_overriders, spot, overrider_part}
 use Rattle.cxx_overrider.specs.invariants.Pure.{DeclaresNone}
 use Rattle.foundation.proofs.Places.{get_within}
 use Rattle.cxx_overrider.proofs.Numbering.{signature_index, signature_class}
@@ -37,12 +38,12 @@ pub record DeclaresSome (h : Classes) (d : ClassId) (signature : Signature) : Ty
 
 pub decide_declares : (h : Classes) (d : ClassId) (sig : Signature) → DeclaresSome h d sig ⊎ DeclaresNone h d sig
 decide_declares h d sig = ⊎_elim
-    (λ k. inl (record { function = function_of d k.number; class = refl; same = k.is }))
+    (λ k. inl (record { function = function_at d k.number; class = refl; same = k.is }))
     (λ none. inr (record {
       none = λ f class same. none f.index (subst (λ (x : ClassId). f.index < length (functions_of h x) + 1) class (signature_index h f sig same))
-          (subst (λ (x : ClassId). signature_of h (function_of x f.index) ≡ Some sig) class same);
+          (subst (λ (x : ClassId). signature_of h (function_at x f.index) ≡ Some sig) class same);
     }))
-    (decide_below (λ i. signature_of h (function_of d i) ≡ Some sig) (length (functions_of h d) + 1) (λ i lt. decide_some (signature_of h (function_of d i)) sig))
+    (decide_below (λ i. signature_of h (function_at d i) ≡ Some sig) (length (functions_of h d) + 1) (λ i lt. decide_some (signature_of h (function_at d i)) sig))
 
 -- a subobject with a candidate
 pub record IsCandidateAt (h : Classes) (c : ClassId) (s : Subobject) (signature : Signature) (t : Subobject) : Type 0 where

@@ -16,7 +16,8 @@ use Rattle.cxx_overrider.specs.declared.Overrider.{Overrider}
 use Rattle.cxx_overrider.specs.Functions.{Signature, signature_of, says_virtual, is_pure, return_of}
 use Rattle.cxx_overrider.specs.Overriding.{HasPart, HasVirtual, IsVirtual, IsFinalOverrider, HasTwoFinalOverriders, IsAbstract}
 use Rattle.cxx_overrider.specs.Covariance.{Overrides, IsMismatch, IsIncompleteReturn, IsAmbiguousBase, IsAmbiguousReturn, HasOverridden, HasMismatch, HasIncompleteReturn, HasAmbiguousReturn}
-use Rattle.cxx_overrider.specs.Faults.{function_of, HasNoFault, too_large}
+use Rattle.cxx_overrider.specs.Virtuals.{function_at}
+use Rattle.cxx_overrider.specs.Faults.{HasNoFault, too_large}
 use Rattle.std.proofs.lemmas.Bool.{cases_lt}
 use Rattle.cxx_overrider.proofs.Numbering.{signature_index}
 use Rattle.cxx_overrider.proofs.CovarianceLemmas.{same_pointee}
@@ -48,12 +49,12 @@ decide_at : (h : Classes) (c : ClassId) (P : Subobject → FunctionId → Type 0
 decide_at h c P decide within s valid =
     let d = class_there h c s valid in
     ⊎_elim
-    (λ k. inl (record { function = function_of d.0 k.number; class = d.1; is = k.is }))
+    (λ k. inl (record { function = function_at d.0 k.number; class = d.1; is = k.is }))
     (λ none. inr (λ k.
     let same : k.function.class ≡ d.0 = let a = k.class in let b = d.1 in cc in
     none k.function.index (subst (λ (x : ClassId). k.function.index < length (functions_of h x) + 1) same (within s k.function k.is))
-    (subst (λ (x : ClassId). P s (function_of x k.function.index)) same k.is)))
-    (decide_below (λ i. P s (function_of d.0 i)) (length (functions_of h d.0) + 1) (λ i lt. decide s (function_of d.0 i) valid d.1))
+    (subst (λ (x : ClassId). P s (function_at x k.function.index)) same k.is)))
+    (decide_below (λ i. P s (function_at d.0 i)) (length (functions_of h d.0) + 1) (λ i lt. decide s (function_at d.0 i) valid d.1))
 
 pub decide_function : (h : Classes) → IsHierarchy h → (c : ClassId) (P : Subobject → FunctionId → Type 0) → ((s : Subobject) (f : FunctionId) → IsSubobject h c s → class_of s ≡ Some f.class → Decided (P s f)) → ((s : Subobject) (f : FunctionId) → P s f → f.index < length (functions_of h f.class) + 1) → Decided (HasFunction h c P)
 decide_function h keeps c P decide within = ⊎_elim

@@ -18,7 +18,8 @@ use Rattle.cxx_overrider.specs.declared.FunctionId.{FunctionId}
 use Rattle.cxx_overrider.specs.Overriding.{HasTwoFinalOverriders, IsAbstract}
 use Rattle.cxx_overrider.specs.Covariance.{HasMismatch, HasIncompleteReturn}
 use Rattle.cxx_overrider.specs.invariants.ReturnFlags.{HasFineReturn, IsReturnFault, mismatch as is_mismatch, incomplete as is_incomplete, ambiguous as is_ambiguous}
-use Rattle.cxx_overrider.specs.Faults.{Spot, spot, limit_part, function_part, overrider_part, member_part, size_part, IsBefore, by_class, by_part, by_item, by_test, function_of, Fault, too_large, mismatch, incomplete, ambiguous, two_overriders, abstract_member, HasNoFault, StopsIn}
+use Rattle.cxx_overrider.specs.Virtuals.{function_at}
+use Rattle.cxx_overrider.specs.Faults.{Spot, spot, limit_part, function_part, overrider_part, member_part, size_part, IsBefore, by_class, by_part, by_item, by_test, Fault, too_large, mismatch, incomplete, ambiguous, two_overriders, abstract_member, HasNoFault, StopsIn}
 use Rattle.cxx_overrider.specs.invariants.Pass.{TellsAbstract, IsFineTo, is_abstract_object, class_after}
 use Rattle.cxx_overrider.proofs.Lists.{or_front, or_last}
 use Rattle.std.proofs.lemmas.Option.{slice_get_within}
@@ -109,7 +110,7 @@ limit_only h _ _ (abstract_member c d i m at t k) e within = omega arith
 pub limit_fine : (h : Classes) (c : ClassId) → IsWithinLimits h c → IsFineTo h (spot c limit_part 0 0) → IsFineTo h (spot c function_part 0 0)
 limit_fine h c within = part_more h c limit_part 0 (λ b stop fault same part from. limit_only h b stop fault part (subst (λ (x : ClassId). IsWithinLimits h x) (sym same) within))
 
-mismatch_only : (h : Classes) (b : Spot) (stop : Stop) → Fault h b stop → b.part ≡ function_part → b.test ≡ 0 → HasMismatch h (function_of b.class b.item)
+mismatch_only : (h : Classes) (b : Spot) (stop : Stop) → Fault h b stop → b.part ≡ function_part → b.test ≡ 0 → HasMismatch h (function_at b.class b.item)
 mismatch_only h _ _ (too_large c lt k) e t = absurd (omega arith)
 mismatch_only h _ _ (mismatch c i f at k) e t = k
 mismatch_only h _ _ (incomplete c i f at k) e t = absurd (omega arith)
@@ -117,7 +118,7 @@ mismatch_only h _ _ (ambiguous c i f at k) e t = absurd (omega arith)
 mismatch_only h _ _ (two_overriders c class at k) e t = absurd (omega arith)
 mismatch_only h _ _ (abstract_member c d i m at ty k) e t = absurd (omega arith)
 
-incomplete_only : (h : Classes) (b : Spot) (stop : Stop) → Fault h b stop → b.part ≡ function_part → b.test ≡ 1 → HasIncompleteReturn h (function_of b.class b.item)
+incomplete_only : (h : Classes) (b : Spot) (stop : Stop) → Fault h b stop → b.part ≡ function_part → b.test ≡ 1 → HasIncompleteReturn h (function_at b.class b.item)
 incomplete_only h _ _ (too_large c lt k) e t = absurd (omega arith)
 incomplete_only h _ _ (mismatch c i f at k) e t = absurd (omega arith)
 incomplete_only h _ _ (incomplete c i f at k) e t = k
@@ -125,7 +126,7 @@ incomplete_only h _ _ (ambiguous c i f at k) e t = absurd (omega arith)
 incomplete_only h _ _ (two_overriders c class at k) e t = absurd (omega arith)
 incomplete_only h _ _ (abstract_member c d i m at ty k) e t = absurd (omega arith)
 
-function_only : (h : Classes) (b : Spot) (stop : Stop) → Fault h b stop → b.part ≡ function_part → HasFineReturn h (function_of b.class b.item) → ⊥
+function_only : (h : Classes) (b : Spot) (stop : Stop) → Fault h b stop → b.part ≡ function_part → HasFineReturn h (function_at b.class b.item) → ⊥
 function_only h _ _ (too_large c lt k) e fine = omega arith
 function_only h _ _ (mismatch c i f at k) e fine = fine.no_mismatch k
 function_only h _ _ (incomplete c i f at k) e fine = fine.complete k
@@ -141,10 +142,10 @@ few_functions h _ _ (ambiguous c i f at k) e = slice_get_within (functions_of h 
 few_functions h _ _ (two_overriders c class at k) e = absurd (omega arith)
 few_functions h _ _ (abstract_member c d i m at t k) e = absurd (omega arith)
 
-same_spot : (b : Spot) (c : ClassId) (i : ℕ) → b.class ≡ c → b.item ≡ i → function_of b.class b.item ≡ function_of c i
-same_spot b c i e f = ap (λ (x : ClassId). function_of x b.item) e ∙ ap (λ (x : ℕ). function_of c x) f
+same_spot : (b : Spot) (c : ClassId) (i : ℕ) → b.class ≡ c → b.item ≡ i → function_at b.class b.item ≡ function_at c i
+same_spot b c i e f = ap (λ (x : ClassId). function_at x b.item) e ∙ ap (λ (x : ℕ). function_at c x) f
 
-pub function_fine : (h : Classes) (c : ClassId) (i : ℕ) → HasFineReturn h (function_of c i) → IsFineTo h (spot c function_part i 0) → IsFineTo h (spot c function_part (i + 1) 0)
+pub function_fine : (h : Classes) (c : ClassId) (i : ℕ) → HasFineReturn h (function_at c i) → IsFineTo h (spot c function_part i 0) → IsFineTo h (spot c function_part (i + 1) 0)
 function_fine h c i fine = items_more h c function_part i (λ b stop fault same part item. function_only h b stop fault part (subst (λ (x : FunctionId). HasFineReturn h x) (sym (same_spot b c i same item)) fine))
 
 pub functions_fine : (h : Classes) (c : ClassId) (i : ℕ) → length (functions_of h c) ≤ i → IsFineTo h (spot c function_part i 0) → IsFineTo h (spot c overrider_part 0 0)
@@ -155,7 +156,7 @@ functions_fine h c i all = part_more h c function_part i
 pub first_fault : (h : Classes) (c : ClassId) (part item test : ℕ) (stop : Stop) → Fault h (spot c part item test) stop → IsFineTo h (spot c part item test) → StopsIn h c stop
 first_fault h c part item test stop fault fine = inr (record { part = part; item = item; test = test; fault = fault; first = fine.none })
 
-pub function_fault : (h : Classes) (c : ClassId) (i : ℕ) (f : Function ClassId) (rule : Rule) → slice_get (functions_of h c) i ≡ Some f → IsReturnFault h (function_of c i) rule → IsFineTo h (spot c function_part i 0) → StopsIn h c (Refused rule f.at)
+pub function_fault : (h : Classes) (c : ClassId) (i : ℕ) (f : Function ClassId) (rule : Rule) → slice_get (functions_of h c) i ≡ Some f → IsReturnFault h (function_at c i) rule → IsFineTo h (spot c function_part i 0) → StopsIn h c (Refused rule f.at)
 function_fault h c i f _ at (is_mismatch m) fine = first_fault h c function_part i 0 (Refused ReturnMismatch f.at) (mismatch c i f at m) fine
 function_fault h c i f _ at (is_incomplete not m) fine = first_fault h c function_part i 1 (Refused IncompleteClass f.at) (incomplete c i f at m)
     (tests_more h c function_part i 0 (λ b stop fault same part item test. not (subst (λ (x : FunctionId). HasMismatch h x) (same_spot b c i same item) (mismatch_only h b stop fault part test))) fine)

@@ -14,17 +14,17 @@ use Rattle.cxx_subobject.specs.Inside.{IsInside}
 use Rattle.cxx_subobject.proofs.InsideLemmas.{join_class, join_valid, inside_back, join_inside}
 use Rattle.cxx_subobject.proofs.PathLemmas.{virtual_below}
 use Rattle.cxx_overrider.specs.declared.places.Place.TheVariants.{Itself, InBase, InShared}
-use Rattle.cxx_overrider.specs.invariants.Places.{place_of, place_below, base_place, lifted, base_subobject, base_of, IsThrough}
+use Rattle.cxx_overrider.specs.invariants.Places.{place_of_subobject, place_below, base_place, lifted, direct_base_part, base_of, IsThrough}
 
 pub inside_antisymmetric : (h : Classes) → IsHierarchy h → (s t : Subobject) → IsInside h s t → IsInside h t s → s ≡ t
 inside_antisymmetric h keeps s t a b = inside_back h s t keeps a b
 
 -- what a direct base is in the class
-base_valid : (h : Classes) (c b : ClassId) (w : Bool) → IsDirectBase h c w b → IsSubobject h c (base_subobject w c b)
+base_valid : (h : Classes) (c b : ClassId) (w : Bool) → IsDirectBase h c w b → IsSubobject h c (direct_base_part w c b)
 base_valid h c b true d = shared b [] (direct c b d) tt
 base_valid h c b false d = whole (b ∷ []) (d, tt)
 
-base_class : (w : Bool) (c b : ClassId) → class_of (base_subobject w c b) ≡ Some b
+base_class : (w : Bool) (c b : ClassId) → class_of (direct_base_part w c b) ≡ Some b
 base_class true c b = refl
 base_class false c b = refl
 
@@ -43,11 +43,11 @@ through_inside h c base s t a b k =
     subst (λ (x : Subobject). IsInside h x t) (sym a.joined) (subst (λ (x : Subobject). IsInside h (join (base_of c base) a.part) x) (sym b.joined)
     (join_inside h base.class (base_of c base) a.part b.part (base_class base.is_virtual c base.class) a.valid k))
 
-join_false : (w : Bool) (c b : ClassId) (p : List ClassId) → w ≡ false → subobject Whole (c ∷ b ∷ p) ≡ join (base_subobject w c b) (subobject Whole (b ∷ p))
+join_false : (w : Bool) (c b : ClassId) (p : List ClassId) → w ≡ false → subobject Whole (c ∷ b ∷ p) ≡ join (direct_base_part w c b) (subobject Whole (b ∷ p))
 join_false true c b p e = cc
 join_false false c b p e = refl
 
-join_true : (w : Bool) (c b : ClassId) (p : List ClassId) → w ≡ true → subobject (Shared b) (b ∷ p) ≡ join (base_subobject w c b) (subobject Whole (b ∷ p))
+join_true : (w : Bool) (c b : ClassId) (p : List ClassId) → w ≡ true → subobject (Shared b) (b ∷ p) ≡ join (direct_base_part w c b) (subobject Whole (b ∷ p))
 join_true true c b p e = refl
 join_true false c b p e = cc
 
@@ -88,16 +88,16 @@ lifted_below : (base : Base ClassId) (q : List ClassId) → lifted base (place_b
 lifted_below base [] = refl
 lifted_below base (x ∷ q) = refl
 
-place_joined : (w : Bool) (c b : ClassId) (q : List ClassId) → place_of (join (base_subobject w c b) (subobject Whole (b ∷ q))) ≡ base_place w b
+place_joined : (w : Bool) (c b : ClassId) (q : List ClassId) → place_of_subobject (join (direct_base_part w c b) (subobject Whole (b ∷ q))) ≡ base_place w b
 place_joined true c b q = refl
 place_joined false c b q = refl
 
-place_lifted : (h : Classes) (c : ClassId) (base : Base ClassId) (part : Subobject) → IsSubobject h base.class part → place_of (join (base_of c base) part) ≡ lifted base (place_of part)
+place_lifted : (h : Classes) (c : ClassId) (base : Base ClassId) (part : Subobject) → IsSubobject h base.class part → place_of_subobject (join (base_of c base) part) ≡ lifted base (place_of_subobject part)
 place_lifted h c base _ (whole q m) = place_joined base.is_virtual c base.class q ∙ sym (lifted_below base q)
 place_lifted h c base _ (shared w q has m) = refl
 
-pub through_place : (h : Classes) (c : ClassId) (base : Base ClassId) (s : Subobject) → (t : IsThrough h c base s) → place_of s ≡ lifted base (place_of t.part)
-through_place h c base s t = ap place_of t.joined ∙ place_lifted h c base t.part t.valid
+pub through_place : (h : Classes) (c : ClassId) (base : Base ClassId) (s : Subobject) → (t : IsThrough h c base s) → place_of_subobject s ≡ lifted base (place_of_subobject t.part)
+through_place h c base s t = ap place_of_subobject t.joined ∙ place_lifted h c base t.part t.valid
 
 not_itself : (w : Bool) (b : ClassId) → Itself ≡ base_place w b → ⊥
 not_itself true b e = cc
@@ -111,7 +111,7 @@ base_place_shared : (w : Bool) (b d : ClassId) → InShared d ≡ base_place w b
 base_place_shared true b d e = (refl, cc)
 base_place_shared false b d e = cc
 
-same_place : (h : Classes) (c : ClassId) (base : Base ClassId) (s part : Subobject) → Contains (bases_of h c) base → IsSubobject h c s → IsSubobject h base.class part → place_of s ≡ lifted base (place_of part) → IsThrough h c base s
+same_place : (h : Classes) (c : ClassId) (base : Base ClassId) (s part : Subobject) → Contains (bases_of h c) base → IsSubobject h c s → IsSubobject h base.class part → place_of_subobject s ≡ lifted base (place_of_subobject part) → IsThrough h c base s
 same_place h c base _ _ l (whole [] k) (whole q m) e = absurd (not_itself base.is_virtual base.class (e ∙ lifted_below base q))
 same_place h c base _ _ l (whole [] k) (shared w q has m) e = cc
 same_place h c base _ _ l (whole (b ∷ p) k) (whole q m) e =
@@ -126,36 +126,36 @@ same_place h c base _ _ l (shared v p has k) (shared w q hw m) e =
     through_further h c base v p (subst (λ (x : ClassId). HasVirtualBase h base.class x) same hw) k
 
 -- a subobject at the place of one of a direct base is one of that base
-pub place_through : (h : Classes) (c : ClassId) (base : Base ClassId) (s t : Subobject) → Contains (bases_of h c) base → IsSubobject h c s → IsThrough h c base t → place_of s ≡ place_of t → IsThrough h c base s
+pub place_through : (h : Classes) (c : ClassId) (base : Base ClassId) (s t : Subobject) → Contains (bases_of h c) base → IsSubobject h c s → IsThrough h c base t → place_of_subobject s ≡ place_of_subobject t → IsThrough h c base s
 place_through h c base s t l valid k e = same_place h c base s k.part l valid k.valid (e ∙ through_place h c base t k)
 
 -- what lies in a subobject lies at its place, or in a shared base of its class
 abbrev pub AtPlace : Classes → Subobject → ClassId → Subobject → Type 0
-AtPlace h s d t = (place_of s ≡ place_of t) ⊎ ((w : ClassId) × (place_of t ≡ InShared w) × HasVirtualBase h d w)
+AtPlace h s d t = (place_of_subobject s ≡ place_of_subobject t) ⊎ ((w : ClassId) × (place_of_subobject t ≡ InShared w) × HasVirtualBase h d w)
 
-longer_place : (h : Classes) (c : ClassId) (s : Subobject) (q : List ClassId) → IsSubobject h c s → (place_of s ≡ Itself → ⊥) → place_of s ≡ place_of (subobject s.root (s.path ++ q))
+longer_place : (h : Classes) (c : ClassId) (s : Subobject) (q : List ClassId) → IsSubobject h c s → (place_of_subobject s ≡ Itself → ⊥) → place_of_subobject s ≡ place_of_subobject (subobject s.root (s.path ++ q))
 longer_place h c _ q (whole [] l) not_whole = absurd (not_whole refl)
 longer_place h c _ q (whole (b ∷ p) l) not_whole = refl
 longer_place h c _ q (shared v p has l) not_whole = refl
 
-inside_part : (h : Classes) (c d : ClassId) (s part : Subobject) → IsSubobject h c s → (place_of s ≡ Itself → ⊥) → IsSubobject h d part → AtPlace h s d (join s part)
+inside_part : (h : Classes) (c d : ClassId) (s part : Subobject) → IsSubobject h c s → (place_of_subobject s ≡ Itself → ⊥) → IsSubobject h d part → AtPlace h s d (join s part)
 inside_part h c d s _ valid not_whole (whole q m) = inl (longer_place h c s q valid not_whole)
 inside_part h c d s _ valid not_whole (shared w q has m) = inr (w, refl, has)
 
-pub inside_cases : (h : Classes) (c d : ClassId) (s t : Subobject) → IsSubobject h c s → class_of s ≡ Some d → (place_of s ≡ Itself → ⊥) → IsInside h s t → AtPlace h s d t
+pub inside_cases : (h : Classes) (c d : ClassId) (s t : Subobject) → IsSubobject h c s → class_of s ≡ Some d → (place_of_subobject s ≡ Itself → ⊥) → IsInside h s t → AtPlace h s d t
 inside_cases h c d s t valid e not_whole k =
     let same : k.class ≡ d = let f = k.of_class in cc in
     subst (λ (x : Subobject). AtPlace h s d x) (sym k.joined)
     (subst (λ (x : ClassId). AtPlace h s x (join s k.part)) same (inside_part h c k.class s k.part valid not_whole k.valid))
 
 -- the whole is what lies at its own place
-pub place_whole : (h : Classes) (c : ClassId) (s : Subobject) → IsSubobject h c s → place_of s ≡ Itself → s ≡ whole_of c
+pub place_whole : (h : Classes) (c : ClassId) (s : Subobject) → IsSubobject h c s → place_of_subobject s ≡ Itself → s ≡ whole_of c
 place_whole h c _ (whole [] l) e = refl
 place_whole h c _ (whole (b ∷ p) l) e = cc
 place_whole h c _ (shared v p has l) e = cc
 
 -- a subobject at a shared place begins there
-pub place_shared : (h : Classes) (c w : ClassId) (s : Subobject) → IsSubobject h c s → place_of s ≡ InShared w → (q : List ClassId) × (s ≡ subobject (Shared w) (w ∷ q)) × Leads h w q × HasVirtualBase h c w
+pub place_shared : (h : Classes) (c w : ClassId) (s : Subobject) → IsSubobject h c s → place_of_subobject s ≡ InShared w → (q : List ClassId) × (s ≡ subobject (Shared w) (w ∷ q)) × Leads h w q × HasVirtualBase h c w
 place_shared h c w _ (whole [] l) e = cc
 place_shared h c w _ (whole (b ∷ p) l) e = cc
 place_shared h c w _ (shared v p has l) e =
@@ -163,7 +163,7 @@ place_shared h c w _ (shared v p has l) e =
     (p, ap (λ (x : ClassId). subobject (Shared x) (x ∷ p)) same, subst (λ (x : ClassId). Leads h x p) same l, subst (λ (x : ClassId). HasVirtualBase h c x) same has)
 
 -- subobjects of a direct base stay apart in the class
-joined_apart : (h : Classes) → IsHierarchy h → (w : Bool) (c b v : ClassId) (p q : List ClassId) → HasVirtualBase h b v → subobject (Shared v) (v ∷ q) ≡ join (base_subobject w c b) (subobject Whole (b ∷ p)) → ⊥
+joined_apart : (h : Classes) → IsHierarchy h → (w : Bool) (c b v : ClassId) (p q : List ClassId) → HasVirtualBase h b v → subobject (Shared v) (v ∷ q) ≡ join (direct_base_part w c b) (subobject Whole (b ∷ p)) → ⊥
 joined_apart h keeps true c b v p q has e = let same : v.0 ≡ b.0 = ap root_number e in let lt = virtual_below h keeps b v has in omega arith
   where
     number_in : Root → ℕ
@@ -177,7 +177,7 @@ joined_apart h keeps false c b v p q has e = let f : Shared v ≡ Whole = ap (λ
     apart : Shared v ≡ Whole → ⊥
     apart k = cc
 
-joined_same : (w : Bool) (c b : ClassId) (p q : List ClassId) → join (base_subobject w c b) (subobject Whole (b ∷ p)) ≡ join (base_subobject w c b) (subobject Whole (b ∷ q)) → p ≡ q
+joined_same : (w : Bool) (c b : ClassId) (p q : List ClassId) → join (direct_base_part w c b) (subobject Whole (b ∷ p)) ≡ join (direct_base_part w c b) (subobject Whole (b ∷ q)) → p ≡ q
 joined_same true c b p q e = let f : b ∷ p ≡ b ∷ q = ap (λ (s : Subobject). s.path) e in cc
 joined_same false c b p q e = let f : c ∷ b ∷ p ≡ c ∷ b ∷ q = ap (λ (s : Subobject). s.path) e in cc
 

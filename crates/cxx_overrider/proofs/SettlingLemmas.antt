@@ -21,7 +21,7 @@ use Rattle.cxx_overrider.specs.declared.settling.Settled.{Settled}
 use Rattle.cxx_overrider.specs.declared.settling.Settled.TheVariants.{Nothing, One, Two}
 use Rattle.cxx_overrider.specs.Functions.{Signature, signature_of}
 use Rattle.cxx_overrider.specs.Overriding.{HasVirtual, IsLeft, HasTwoFinalOverriders}
-use Rattle.cxx_overrider.specs.invariants.Places.{place_of, lifted, base_place, base_of, IsThrough}
+use Rattle.cxx_overrider.specs.invariants.Places.{place_of_subobject, lifted, base_place, base_of, IsThrough}
 use Rattle.cxx_overrider.specs.invariants.Entries.{Declares, Tells, TellsOf}
 use Rattle.cxx_overrider.specs.invariants.Settling.{Holds, StandsFor, HasHolder, AreCandidates, IsAmong, IsOrder, IsTop, IsUnheld, IsAbove, AreTwoTops, IsPicked, IsSettled}
 use Rattle.cxx_overrider.specs.invariants.Pure.{DeclaresNone}
@@ -57,8 +57,8 @@ lifted_apart base (InBase d) e = by_way base.is_virtual base.class e
     by_way false b k = cc
 lifted_apart base (InShared w) e = cc
 
-through_apart_whole : (h : Classes) (c : ClassId) (base : Base ClassId) (s : Subobject) → IsThrough h c base s → place_of s ≡ Itself → ⊥
-through_apart_whole h c base s t e = lifted_apart base (place_of t.part) (sym (through_place h c base s t) ∙ e)
+through_apart_whole : (h : Classes) (c : ClassId) (base : Base ClassId) (s : Subobject) → IsThrough h c base s → place_of_subobject s ≡ Itself → ⊥
+through_apart_whole h c base s t e = lifted_apart base (place_of_subobject t.part) (sym (through_place h c base s t) ∙ e)
 
 -- by places, and by paths
 holds_inside : (h : Classes) (c v : ClassId) (s : Signature) (x y : Entry) → (a : StandsFor h c v s x) → (b : StandsFor h c v s y) → Holds h x y → IsInside h a.subobject b.subobject
@@ -66,7 +66,7 @@ holds_inside h c v s x y a b k =
     let valid = through_valid h c b.base b.subobject b.listed b.through in
     ⊎_elim
     (λ e.
-    let same : place_of b.subobject ≡ place_of a.subobject = b.place ∙ (sym e ∙ sym a.place) in
+    let same : place_of_subobject b.subobject ≡ place_of_subobject a.subobject = b.place ∙ (sym e ∙ sym a.place) in
     let t = place_through h c a.base b.subobject a.subobject a.listed valid a.through same in
     let d = declares_below h c v s a.base (overrider b.subobject y.function) t (stands_declares h c v s y b) in
     through_inside h c a.base a.subobject b.subobject a.through t (a.greatest.all (overrider t.part y.function) d))
@@ -196,7 +196,7 @@ two_refused h keeps c v s xs one other none are two hasv hasf =
       other = overrider k2.subobject other.function;
       one_left = unheld_left h keeps c v s xs one u none are two.one_unheld valid hasv;
       other_left = unheld_left h keeps c v s xs other u none are two.other_unheld valid hasv;
-      differ = λ e. two.apart (inl (sym k1.place ∙ (ap (λ (o : Overrider). place_of o.at) e ∙ k2.place)));
+      differ = λ e. two.apart (inl (sym k1.place ∙ (ap (λ (o : Overrider). place_of_subobject o.at) e ∙ k2.place)));
     }
 
 -- the list of candidates

@@ -11,6 +11,7 @@ use Rattle.cxx_hierarchy.specs.declared.stop.LimitNo.TheVariants.{L5}
 use Rattle.cxx_hierarchy.specs.Classes.{Class, Classes, class_at, members_of, functions_of}
 use Rattle.cxx_overrider.specs.declared.FunctionId.{FunctionId}
 use Rattle.cxx_subobject.specs.Parts.{IsWithinLimits}
+use Rattle.cxx_overrider.specs.Virtuals.{function_at}
 use Rattle.cxx_overrider.specs.Overriding.{HasTwoFinalOverriders, IsAbstract}
 use Rattle.cxx_overrider.specs.Covariance.{HasMismatch, HasIncompleteReturn, HasAmbiguousReturn}
 
@@ -51,16 +52,12 @@ pub data IsBefore : Spot → Spot → Type 0 where
   by_item : (a b : Spot) → a.class ≡ b.class → a.part ≡ b.part → a.item < b.item → IsBefore a b
   by_test : (a b : Spot) → a.class ≡ b.class → a.part ≡ b.part → a.item ≡ b.item → a.test < b.test → IsBefore a b
 
--- the function of an index
-abbrev pub function_of : ClassId → ℕ → FunctionId
-function_of c index = record { class = c; index = index }
-
 -- the condition asked at the spot refuses the hierarchy with the stop
 pub data Fault (h : Classes) : Spot → Stop → Type 0 where
   too_large : (c : ClassId) → c.0 < length h → (IsWithinLimits h c → ⊥) → Fault h (spot c limit_part 0 0) (Limit L5)
-  mismatch : (c : ClassId) (i : ℕ) (f : Function ClassId) → slice_get (functions_of h c) i ≡ Some f → HasMismatch h (function_of c i) → Fault h (spot c function_part i 0) (Refused ReturnMismatch f.at)
-  incomplete : (c : ClassId) (i : ℕ) (f : Function ClassId) → slice_get (functions_of h c) i ≡ Some f → HasIncompleteReturn h (function_of c i) → Fault h (spot c function_part i 1) (Refused IncompleteClass f.at)
-  ambiguous : (c : ClassId) (i : ℕ) (f : Function ClassId) → slice_get (functions_of h c) i ≡ Some f → HasAmbiguousReturn h (function_of c i) → Fault h (spot c function_part i 2) (Refused AmbiguousCovariant f.at)
+  mismatch : (c : ClassId) (i : ℕ) (f : Function ClassId) → slice_get (functions_of h c) i ≡ Some f → HasMismatch h (function_at c i) → Fault h (spot c function_part i 0) (Refused ReturnMismatch f.at)
+  incomplete : (c : ClassId) (i : ℕ) (f : Function ClassId) → slice_get (functions_of h c) i ≡ Some f → HasIncompleteReturn h (function_at c i) → Fault h (spot c function_part i 1) (Refused IncompleteClass f.at)
+  ambiguous : (c : ClassId) (i : ℕ) (f : Function ClassId) → slice_get (functions_of h c) i ≡ Some f → HasAmbiguousReturn h (function_at c i) → Fault h (spot c function_part i 2) (Refused AmbiguousCovariant f.at)
   two_overriders : (c : ClassId) (class : Class) → class_at h c ≡ Some class → HasTwoFinalOverriders h c → Fault h (spot c overrider_part 0 0) (Refused TwoFinalOverriders class.at)
   abstract_member : (c d : ClassId) (i : ℕ) (m : Member ClassId) → slice_get (members_of h c) i ≡ Some m → m.ty ≡ Object d → IsAbstract h d → Fault h (spot c member_part i 0) (Refused Abstract m.at)
 

@@ -78,13 +78,13 @@ implicit_index class Virtual = []
 abbrev pub indices_in : Class → List ℕ
 indices_in class = filter_map (λ (part : PartAt). index_of class part.kind part.number) class.order ++ implicit_index class class.destructor
 
-abbrev pub functions_in : ClassId → Option Class → List FunctionId
-functions_in c None = []
-functions_in c (Some class) = map (function_at c) (indices_in class)
+abbrev pub function_ids_in : ClassId → Option Class → List FunctionId
+function_ids_in c None = []
+function_ids_in c (Some class) = map (function_at c) (indices_in class)
 
 -- the functions that a class declares, its destructor among them, in the order of declaration
 abbrev pub declared : Classes → ClassId → List FunctionId
-declared h c = functions_in c (class_at h c)
+declared h c = function_ids_in c (class_at h c)
 
 -- the class declares a function of this name with the word `virtual`
 abbrev pub says_named : Classes → FunctionId → Option ClassId → Bool

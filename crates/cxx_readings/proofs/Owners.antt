@@ -20,7 +20,7 @@ use Rattle.cxx_syntax.specs.declared.part.Part.{Part}
 use Rattle.cxx_syntax.specs.declared.part.Part.TheVariants as part
 use Rattle.cxx_syntax.specs.declared.part.Item.{Item}
 use Rattle.cxx_syntax.specs.Parts.{Spelled, PartReads, a_label, a_field, a_bit_field, a_function, a_pure_function, a_constructor, a_destructor, PartsRead, no_part, one_part}
-use Rattle.cxx_syntax.specs.Definitions.{function_in, functions_of, in_turn, part_at, record_of, body_at, bodies_of}
+use Rattle.cxx_syntax.specs.Definitions.{function_from, functions_among, given_by_parts, part_at, record_of, body_at, bodies_of}
 use Rattle.cxx_syntax.specs.Sources.{ItemReads, a_class, a_forward, a_global, a_main, ItemsRead, no_item, one_item, record_in, bodies_in, SourceReads, a_source}
 use Rattle.cxx_syntax.specs.Owners.{function_owner, owner_at, owner_in, IsIn, AreBodiesOf, no_class, one_class}
 
@@ -47,8 +47,8 @@ parts_fit no_part = tt
 parts_fit (one_part h hs) = (part_fits h, parts_fit hs)
 
 -- the function that a part names
-named : (before ps : List Part) (f : Function Spelled) (ty_at : ℕ) (b : Option BodyTree) → slice_get (functions_of (before ++ part.Function f ty_at b ∷ ps)) (length (functions_of before)) ≡ Some f
-named before ps f ty_at b = rw (filter_map-append function_in before (part.Function f ty_at b ∷ ps)) (get_behind (functions_of before) f (functions_of ps))
+named : (before ps : List Part) (f : Function Spelled) (ty_at : ℕ) (b : Option BodyTree) → slice_get (functions_among (before ++ part.Function f ty_at b ∷ ps)) (length (functions_among before)) ≡ Some f
+named before ps f ty_at b = rw (filter_map-append function_from before (part.Function f ty_at b ∷ ps)) (get_behind (functions_among before) f (functions_among ps))
 
 pure_owner : (f : Function Spelled) (n : ℕ) → f.is_pure ≡ true → function_owner n (Some f) ≡ None
 pure_owner f n e = rw e refl
@@ -71,28 +71,28 @@ abbrev function_part : ℕ → Function Spelled → ℕ → PartAt
 function_part n f ty_at = record { kind = kind.Function; number = n; ty_at = Some ty_at; at = f.at }
 
 -- the body of a part is that of the part
-owner_of_part : (class : Spelled) (before ps : List Part) (p : Part) → PartFits p → map owner_in (body_at class before p) ≡ filter_map (owner_at (functions_of (before ++ p ∷ ps))) (part_at before p)
+owner_of_part : (class : Spelled) (before ps : List Part) (p : Part) → PartFits p → map owner_in (body_at class before p) ≡ filter_map (owner_at (functions_among (before ++ p ∷ ps))) (part_at before p)
 owner_of_part class before ps (part.Label p) h = refl
 owner_of_part class before ps (part.Field m ty_at) h = refl
 owner_of_part class before ps (part.Function f ty_at None) h =
-    let e = ap (function_owner (length (functions_of before))) (named before ps f ty_at None) ∙ pure_owner f (length (functions_of before)) h in
-    sym (listed_map (owner_at (functions_of (before ++ part.Function f ty_at None ∷ ps))) (function_part (length (functions_of before)) f ty_at) ∙ ap listed e)
+    let e = ap (function_owner (length (functions_among before))) (named before ps f ty_at None) ∙ pure_owner f (length (functions_among before)) h in
+    sym (listed_map (owner_at (functions_among (before ++ part.Function f ty_at None ∷ ps))) (function_part (length (functions_among before)) f ty_at) ∙ ap listed e)
 owner_of_part class before ps (part.Function f ty_at (Some t)) h =
-    let e = ap (function_owner (length (functions_of before))) (named before ps f ty_at (Some t)) ∙ other_owner f (length (functions_of before)) h in
-    sym (listed_map (owner_at (functions_of (before ++ part.Function f ty_at (Some t) ∷ ps))) (function_part (length (functions_of before)) f ty_at) ∙ ap listed e)
+    let e = ap (function_owner (length (functions_among before))) (named before ps f ty_at (Some t)) ∙ other_owner f (length (functions_among before)) h in
+    sym (listed_map (owner_at (functions_among (before ++ part.Function f ty_at (Some t) ∷ ps))) (function_part (length (functions_among before)) f ty_at) ∙ ap listed e)
 owner_of_part class before ps (part.Constructor at is t) h = refl
 owner_of_part class before ps (part.Destructor v at t) h = refl
 
-owners : (class : Spelled) (before ps : List Part) → AllByRecursion PartFits ps → map owner_in (in_turn (body_at class) before ps) ≡ filter_map (owner_at (functions_of (before ++ ps))) (in_turn part_at before ps)
+owners : (class : Spelled) (before ps : List Part) → AllByRecursion PartFits ps → map owner_in (given_by_parts (body_at class) before ps) ≡ filter_map (owner_at (functions_among (before ++ ps))) (given_by_parts part_at before ps)
 owners class before [] h = refl
 owners class before (p ∷ ps) (h, hs) =
-    let fs : List (Function Spelled) = functions_of (before ++ p ∷ ps) in
-    let same : functions_of ((before ++ p ∷ []) ++ ps) ≡ fs = ap functions_of (append_assoc before (p ∷ []) ps) in
-    let later = owners class (before ++ p ∷ []) ps hs ∙ ap (λ (gs : List (Function Spelled)). filter_map (owner_at gs) (in_turn part_at (before ++ p ∷ []) ps)) same in
-    map-append owner_in (body_at class before p) (in_turn (body_at class) (before ++ p ∷ []) ps)
-    ∙ (ap (λ u. u ++ map owner_in (in_turn (body_at class) (before ++ p ∷ []) ps)) (owner_of_part class before ps p h)
+    let fs : List (Function Spelled) = functions_among (before ++ p ∷ ps) in
+    let same : functions_among ((before ++ p ∷ []) ++ ps) ≡ fs = ap functions_among (append_assoc before (p ∷ []) ps) in
+    let later = owners class (before ++ p ∷ []) ps hs ∙ ap (λ (gs : List (Function Spelled)). filter_map (owner_at gs) (given_by_parts part_at (before ++ p ∷ []) ps)) same in
+    map-append owner_in (body_at class before p) (given_by_parts (body_at class) (before ++ p ∷ []) ps)
+    ∙ (ap (λ u. u ++ map owner_in (given_by_parts (body_at class) (before ++ p ∷ []) ps)) (owner_of_part class before ps p h)
     ∙ (ap (λ u. filter_map (owner_at fs) (part_at before p) ++ u) later
-    ∙ sym (filter_map-append (owner_at fs) (part_at before p) (in_turn part_at (before ++ p ∷ []) ps))))
+    ∙ sym (filter_map-append (owner_at fs) (part_at before p) (given_by_parts part_at (before ++ p ∷ []) ps))))
 
 -- each body is one in the class
 all_join : {X : Type 0} (P : X → Type 0) (xs ys : List X) → AllByRecursion P xs → AllByRecursion P ys → AllByRecursion P (xs ++ ys)
@@ -107,9 +107,9 @@ body_in r before (part.Function f ty_at (Some t)) = (record { class = refl; init
 body_in r before (part.Constructor at is t) = (record { class = refl; inits = tt }, tt)
 body_in r before (part.Destructor v at t) = (record { class = refl; inits = refl }, tt)
 
-bodies_in_class : (r : ClassRec Spelled) (before ps : List Part) → AllByRecursion (IsIn r) (in_turn (body_at r.name) before ps)
+bodies_in_class : (r : ClassRec Spelled) (before ps : List Part) → AllByRecursion (IsIn r) (given_by_parts (body_at r.name) before ps)
 bodies_in_class r before [] = tt
-bodies_in_class r before (p ∷ ps) = all_join (IsIn r) (body_at r.name before p) (in_turn (body_at r.name) (before ++ p ∷ []) ps) (body_in r before p) (bodies_in_class r (before ++ p ∷ []) ps)
+bodies_in_class r before (p ∷ ps) = all_join (IsIn r) (body_at r.name before p) (given_by_parts (body_at r.name) (before ++ p ∷ []) ps) (body_in r before p) (bodies_in_class r (before ++ p ∷ []) ps)
 
 class_bodies : (text : List ℕ) (n : Lexeme) (bases : List (Base Spelled)) (ps : List Part) (rs : List (ClassRec Spelled)) (more : List Body) → AllByRecursion PartFits ps → AreBodiesOf rs more → AreBodiesOf (record_of text n bases ps ∷ rs) (bodies_of (bytes_of text n) ps ++ more)
 class_bodies text n bases ps rs more h k =

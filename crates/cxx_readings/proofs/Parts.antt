@@ -18,7 +18,7 @@ use Rattle.cxx_hierarchy.specs.declared.records.ReturnType.TheVariants as return
 use Rattle.cxx_syntax.specs.Operands.{spot_of}
 use Rattle.cxx_syntax.specs.Statements.{ScalarReads, ValueReads, a_scalar, a_class_pointer, IsFirst}
 use Rattle.cxx_syntax.specs.declared.part.Part.TheVariants as part
-use Rattle.cxx_syntax.specs.Parts.{Spelled, max_count, access_of, IsAccess, base_of, a_base, a_virtual_base, an_access_base, a_virtual_access_base, an_access_virtual_base, no_more_bases, one_more_base, a_value_field, an_object_field, no_count, a_count, ReturnReads, a_void_return, a_value_return, ParamReads, a_param, no_more_params, one_more_param, no_params, some_params, a_member_init, no_more_inits, one_more_init, no_inits, some_inits, VirtualReads, not_virtual, a_virtual, bit_field, a_label, a_field, a_bit_field, a_function, a_pure_function, a_constructor, a_destructor, public_after, no_part, one_part}
+use Rattle.cxx_syntax.specs.Parts.{Spelled, max_count, access_of, IsAccess, base_by_token, a_base, a_virtual_base, an_access_base, a_virtual_access_base, an_access_virtual_base, no_more_bases, one_more_base, a_value_field, an_object_field, no_count, a_count, ReturnReads, a_void_return, a_value_return, ParamReads, a_param, no_more_params, one_more_param, no_params, some_params, a_member_init, no_more_inits, one_more_init, no_inits, some_inits, VirtualReads, not_virtual, a_virtual, bit_field, a_label, a_field, a_bit_field, a_function, a_pure_function, a_constructor, a_destructor, public_after, no_part, one_part}
 use Rattle.cxx_readings.proofs.Meanings.{ClassEnds, APart, SomeParts, Got, Gots, all_done, one_done, NextGots, Step}
 use Rattle.cxx_readings.proofs.Fronts.{here, name_here, first_here, name_first, scalar_front, value_front}
 use Rattle.cxx_readings.proofs.Statements.{block_of}
@@ -28,17 +28,17 @@ access_here is e = record { front = refl; access = ap access_of is ∙ e }
 
 -- bases
 pub base_after_virtual : (text : List ℕ) → Step text BaseAfterVirtual
-base_after_virtual text Public l ts r s v s' is (one_done n _ _ all_done) = λ default w all h. (base_of text n.0 true true, a_virtual_access_base h (access_here is refl) n.1 refl)
-base_after_virtual text Protected l ts r s v s' is (one_done n _ _ all_done) = λ default w all h. (base_of text n.0 true false, a_virtual_access_base h (access_here is refl) n.1 refl)
-base_after_virtual text Private l ts r s v s' is (one_done n _ _ all_done) = λ default w all h. (base_of text n.0 true false, a_virtual_access_base h (access_here is refl) n.1 refl)
-base_after_virtual text Name l ts r s v s' is all_done = λ default w all h. (base_of text l true default, a_virtual_base h (name_here (ap is_name is)) refl)
-base_after_virtual text OwnName l ts r s v s' is all_done = λ default w all h. (base_of text l true default, a_virtual_base h (name_here (ap is_name is)) refl)
+base_after_virtual text Public l ts r s v s' is (one_done n _ _ all_done) = λ default w all h. (base_by_token text n.0 true true, a_virtual_access_base h (access_here is refl) n.1 refl)
+base_after_virtual text Protected l ts r s v s' is (one_done n _ _ all_done) = λ default w all h. (base_by_token text n.0 true false, a_virtual_access_base h (access_here is refl) n.1 refl)
+base_after_virtual text Private l ts r s v s' is (one_done n _ _ all_done) = λ default w all h. (base_by_token text n.0 true false, a_virtual_access_base h (access_here is refl) n.1 refl)
+base_after_virtual text Name l ts r s v s' is all_done = λ default w all h. (base_by_token text l true default, a_virtual_base h (name_here (ap is_name is)) refl)
+base_after_virtual text OwnName l ts r s v s' is all_done = λ default w all h. (base_by_token text l true default, a_virtual_base h (name_here (ap is_name is)) refl)
 base_after_virtual text _ l ts r s v s' is h = absurd h
 
 pub base_after_access : (text : List ℕ) → Step text BaseAfterAccess
-base_after_access text Virtual l ts r s v s' is (one_done n _ _ all_done) = λ default p w all h. (base_of text n.0 true p, an_access_virtual_base h (here is) n.1 refl)
-base_after_access text Name l ts r s v s' is all_done = λ default p w all h. (base_of text l false p, an_access_base h (name_here (ap is_name is)) refl)
-base_after_access text OwnName l ts r s v s' is all_done = λ default p w all h. (base_of text l false p, an_access_base h (name_here (ap is_name is)) refl)
+base_after_access text Virtual l ts r s v s' is (one_done n _ _ all_done) = λ default p w all h. (base_by_token text n.0 true p, an_access_virtual_base h (here is) n.1 refl)
+base_after_access text Name l ts r s v s' is all_done = λ default p w all h. (base_by_token text l false p, an_access_base h (name_here (ap is_name is)) refl)
+base_after_access text OwnName l ts r s v s' is all_done = λ default p w all h. (base_by_token text l false p, an_access_base h (name_here (ap is_name is)) refl)
 base_after_access text _ l ts r s v s' is h = absurd h
 
 pub base : (text : List ℕ) → Step text ABase
@@ -46,8 +46,8 @@ base text Virtual l ts r s v s' is (one_done g _ _ all_done) = λ default. g def
 base text Public l ts r s v s' is (one_done g _ _ all_done) = λ default. g default true l (l ∷ ts) (access_here is refl)
 base text Protected l ts r s v s' is (one_done g _ _ all_done) = λ default. g default false l (l ∷ ts) (access_here is refl)
 base text Private l ts r s v s' is (one_done g _ _ all_done) = λ default. g default false l (l ∷ ts) (access_here is refl)
-base text Name l ts r s v s' is all_done = λ default. (base_of text l false default, a_base (name_here (ap is_name is)) refl)
-base text OwnName l ts r s v s' is all_done = λ default. (base_of text l false default, a_base (name_here (ap is_name is)) refl)
+base text Name l ts r s v s' is all_done = λ default. (base_by_token text l false default, a_base (name_here (ap is_name is)) refl)
+base text OwnName l ts r s v s' is all_done = λ default. (base_by_token text l false default, a_base (name_here (ap is_name is)) refl)
 base text _ l ts r s v s' is h = absurd h
 
 pub class_ends : {text : List ℕ} {l : Lexeme} {ts r : List Lexeme} {v s' : State} → l.sort ≡ OpenBrace → Gots text (PartsEnd ∷ Only Semicolon ∷ []) v ts s' r → (default : Bool) → ClassEnds text default (l ∷ ts) r

@@ -9,7 +9,7 @@ use Rattle.cxx_syntax.specs.declared.tree.PlaceText.{PlaceText}
 use Rattle.cxx_syntax.specs.declared.tree.CallText.{CallText}
 use Rattle.cxx_syntax.specs.declared.tree.CastText.{CastText}
 use Rattle.cxx_syntax.specs.declared.tree.Right.{Right}
-use Rattle.cxx_syntax.specs.Operands.{IsCast, IsOperator, PointerReads, a_name, a_this, ConstantReads, a_number, a_negative, a_true, a_false, OperandReads, name_operand, this_operand, constant_operand, IndexReads, no_index, an_index, PartReads, a_part, DotsRead, no_dot, a_dot, PartsRead, some_parts, PlaceReads, a_place, MoreRead, no_more_operands, one_more_operand, ArgumentsRead, no_arguments, some_arguments, CallReads, a_call, a_qualified_call, CastReads, a_named_cast, a_plain_cast, RightReads, an_operand, a_binary, a_not, a_place_read, an_address, a_call_read, a_new, a_cast, a_type_equal}
+use Rattle.cxx_syntax.specs.Operands.{IsCastWord, IsOperator, PointerReads, a_name, a_this, ConstantReads, a_number, a_negative, a_true, a_false, OperandReads, name_operand, this_operand, constant_operand, IndexReads, no_index, an_index, PartReads, a_part, DotsRead, no_dot, a_dot, PartsRead, some_parts, PlaceReads, a_place, MoreRead, no_more_operands, one_more_operand, ArgumentsRead, no_arguments, some_arguments, CallReads, a_call, a_qualified_call, CastReads, a_named_cast, a_plain_cast, RightReads, an_operand, a_binary, a_not, a_place_read, an_address, a_call_read, a_new, a_cast, a_type_equal}
 use Rattle.cxx_grammar.specs.declared.sort.Sort.{Sort}
 use Rattle.cxx_grammar.specs.Front.{Is, IsName, IsNumber}
 use Rattle.cxx_syntax.specs.declared.tree.CastKind.{CastKind}
@@ -28,7 +28,7 @@ name_tail {P} {l = l} {rest = rest} falls i p = falls l rest (subst P i.front p)
 pub number_tail : {P : List Lexeme → Type 0} {l : Lexeme} {ts rest : List Lexeme} → Falls P → IsNumber l ts rest → P ts → P rest
 number_tail {P} {l = l} {rest = rest} falls i p = falls l rest (subst P i.front p)
 
-pub cast_word_tail : {P : List Lexeme → Type 0} {s : CastKind} {l : Lexeme} {ts rest : List Lexeme} → Falls P → IsCast s l ts rest → P ts → P rest
+pub cast_word_tail : {P : List Lexeme → Type 0} {s : CastKind} {l : Lexeme} {ts rest : List Lexeme} → Falls P → IsCastWord s l ts rest → P ts → P rest
 cast_word_tail {P} {l = l} {rest = rest} falls i p = falls l rest (subst P i.front p)
 
 pub operator_tail : {P : List Lexeme → Type 0} {s : BinaryOp} {l : Lexeme} {ts rest : List Lexeme} → Falls P → IsOperator s l ts rest → P ts → P rest

@@ -21,7 +21,7 @@ use Rattle.cxx_syntax.specs.declared.tree.Right.TheVariants as right
 use Rattle.cxx_syntax.specs.declared.tree.Statement.{Statement}
 use Rattle.cxx_syntax.specs.declared.tree.StatementKind.{StatementKind}
 use Rattle.cxx_syntax.specs.declared.tree.StatementKind as kind
-use Rattle.cxx_syntax.specs.Operands.{spot_of, PointerReads, a_name, a_this, OperandReads, name_operand, this_operand, an_index, no_index, a_part, DotsRead, no_dot, a_dot, PartsRead, some_parts, PlaceReads, a_place, no_more_operands, one_more_operand, no_arguments, some_arguments, CallReads, a_call, a_qualified_call, cast_of, a_named_cast, a_plain_cast, operator_of, an_operand, a_binary, a_not, a_place_read, an_address, a_call_read, a_new, a_cast, a_type_equal}
+use Rattle.cxx_syntax.specs.Operands.{spot_of, PointerReads, a_name, a_this, OperandReads, name_operand, this_operand, an_index, no_index, a_part, DotsRead, no_dot, a_dot, PartsRead, some_parts, PlaceReads, a_place, no_more_operands, one_more_operand, no_arguments, some_arguments, CallReads, a_call, a_qualified_call, cast_kind, a_named_cast, a_plain_cast, operator_of, an_operand, a_binary, a_not, a_place_read, an_address, a_call_read, a_new, a_cast, a_type_equal}
 use Rattle.cxx_syntax.specs.Statements.{no_init, an_init, no_result, a_result, IsFirst, BeginsAt, a_write, a_call_statement}
 use Rattle.cxx_readings.proofs.Meanings.{RightThen, UseReads, EndReads, Got, Gots, all_done, one_done, NextGots, Step}
 use Rattle.cxx_readings.proofs.Fronts.{here, name_here, name_first, is_first, operand_front, constant_front}
@@ -143,9 +143,9 @@ right_read text Bang l ts r s v s' is (one_done o _ _ (one_done z _ _ all_done))
 right_read text Ampersand l ts r s v s' is (one_done p _ _ all_done) = (right.Address p.0, p.1, p.2, an_address (here is) p.3, p.4)
 right_read text New l ts r s v s' is (one_done n _ _ (one_done z _ _ all_done)) = (right.New (spot_of text n.0), _, z.0, a_new (here is) n.1 refl, z.1)
 right_read text StaticCast l ts r s v s' is (one_done o _ _ (one_done n _ _ (one_done m _ _ (one_done g _ _ (one_done q _ _ (one_done p _ _ (one_done c _ _ (one_done z _ _ all_done)))))))) =
-    (right.Cast (record { kind = cast.Static; target = spot_of text n.0; pointer = p.0 }), _, z.0, a_cast (a_named_cast (record { front = refl; cast = ap cast_of is }) o.1 n.1 m.1 g.1 q.1 p.1 c.1 refl), z.1)
+    (right.Cast (record { kind = cast.Static; target = spot_of text n.0; pointer = p.0 }), _, z.0, a_cast (a_named_cast (record { front = refl; cast = ap cast_kind is }) o.1 n.1 m.1 g.1 q.1 p.1 c.1 refl), z.1)
 right_read text DynamicCast l ts r s v s' is (one_done o _ _ (one_done n _ _ (one_done m _ _ (one_done g _ _ (one_done q _ _ (one_done p _ _ (one_done c _ _ (one_done z _ _ all_done)))))))) =
-    (right.Cast (record { kind = cast.Dynamic; target = spot_of text n.0; pointer = p.0 }), _, z.0, a_cast (a_named_cast (record { front = refl; cast = ap cast_of is }) o.1 n.1 m.1 g.1 q.1 p.1 c.1 refl), z.1)
+    (right.Cast (record { kind = cast.Dynamic; target = spot_of text n.0; pointer = p.0 }), _, z.0, a_cast (a_named_cast (record { front = refl; cast = ap cast_kind is }) o.1 n.1 m.1 g.1 q.1 p.1 c.1 refl), z.1)
 right_read text OpenParen l ts r s v s' is (one_done n _ _ (one_done m _ _ (one_done c _ _ (one_done p _ _ (one_done z _ _ all_done))))) =
     (right.Cast (record { kind = cast.Plain; target = spot_of text n.0; pointer = p.0 }), _, z.0, a_cast (a_plain_cast (here is) n.1 m.1 c.1 p.1 refl refl), z.1)
 right_read text Typeid l ts r s v s' is (one_done o _ _ (one_done m _ _ (one_done p _ _ (one_done c _ _ (one_done q _ _ (one_done j _ _ (one_done u _ _ (one_done n _ _ (one_done y _ _ (one_done z _ _ all_done)))))))))) =

@@ -16,7 +16,7 @@ use Rattle.cxx_syntax.specs.Operands.{spot_of}
 use Rattle.cxx_syntax.specs.Statements.{ValueReads, a_scalar, a_class_pointer}
 use Rattle.cxx_syntax.specs.declared.tree.Constant.{Constant}
 use Rattle.cxx_syntax.specs.declared.source_text.Init.{Init}
-use Rattle.cxx_syntax.specs.Parts.{Spelled, access_of, IsAccess, base_of, BaseReads, a_base, a_virtual_base, an_access_base, a_virtual_access_base, an_access_virtual_base, MoreBasesRead, no_more_bases, one_more_base, BasesRead, no_bases, some_bases, FieldTypeReads, a_value_field, an_object_field, CountReads, no_count, a_count, ReturnReads, a_void_return, a_value_return, ParamReads, a_param, MoreParamsRead, no_more_params, one_more_param, ParamsRead, no_params, some_params, InitReads, a_member_init, MoreInitsRead, no_more_inits, one_more_init, InitsRead, no_inits, some_inits}
+use Rattle.cxx_syntax.specs.Parts.{Spelled, access_of, IsAccess, base_by_token, BaseReads, a_base, a_virtual_base, an_access_base, a_virtual_access_base, an_access_virtual_base, MoreBasesRead, no_more_bases, one_more_base, BasesRead, no_bases, some_bases, FieldTypeReads, a_value_field, an_object_field, CountReads, no_count, a_count, ReturnReads, a_void_return, a_value_return, ParamReads, a_param, MoreParamsRead, no_more_params, one_more_param, ParamsRead, no_params, some_params, InitReads, a_member_init, MoreInitsRead, no_more_inits, one_more_init, InitsRead, no_inits, some_inits}
 use Rattle.cxx_readings.proofs.Heads.{head, tail, rests, firsts, by_is, by_name, clash}
 use Rattle.cxx_readings.proofs.Leaves.{constant_same, is_bracket}
 use Rattle.cxx_readings.proofs.SameValues.{scalar_by, value_by, value_same}
@@ -73,8 +73,8 @@ base_front {ts = ts} (an_access_virtual_base w v n e) =
     let f : behind_access (head (tail ts)) ≡ 4 = ap (λ us. behind_access (head us)) (ap tail w.front) ∙ by_is behind_access v in
     by_access (λ s. base_kind s (head (tail ts))) 4 f f f w
 
-bases_equal : (text : List ℕ) {v p q : Bool} {a b : Base Spelled} {l m : Lexeme} → l ≡ m → p ≡ q → a ≡ base_of text l v p → b ≡ base_of text m v q → a ≡ b
-bases_equal text {v = v} {q = q} {l = l} e f g h = g ∙ (ap (λ p. base_of text l v p) f ∙ (ap (λ n. base_of text n v q) e ∙ sym h))
+bases_equal : (text : List ℕ) {v p q : Bool} {a b : Base Spelled} {l m : Lexeme} → l ≡ m → p ≡ q → a ≡ base_by_token text l v p → b ≡ base_by_token text m v q → a ≡ b
+bases_equal text {v = v} {q = q} {l = l} e f g h = g ∙ (ap (λ p. base_by_token text l v p) f ∙ (ap (λ n. base_by_token text n v q) e ∙ sym h))
 
 base_same : {text : List ℕ} {d : Bool} {b c : Base Spelled} {ts us r s : List Lexeme} → ts ≡ us → BaseReads text d b ts r → BaseReads text d c us s → (b ≡ c) × (r ≡ s)
 unfolding kind_of_base

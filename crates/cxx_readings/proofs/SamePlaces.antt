@@ -11,7 +11,7 @@ use Rattle.cxx_syntax.specs.declared.tree.PlaceText.{PlaceText}
 use Rattle.cxx_syntax.specs.declared.tree.CallText.{CallText}
 use Rattle.cxx_syntax.specs.declared.tree.CastText.{CastText}
 use Rattle.cxx_syntax.specs.declared.tree.CastKind.{CastKind}
-use Rattle.cxx_syntax.specs.Operands.{spot_of, PartReads, a_part, DotsRead, no_dot, a_dot, PartsRead, some_parts, PlaceReads, a_place, MoreRead, no_more_operands, one_more_operand, ArgumentsRead, no_arguments, some_arguments, CallReads, a_call, a_qualified_call, cast_of, IsCast, CastReads, a_named_cast, a_plain_cast}
+use Rattle.cxx_syntax.specs.Operands.{spot_of, PartReads, a_part, DotsRead, no_dot, a_dot, PartsRead, some_parts, PlaceReads, a_place, MoreRead, no_more_operands, one_more_operand, ArgumentsRead, no_arguments, some_arguments, CallReads, a_call, a_qualified_call, cast_kind, IsCastWord, CastReads, a_named_cast, a_plain_cast}
 use Rattle.cxx_readings.proofs.Heads.{head, rests, firsts, by_is, clash}
 use Rattle.cxx_readings.proofs.Leaves.{pointer_same, operand_same, operand_by, is_bracket, index_same}
 
@@ -134,9 +134,9 @@ some_equal : {A : Type 0} (a b : A) → Some a ≡ Some b → a ≡ b
 some_equal a b h = cc
 
 -- the front token is one of the two words
-pub by_cast : {A : Type 0} (f : Sort → A) (a : A) → f StaticCast ≡ a → f DynamicCast ≡ a → {k : CastKind} {l : Lexeme} {ts r : List Lexeme} → IsCast k l ts r → f (head ts) ≡ a
+pub by_cast : {A : Type 0} (f : Sort → A) (a : A) → f StaticCast ≡ a → f DynamicCast ≡ a → {k : CastKind} {l : Lexeme} {ts r : List Lexeme} → IsCastWord k l ts r → f (head ts) ≡ a
 by_cast f a p q {k = k} {l = l} i = ap (λ us. f (head us)) i.front ∙ of_sort l.sort i.cast where
-  of_sort : (s : Sort) → cast_of s ≡ Some k → f s ≡ a
+  of_sort : (s : Sort) → cast_kind s ≡ Some k → f s ≡ a
   of_sort StaticCast h = p
   of_sort DynamicCast h = q
   of_sort _ h = absurd (cc)
@@ -151,7 +151,7 @@ cast_same {text = text} {x = x} {y = y} e (a_named_cast k l n m h o p z t) (a_na
     let f = firsts e k.front k'.front in let a = rests e k.front k'.front in let b = rests a l.front l'.front in let g = firsts b n.front n'.front in
     let c = rests b n.front n'.front in let d = rests (rests (rests c m.front m'.front) h.front h'.front) o.front o'.front in
     let u = pointer_same d p p' in
-    (cast_equal x y (some_equal x.kind y.kind (sym k.cast ∙ (ap (λ j. cast_of j.sort) f ∙ k'.cast))) (spots text g t t') u.0, rests u.1 z.front z'.front)
+    (cast_equal x y (some_equal x.kind y.kind (sym k.cast ∙ (ap (λ j. cast_kind j.sort) f ∙ k'.cast))) (spots text g t t') u.0, rests u.1 z.front z'.front)
 cast_same {text = text} {x = x} {y = y} e (a_plain_cast o n m z p k t) (a_plain_cast o' n' m' z' p' k' t') =
     let a = rests e o.front o'.front in let g = firsts a n.front n'.front in let b = rests a n.front n'.front in
     let u = pointer_same (rests (rests b m.front m'.front) z.front z'.front) p p' in

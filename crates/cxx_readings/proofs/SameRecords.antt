@@ -16,7 +16,7 @@ use Rattle.cxx_syntax.specs.declared.source_text.Body.{Body}
 use Rattle.cxx_syntax.specs.declared.source_text.BodyOwner.TheVariants as owner
 use Rattle.cxx_syntax.specs.declared.part.Part.{Part}
 use Rattle.cxx_syntax.specs.Parts.{Spelled}
-use Rattle.cxx_syntax.specs.Definitions.{member_in, function_in, members_of, functions_of, in_turn, part_at, order_of, is_constructor, destructor_after, last_destructor, destructor_of, entry, record_of, body_at, bodies_of}
+use Rattle.cxx_syntax.specs.Definitions.{member_from, function_from, members_among, functions_among, given_by_parts, part_at, order_of, is_constructor_part, destructor_after, last_destructor, destructor_among, entry, record_of, body_at, bodies_of}
 use Rattle.cxx_syntax.specs.SameSources.{SameBodies, no_bodies, more_bodies}
 use Rattle.cxx_readings.proofs.SameParts.{SamePart, same_label, same_field, same_pure, same_function, same_constructor, same_destructor, SameParts, no_parts, more_parts}
 
@@ -25,7 +25,7 @@ filtered : {X : Type 0} (f : Part → Option X) → ((p q : Part) → SamePart p
 filtered f h no_parts = refl
 filtered f h (more_parts {p = p} {q = q} {ps = ps} {qs = qs} s ss) = ap (λ o. cons_option o (filter_map f ps)) (h p q s) ∙ ap (λ xs. cons_option (f q) xs) (filtered f h ss)
 
-member_same : (p q : Part) → SamePart p q → member_in p ≡ member_in q
+member_same : (p q : Part) → SamePart p q → member_from p ≡ member_from q
 member_same p q same_label = refl
 member_same p q same_field = refl
 member_same p q same_pure = refl
@@ -33,7 +33,7 @@ member_same p q (same_function s) = refl
 member_same p q (same_constructor s) = refl
 member_same p q (same_destructor s) = refl
 
-function_same : (p q : Part) → SamePart p q → function_in p ≡ function_in q
+function_same : (p q : Part) → SamePart p q → function_from p ≡ function_from q
 function_same p q same_label = refl
 function_same p q same_field = refl
 function_same p q same_pure = refl
@@ -41,11 +41,11 @@ function_same p q (same_function s) = refl
 function_same p q (same_constructor s) = refl
 function_same p q (same_destructor s) = refl
 
-members_same : {ps qs : List Part} → SameParts ps qs → members_of ps ≡ members_of qs
-members_same s = filtered member_in member_same s
+members_same : {ps qs : List Part} → SameParts ps qs → members_among ps ≡ members_among qs
+members_same s = filtered member_from member_same s
 
-functions_same : {ps qs : List Part} → SameParts ps qs → functions_of ps ≡ functions_of qs
-functions_same s = filtered function_in function_same s
+functions_same : {ps qs : List Part} → SameParts ps qs → functions_among ps ≡ functions_among qs
+functions_same s = filtered function_from function_same s
 
 parts_join : {ps qs us vs : List Part} → SameParts ps qs → SameParts us vs → SameParts (ps ++ us) (qs ++ vs)
 parts_join no_parts t = t
@@ -63,13 +63,13 @@ at_same s (same_function {f = f} {at = at} b) = ap (λ fs. entry kind.Function (
 at_same s (same_constructor b) = refl
 at_same s (same_destructor b) = refl
 
-turns_same : {bs cs ps qs : List Part} → SameParts bs cs → SameParts ps qs → in_turn part_at bs ps ≡ in_turn part_at cs qs
+turns_same : {bs cs ps qs : List Part} → SameParts bs cs → SameParts ps qs → given_by_parts part_at bs ps ≡ given_by_parts part_at cs qs
 turns_same s no_parts = refl
 turns_same {bs = bs} {cs = cs} s (more_parts {p = p} {q = q} {ps = ps} {qs = qs} t ts) =
-    ap (λ xs. xs ++ in_turn part_at (bs ++ p ∷ []) ps) (at_same s t) ∙ ap (λ xs. part_at cs q ++ xs) (turns_same (one_more s t) ts)
+    ap (λ xs. xs ++ given_by_parts part_at (bs ++ p ∷ []) ps) (at_same s t) ∙ ap (λ xs. part_at cs q ++ xs) (turns_same (one_more s t) ts)
 
 -- constructors and destructors
-constructor_same : {p q : Part} → SamePart p q → is_constructor p ≡ is_constructor q
+constructor_same : {p q : Part} → SamePart p q → is_constructor_part p ≡ is_constructor_part q
 constructor_same same_label = refl
 constructor_same same_field = refl
 constructor_same same_pure = refl
@@ -77,9 +77,9 @@ constructor_same (same_function s) = refl
 constructor_same (same_constructor s) = refl
 constructor_same (same_destructor s) = refl
 
-any_same : {ps qs : List Part} → SameParts ps qs → list_any is_constructor ps ≡ list_any is_constructor qs
+any_same : {ps qs : List Part} → SameParts ps qs → list_any is_constructor_part ps ≡ list_any is_constructor_part qs
 any_same no_parts = refl
-any_same (more_parts {q = q} {ps = ps} s ss) = ap (λ b. b || list_any is_constructor ps) (constructor_same s) ∙ ap (λ b. is_constructor q || b) (any_same ss)
+any_same (more_parts {q = q} {ps = ps} s ss) = ap (λ b. b || list_any is_constructor_part ps) (constructor_same s) ∙ ap (λ b. is_constructor_part q || b) (any_same ss)
 
 after_same : (d : Destructor) {p q : Part} → SamePart p q → destructor_after d p ≡ destructor_after d q
 after_same d same_label = refl
@@ -99,13 +99,13 @@ record_with text n bs ms fs os c d = record { name = bytes_of text n; at = n.at;
 
 pub record_same : (text : List ℕ) {n m : Lexeme} {bs cs : List (Base Spelled)} {ps qs : List Part} → n ≡ m → bs ≡ cs → SameParts ps qs → record_of text n bs ps ≡ record_of text m cs qs
 record_same text {n = n} {m = m} {bs = bs} {cs = cs} {ps = ps} {qs = qs} e f s =
-    ap (λ l. record_with text l bs (members_of ps) (functions_of ps) (order_of ps) (list_any is_constructor ps) (destructor_of ps)) e ∙
-    (ap (λ b. record_with text m b (members_of ps) (functions_of ps) (order_of ps) (list_any is_constructor ps) (destructor_of ps)) f ∙
-    (ap (λ ms. record_with text m cs ms (functions_of ps) (order_of ps) (list_any is_constructor ps) (destructor_of ps)) (members_same s) ∙
-    (ap (λ fs. record_with text m cs (members_of qs) fs (order_of ps) (list_any is_constructor ps) (destructor_of ps)) (functions_same s) ∙
-    (ap (λ os. record_with text m cs (members_of qs) (functions_of qs) os (list_any is_constructor ps) (destructor_of ps)) (turns_same no_parts s) ∙
-    (ap (λ c. record_with text m cs (members_of qs) (functions_of qs) (order_of qs) c (destructor_of ps)) (any_same s) ∙
-    ap (λ d. record_with text m cs (members_of qs) (functions_of qs) (order_of qs) (list_any is_constructor qs) d) (last_same destructor.Implicit s))))))
+    ap (λ l. record_with text l bs (members_among ps) (functions_among ps) (order_of ps) (list_any is_constructor_part ps) (destructor_among ps)) e ∙
+    (ap (λ b. record_with text m b (members_among ps) (functions_among ps) (order_of ps) (list_any is_constructor_part ps) (destructor_among ps)) f ∙
+    (ap (λ ms. record_with text m cs ms (functions_among ps) (order_of ps) (list_any is_constructor_part ps) (destructor_among ps)) (members_same s) ∙
+    (ap (λ fs. record_with text m cs (members_among qs) fs (order_of ps) (list_any is_constructor_part ps) (destructor_among ps)) (functions_same s) ∙
+    (ap (λ os. record_with text m cs (members_among qs) (functions_among qs) os (list_any is_constructor_part ps) (destructor_among ps)) (turns_same no_parts s) ∙
+    (ap (λ c. record_with text m cs (members_among qs) (functions_among qs) (order_of qs) c (destructor_among ps)) (any_same s) ∙
+    ap (λ d. record_with text m cs (members_among qs) (functions_among qs) (order_of qs) (list_any is_constructor_part qs) d) (last_same destructor.Implicit s))))))
 
 -- the bodies
 pub bodies_join : {ks ls ms ns : List Body} → SameBodies ks ls → SameBodies ms ns → SameBodies (ks ++ ms) (ls ++ ns)
@@ -120,7 +120,7 @@ body_at_same class s (same_function b) = more_bodies refl (ap (λ fs. owner.Func
 body_at_same class s (same_constructor b) = more_bodies refl refl refl b no_bodies
 body_at_same class s (same_destructor b) = more_bodies refl refl refl b no_bodies
 
-turns_bodies : (class : Spelled) {bs cs ps qs : List Part} → SameParts bs cs → SameParts ps qs → SameBodies (in_turn (body_at class) bs ps) (in_turn (body_at class) cs qs)
+turns_bodies : (class : Spelled) {bs cs ps qs : List Part} → SameParts bs cs → SameParts ps qs → SameBodies (given_by_parts (body_at class) bs ps) (given_by_parts (body_at class) cs qs)
 turns_bodies class s no_parts = no_bodies
 turns_bodies class s (more_parts t ts) = bodies_join (body_at_same class s t) (turns_bodies class (one_more s t) ts)
 

@@ -17,16 +17,16 @@ use Rattle.cxx_syntax.specs.declared.part.Part.{Part}
 use Rattle.cxx_syntax.specs.declared.part.Part.TheVariants as part
 use Rattle.cxx_record_parser.specs.declared.draft.Draft.{Draft}
 use Rattle.cxx_syntax.specs.Parts.{Spelled}
-use Rattle.cxx_syntax.specs.Definitions.{member_in, function_in, members_of, functions_of, in_turn, part_at, is_constructor, destructor_after, last_destructor, body_at, entry, a_body, declared_destructor}
+use Rattle.cxx_syntax.specs.Definitions.{member_from, function_from, members_among, functions_among, given_by_parts, part_at, is_constructor_part, destructor_after, last_destructor, body_at, entry, a_body, declared_destructor}
 use Rattle.cxx_record_parser.specs.invariants.Readers.{IsDraft}
 
 -- the last of some parts gives by those before it
 pub in_turn-append : {X : Type 0} (give : List Part → Part → List X) (before ps : List Part) (p : Part) →
-    in_turn give before (ps ++ p ∷ []) ≡ in_turn give before ps ++ give (before ++ ps) p
+    given_by_parts give before (ps ++ p ∷ []) ≡ given_by_parts give before ps ++ give (before ++ ps) p
 in_turn-append give before [] p = append-nil (give before p) ∙ ap (λ u. give u p) (sym (append-nil before))
 in_turn-append give before (q ∷ ps) p =
-    ap (λ u. give before q ++ u) (in_turn-append give (before ++ q ∷ []) ps p ∙ ap (λ u. in_turn give (before ++ q ∷ []) ps ++ give u p) (append_assoc before (q ∷ []) ps))
-    ∙ sym (append_assoc (give before q) (in_turn give (before ++ q ∷ []) ps) (give (before ++ (q ∷ ps)) p))
+    ap (λ u. give before q ++ u) (in_turn-append give (before ++ q ∷ []) ps p ∙ ap (λ u. given_by_parts give (before ++ q ∷ []) ps ++ give u p) (append_assoc before (q ∷ []) ps))
+    ∙ sym (append_assoc (give before q) (given_by_parts give (before ++ q ∷ []) ps) (give (before ++ (q ∷ ps)) p))
 
 pub last_destructor-append : (d : Destructor) (ps : List Part) (p : Part) → last_destructor d (ps ++ p ∷ []) ≡ destructor_after (last_destructor d ps) p
 last_destructor-append d [] p = refl
@@ -47,21 +47,21 @@ chosen_few f [] = omega arith
 chosen_few f (x ∷ xs) = one_more_chosen f x xs (f x) refl (chosen_few f xs)
 
 pub few_members : (text : List ℕ) (class : Lexeme) (parts : List Part) (d : Draft) (n : ℕ) → IsDraft text class parts d → length parts ≤ n → length d.members ≤ n
-few_members text class parts d n h le = let m = chosen_few member_in parts in let e = ap length h.members in omega (arith, le, m, e)
+few_members text class parts d n h le = let m = chosen_few member_from parts in let e = ap length h.members in omega (arith, le, m, e)
 
 pub few_functions : (text : List ℕ) (class : Lexeme) (parts : List Part) (d : Draft) (n : ℕ) → IsDraft text class parts d → length parts ≤ n → length d.functions ≤ n
-few_functions text class parts d n h le = let m = chosen_few function_in parts in let e = ap length h.functions in omega (arith, le, m, e)
+few_functions text class parts d n h le = let m = chosen_few function_from parts in let e = ap length h.functions in omega (arith, le, m, e)
 
 -- a draft with one part more
 pub drafted : (text : List ℕ) (class : Lexeme) (parts : List Part) (p : Part) (d e : Draft) → IsDraft text class parts d →
-    e.members ≡ d.members ++ members_of (p ∷ []) → e.functions ≡ d.functions ++ functions_of (p ∷ []) → e.order ≡ d.order ++ part_at parts p →
-    e.has_constructor ≡ (d.has_constructor || is_constructor p) → e.destructor ≡ destructor_after d.destructor p →
+    e.members ≡ d.members ++ members_among (p ∷ []) → e.functions ≡ d.functions ++ functions_among (p ∷ []) → e.order ≡ d.order ++ part_at parts p →
+    e.has_constructor ≡ (d.has_constructor || is_constructor_part p) → e.destructor ≡ destructor_after d.destructor p →
     e.bodies ≡ d.bodies ++ body_at (bytes_of text class) parts p → IsDraft text class (parts ++ p ∷ []) e
 drafted text class parts p d e h m f o c t b = record {
-  members = m ∙ (ap (λ u. u ++ members_of (p ∷ [])) h.members ∙ sym (filter_map-append member_in parts (p ∷ [])));
-  functions = f ∙ (ap (λ u. u ++ functions_of (p ∷ [])) h.functions ∙ sym (filter_map-append function_in parts (p ∷ [])));
+  members = m ∙ (ap (λ u. u ++ members_among (p ∷ [])) h.members ∙ sym (filter_map-append member_from parts (p ∷ [])));
+  functions = f ∙ (ap (λ u. u ++ functions_among (p ∷ [])) h.functions ∙ sym (filter_map-append function_from parts (p ∷ [])));
   order = o ∙ (ap (λ u. u ++ part_at parts p) h.order ∙ sym (in_turn-append part_at [] parts p));
-  has_constructor = c ∙ (ap (λ u. u || is_constructor p) h.has_constructor ∙ (ap (λ u. list_any is_constructor parts || u) (sym (or_false (is_constructor p))) ∙ sym (list_any-append is_constructor parts (p ∷ []))));
+  has_constructor = c ∙ (ap (λ u. u || is_constructor_part p) h.has_constructor ∙ (ap (λ u. list_any is_constructor_part parts || u) (sym (or_false (is_constructor_part p))) ∙ sym (list_any-append is_constructor_part parts (p ∷ []))));
   destructor = t ∙ (ap (λ u. destructor_after u p) h.destructor ∙ sym (last_destructor-append destructor.Implicit parts p));
   bodies = b ∙ (ap (λ u. u ++ body_at (bytes_of text class) parts p) h.bodies ∙ sym (in_turn-append (body_at (bytes_of text class)) [] parts p));
 }

@@ -7,7 +7,7 @@ ghost use Rattle.cxx_grammar.specs.declared.sort.Sort.{Sort};
 ghost use Rattle.cxx_grammar.specs.Event.{State};
 ghost use Rattle.cxx_grammar.specs.invariants.Run.{Follows};
 ghost use Rattle.cxx_grammar.specs.Table.{Only, ABase, BasesEnd, BaseAfterVirtual, BaseAfterAccess, PartsEnd};
-ghost use Rattle.cxx_syntax.specs.Parts.{access_of, base_of, BaseReads, BasesRead};
+ghost use Rattle.cxx_syntax.specs.Parts.{access_of, base_by_token, BaseReads, BasesRead};
 
 use cxx_grammar::{Lexeme, Sort, is_same, name_of, next, take_name};
 use cxx_hierarchy::{Base, BaseList, Name, Stop};
@@ -33,7 +33,7 @@ fn base_of(
     is_virtual: bool,
     is_public: bool,
 ) -> Result<Base<Name>, Stop>
-    ensures ok { IfOk result (λ b. b ≡ base_of text.now name.now is_virtual is_public) }
+    ensures ok { IfOk result (λ b. b ≡ base_by_token text.now name.now is_virtual is_public) }
     ensures err { IfErr result (λ e. e ≡ Stop.NoMemory) }
 {
     let class = name_of(alloc, text, name)?;

@@ -16,13 +16,13 @@ use Rattle.cxx_expression.specs.declared.scene.Setting.{Setting}
 use Rattle.cxx_expression.specs.declared.scene.Returns.{Returns}
 use Rattle.cxx_expression.specs.declared.scene.Returns.TheVariants as returns
 use Rattle.cxx_expression.specs.Checked.{pure, both}
-use Rattle.cxx_expression.specs.Scenes.{declared, is_taken}
+use Rattle.cxx_expression.specs.Scenes.{with_variable, is_taken}
 use Rattle.cxx_expression.specs.Values.{variable_of}
 use Rattle.cxx_expression.specs.Rights.{right_of, converted_value}
 use Rattle.cxx_expression.specs.Laws.{IsComplete, PiecesAreComplete}
 use Rattle.cxx_expression.proofs.Complete.{complete_pure, complete_fail, complete_warn, complete_bind, complete_both, complete_if, complete_whole, complete_second, whole_grows}
 use Rattle.cxx_expression.proofs.CompleteRights.{c_right, c_value, value_grows}
-use Rattle.cxx_resolve.specs.Statements.{new_variable, first_value, declare_of, assign_of, write_of, copy_of, call_statement, delete_of, value_return, typed_return, return_of, print_of, print_type_of, print_view_of, dump_of}
+use Rattle.cxx_resolve.specs.Statements.{new_variable, first_value, declare_of, assign_of, write_of, copy_of, call_statement, delete_of, value_return, typed_return, returned_kind, print_of, print_type_of, print_view_of, dump_of}
 
 c_new_variable : (q : PiecesAreComplete) (h : Classes) (s : Scene) (ty : ValueType Text) (at : ℕ) (x : Spot) → IsComplete (new_variable h s ty at x)
 unfolding new_variable
@@ -36,7 +36,7 @@ c_first_value q h e s at t n (Some r) = complete_bind _ _ (q.right h e s at t r)
 pub c_declare : (q : PiecesAreComplete) (h : Classes) (e : Setting) (s : Scene) (at : ℕ) (ty : ValueType Text) (ty_at : ℕ) (x : Spot) (init : Option Right) → IsComplete (declare_of h e s at ty ty_at x init)
 unfolding declare_of
 c_declare q h e s at ty ty_at x init =
-    complete_bind _ _ (c_new_variable q h s ty ty_at x) (λ t. complete_bind _ _ (c_first_value q h e (declared s x.name t) at t (length s.types) init) (λ k. complete_pure _))
+    complete_bind _ _ (c_new_variable q h s ty ty_at x) (λ t. complete_bind _ _ (c_first_value q h e (with_variable s x.name t) at t (length s.types) init) (λ k. complete_pure _))
 
 pub c_assign : (q : PiecesAreComplete) (h : Classes) (e : Setting) (s : Scene) (at : ℕ) (x : Spot) (r : Right) → IsComplete (assign_of h e s at x r)
 unfolding assign_of
@@ -74,8 +74,8 @@ c_return_at q h e s at returns.Nothing (Some x) = complete_fail _ _
 c_return_at q h e s at (returns.Value t) None = complete_fail _ _
 c_return_at q h e s at (returns.Value t) (Some x) = c_value_return q h e s at t x
 
-pub c_return : (q : PiecesAreComplete) (h : Classes) (e : Setting) (s : Scene) (at : ℕ) (x : Option Operand) → IsComplete (return_of h e s at x)
-unfolding return_of
+pub c_return : (q : PiecesAreComplete) (h : Classes) (e : Setting) (s : Scene) (at : ℕ) (x : Option Operand) → IsComplete (returned_kind h e s at x)
+unfolding returned_kind
 c_return q h e s at x = c_return_at q h e s at e.returns x
 
 pub c_print : (q : PiecesAreComplete) (e : Setting) (s : Scene) (at : ℕ) (x : Operand) → IsComplete (print_of e s at x)

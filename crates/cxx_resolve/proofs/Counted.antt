@@ -10,7 +10,7 @@ use Rattle.cxx_syntax.specs.declared.part.Item.{Item}
 use Rattle.cxx_syntax.specs.declared.source_text.Body.{Body}
 use Rattle.cxx_syntax.specs.declared.source_text.SourceText.{SourceText}
 use Rattle.cxx_syntax.specs.Parts.{Spelled, PartReads, a_label, a_field, a_bit_field, a_function, a_pure_function, a_constructor, a_destructor, PartsRead, no_part, one_part}
-use Rattle.cxx_syntax.specs.Definitions.{body_at, in_turn, bodies_of}
+use Rattle.cxx_syntax.specs.Definitions.{body_at, given_by_parts, bodies_of}
 use Rattle.cxx_syntax.specs.Sources.{ItemReads, a_class, a_forward, a_global, a_main, ItemsRead, no_item, one_item, bodies_in, main_in, trees_in, AreItemsOf, SourceReads, a_source}
 use Rattle.cxx_resolve.specs.Programs.{IsShort, IsShortMain, HasFewStatements}
 use Rattle.cxx_resolve.proofs.Counting.{body_counted}
@@ -60,10 +60,10 @@ parts_less no_part = omega arith
 parts_less (one_part p ps) = omega (arith, part_less p, parts_less ps)
 
 parts_short : {text : List ℕ} {is_public : Bool} {ps : List Part} {ts rest : List Lexeme} (n : ℕ) (class : Spelled) (before : List Part) → PartsRead text is_public ps ts rest → length ts ≤ n →
-    AllShort n (in_turn (body_at class) before ps)
+    AllShort n (given_by_parts (body_at class) before ps)
 parts_short n class before no_part m = none_short n
 parts_short n class before (one_part {p = p} {ps = ps} x xs) m =
-    All-append (IsShortBody n) (body_at class before p) (in_turn (body_at class) (before ++ p ∷ []) ps) (part_short n class before x m)
+    All-append (IsShortBody n) (body_at class before p) (given_by_parts (body_at class) (before ++ p ∷ []) ps) (part_short n class before x m)
     (parts_short n class (before ++ p ∷ []) xs (omega (arith, m, part_less x)))
 
 item_less : {text : List ℕ} {i : Item} {ts rest : List Lexeme} → ItemReads text i ts rest → length rest ≤ length ts

@@ -8,7 +8,7 @@ use Rattle.cxx_syntax.specs.declared.tree.StatementKind.{StatementKind, If', Non
 use Rattle.cxx_syntax.specs.declared.tree.StatementKind as kind
 use Rattle.cxx_expression.specs.declared.scene.Setting.{Setting}
 use Rattle.cxx_resolve.specs.declared.draft.Draft.{Draft}
-use Rattle.cxx_resolve.specs.Stops.{◌>>=◌}
+use Rattle.cxx_resolve.specs.Stops.{◌>>>◌}
 use Rattle.cxx_resolve.specs.Statements.{plain_of}
 use Rattle.cxx_resolve.specs.Walks.{KindMeaning, Meaning, kind_meaning, statement_meaning, block_meaning, plain_walk, declare_walk, if_head, while_head, scoped}
 use Rattle.cxx_resolve.proofs.Walking.{statement_is, declare_is, assign_is, write_is, copy_is, call_is, delete_is, if_is, if_else_is, while_is, return_is, print_is, print_type_is, print_view_is, dump_is}
@@ -44,10 +44,10 @@ statement_sized s = ap (λ (m : Meaning). m.size) (statement_is s) ∙ kind_size
 
 abbrev pub kind_walk : StatementKind → Classes → Setting → ℕ → ℕ → ℕ → ℕ → Draft → Result Draft Stop
 kind_walk (kind.Declare ty ty_at x init) h e at line n next d = declare_walk h e at ty ty_at x init line next d
-kind_walk (If' x b None') h e at line n next d = if_head (n + 1 + (block_meaning b).size) (n + 1 + (block_meaning b).size) e at x line next d >>= scoped (block_meaning b) h e (n + 1) next
+kind_walk (If' x b None') h e at line n next d = if_head (n + 1 + (block_meaning b).size) (n + 1 + (block_meaning b).size) e at x line next d >>> scoped (block_meaning b) h e (n + 1) next
 kind_walk (If' x b (Some' c)) h e at line n next d =
-    if_head (n + 1 + (block_meaning b).size) (n + 1 + (block_meaning b).size + (block_meaning c).size) e at x line next d >>= scoped (block_meaning b) h e (n + 1) next >>= scoped (block_meaning c) h e (n + 1 + (block_meaning b).size) next
-kind_walk (kind.While x b) h e at line n next d = while_head (n + 1 + (block_meaning b).size) e at x line next d >>= scoped (block_meaning b) h e (n + 1) n
+    if_head (n + 1 + (block_meaning b).size) (n + 1 + (block_meaning b).size + (block_meaning c).size) e at x line next d >>> scoped (block_meaning b) h e (n + 1) next >>> scoped (block_meaning c) h e (n + 1 + (block_meaning b).size) next
+kind_walk (kind.While x b) h e at line n next d = while_head (n + 1 + (block_meaning b).size) e at x line next d >>> scoped (block_meaning b) h e (n + 1) n
 kind_walk k h e at line n next d = plain_walk h e at k line next d
 
 kind_walked : (k : StatementKind) (h : Classes) (e : Setting) (at line n next : ℕ) (d : Draft) → (kind_meaning k).walk h e at line n next d ≡ kind_walk k h e at line n next d

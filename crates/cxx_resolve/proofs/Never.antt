@@ -2,7 +2,7 @@
 use Rattle.std.proofs.Common.{◌≡◌, ℕ, ◌+◌, Option, Some, None, Result, Ok, Err, List, [], ◌∷◌, ◌++◌, map, ap, sym, ◌∙◌, refl, subst}
 use Rattle.cxx_hierarchy.specs.declared.stop.Stop.{Stop}
 use Rattle.cxx_hierarchy.specs.declared.stop.Stop.TheVariants as stop
-use Rattle.cxx_resolve.specs.Stops.{◌>>=◌}
+use Rattle.cxx_resolve.specs.Stops.{◌>>>◌}
 use Rattle.cxx_resolve.specs.Turns.{given_in_turn}
 
 -- the answer is a value, a refusal or a limit
@@ -12,7 +12,7 @@ IsSure r = r ≡ Err stop.NoMemory → ⊥
 pub sure_ok : {A : Type 0} (x : A) → IsSure (Ok x)
 sure_ok x e = absurd (cc)
 
-pub sure_then : {A B : Type 0} (r : Result A Stop) (go : A → Result B Stop) → IsSure r → ((x : A) → IsSure (go x)) → IsSure (r >>= go)
+pub sure_then : {A B : Type 0} (r : Result A Stop) (go : A → Result B Stop) → IsSure r → ((x : A) → IsSure (go x)) → IsSure (r >>> go)
 sure_then (Ok x) go h k = k x
 sure_then (Err stop.NoMemory) go h k = λ e. h refl
 sure_then (Err (stop.Limit l)) go h k = λ e. absurd (cc)

@@ -22,7 +22,7 @@ use Rattle.cxx_program.specs.declared.program.TypedProgram.{TypedProgram}
 use Rattle.cxx_expression.specs.declared.scene.Entry.{Entry}
 use Rattle.cxx_expression.specs.declared.scene.Setting.{Setting}
 use Rattle.cxx_resolve.specs.declared.draft.Draft.{Draft}
-use Rattle.cxx_resolve.specs.Stops.{◌>>=◌}
+use Rattle.cxx_resolve.specs.Stops.{◌>>>◌}
 use Rattle.cxx_resolve.specs.Turns.{given_in_turn}
 use Rattle.cxx_resolve.specs.Globals.{global_of}
 use Rattle.cxx_resolve.specs.Initializers.{init_of}
@@ -33,7 +33,7 @@ use Rattle.cxx_resolve.proofs.SameWalks.{block_same}
 -- a typed body by the meaning of its block and the lines of its braces
 abbrev by_meaning : Classes → Setting → Owner → List (Param ClassId) → List TypedInit → Meaning → ℕ → ℕ → Result TypedBody Stop
 by_meaning h e o ps inits m line close =
-    m.walk h e 0 m.size (first_draft ps) >>= λ d. Ok (record { owner = o; locals = d.scene.types; inits = inits; statements = d.statements; line = line; close_line = close })
+    m.walk h e 0 m.size (first_draft ps) >>> λ d. Ok (record { owner = o; locals = d.scene.types; inits = inits; statements = d.statements; line = line; close_line = close })
 
 typed_same : (h : Classes) (e : Setting) (o : Owner) (ps : List (Param ClassId)) (inits : List TypedInit) (a b : BodyTree) → SameBody a b → typed_body h e o ps inits a ≡ typed_body h e o ps inits b
 unfolding typed_body
@@ -45,10 +45,10 @@ typed_same h e o ps inits a b (same_body same line close) =
 -- a body by its parts
 abbrev of_class : Classes → List Entry → Text → BodyOwner → List Init → BodyTree → Result TypedBody Stop
 of_class h globals class o inits tree =
-    given_in_turn (init_of h (class_of_body h class)) [] inits >>= λ is.
+    given_in_turn (init_of h (class_of_body h class)) [] inits >>> λ is.
     typed_body h (member_setting globals (class_of_body h class) (returns_in (function_by_owner h (class_of_body h class) o))) (owner_of (class_of_body h class) o) (params_in (function_by_owner h (class_of_body h class) o)) is tree
 
-bind_same : {A B : Type 0} (r : Result A Stop) (f g : A → Result B Stop) → ((x : A) → f x ≡ g x) → (r >>= f) ≡ (r >>= g)
+bind_same : {A B : Type 0} (r : Result A Stop) (f g : A → Result B Stop) → ((x : A) → f x ≡ g x) → (r >>> f) ≡ (r >>> g)
 bind_same (Ok x) f g h = h x
 bind_same (Err e) f g h = refl
 
@@ -66,7 +66,7 @@ bodies_same : (h : Classes) (globals : List Entry) (xs ys : List Body) → SameB
 bodies_same h globals _ _ no_bodies done = refl
 bodies_same h globals _ _ (more_bodies {a = a} {b = b} {ls = ls} {rs = rs} class owner inits tree more) done =
     bind_same (body_of h globals done a) _ _ (λ x. bodies_same h globals ls rs more (done ++ x ∷ []))
-    ∙ ap (λ (r : Result TypedBody Stop). r >>= λ x. given_in_turn (body_of h globals) (done ++ x ∷ []) rs) (body_same h globals done a b class owner inits tree)
+    ∙ ap (λ (r : Result TypedBody Stop). r >>> λ x. given_in_turn (body_of h globals) (done ++ x ∷ []) rs) (body_same h globals done a b class owner inits tree)
 
 same_front : (n : ℕ) (xs ys : List Body) → SameBodies xs ys → SameBodies (take n xs) (take n ys)
 same_front zero xs ys s = no_bodies
@@ -81,27 +81,27 @@ same_back (suc n) _ _ (more_bodies {ls = ls} {rs = rs} class owner inits tree mo
 main_same : (h : Classes) (globals : List Entry) (a b : Option BodyTree) → SameMain a b → main_of h globals a ≡ main_of h globals b
 unfolding main_tree
 main_same h globals None None s = refl
-main_same h globals (Some a) (Some b) s = ap (λ (r : Result TypedBody Stop). r >>= λ body. Ok (Some body)) (typed_same h (main_setting globals) owner.Main [] [] a b s)
+main_same h globals (Some a) (Some b) s = ap (λ (r : Result TypedBody Stop). r >>> λ body. Ok (Some body)) (typed_same h (main_setting globals) owner.Main [] [] a b s)
 main_same h globals None (Some b) s = absurd s
 main_same h globals (Some a) None s = absurd s
 
 -- a program by its parts
 abbrev by_parts : Classes → List Global → List Body → Option BodyTree → List Body → Result TypedProgram Stop
 by_parts h globals before main behind =
-    given_in_turn (global_of h) [] globals >>= λ gs.
-    given_in_turn (body_of h gs) [] before >>= λ bs.
-    main_of h gs main >>= λ m.
-    given_in_turn (body_of h gs) bs behind >>= λ all.
+    given_in_turn (global_of h) [] globals >>> λ gs.
+    given_in_turn (body_of h gs) [] before >>> λ bs.
+    main_of h gs main >>> λ m.
+    given_in_turn (body_of h gs) bs behind >>> λ all.
     Ok (program gs m all)
 
 parts_same : (h : Classes) (globals : List Global) (before before' behind behind' : List Body) (main main' : Option BodyTree) → SameBodies before before' → SameBodies behind behind' → SameMain main main' →
     by_parts h globals before main behind ≡ by_parts h globals before' main' behind'
 parts_same h globals before before' behind behind' main main' f b m =
     bind_same (given_in_turn (global_of h) [] globals) _ _ (λ gs.
-    ap (λ (r : Result (List TypedBody) Stop). r >>= λ bs. main_of h gs main >>= λ k. given_in_turn (body_of h gs) bs behind >>= λ all. Ok (program gs k all)) (bodies_same h gs before before' f [])
+    ap (λ (r : Result (List TypedBody) Stop). r >>> λ bs. main_of h gs main >>> λ k. given_in_turn (body_of h gs) bs behind >>> λ all. Ok (program gs k all)) (bodies_same h gs before before' f [])
     ∙ bind_same (given_in_turn (body_of h gs) [] before') _ _ (λ bs.
-    ap (λ (r : Result (Option TypedBody) Stop). r >>= λ k. given_in_turn (body_of h gs) bs behind >>= λ all. Ok (program gs k all)) (main_same h gs main main' m)
-    ∙ bind_same (main_of h gs main') _ _ (λ k. ap (λ (r : Result (List TypedBody) Stop). r >>= λ all. Ok (program gs k all)) (bodies_same h gs behind behind' b bs))))
+    ap (λ (r : Result (Option TypedBody) Stop). r >>> λ k. given_in_turn (body_of h gs) bs behind >>> λ all. Ok (program gs k all)) (main_same h gs main main' m)
+    ∙ bind_same (main_of h gs main') _ _ (λ k. ap (λ (r : Result (List TypedBody) Stop). r >>> λ all. Ok (program gs k all)) (bodies_same h gs behind behind' b bs))))
 
 pub one_program : (h : Classes) (a b : SourceText) → SameSource a b → program_of h a ≡ program_of h b
 unfolding program_of

@@ -15,7 +15,7 @@ use Rattle.cxx_expression.specs.declared.scene.Scene.{Scene}
 use Rattle.cxx_expression.specs.declared.scene.Setting.{Setting}
 use Rattle.cxx_expression.specs.declared.typed.RightValue.{RightValue}
 use Rattle.cxx_expression.specs.Checked.{Checked, pure, ◌>>=◌, then_faults, pair_of}
-use Rattle.cxx_expression.specs.Scenes.{declared}
+use Rattle.cxx_expression.specs.Scenes.{with_variable}
 use Rattle.cxx_expression.specs.Values.{variable_of}
 use Rattle.cxx_expression.specs.Calls.{whole_call}
 use Rattle.cxx_expression.specs.Rights.{right_of, converted_value, converted_right}
@@ -52,15 +52,15 @@ first_taken law h e s at t n text b r is =
     no_fault c.typed (λ y. typed.Declare n (Some y)) (c.faults b) ∙ law.asked h e s at text r t b is
 
 declared_taken : ResultsAreAsked → (h : Classes) (e : Setting) (s : Scene) (at : ℕ) (ty : ValueType Text) (ty_at : ℕ) (x : Spot) (text : CallText) (b : List Fault) (t : ValueType ClassId) (r : ReturnType ClassId) →
-    (new_variable h s ty ty_at x).typed ≡ Some t → result_known h e (declared s x.name t) at text ≡ Some r →
-    (declare_of h e s at ty ty_at x (Some (right.Call text))).faults b ≡ result_faults h at r t ((whole_call h e (declared s x.name t) at text).faults ((new_variable h s ty ty_at x).faults b))
+    (new_variable h s ty ty_at x).typed ≡ Some t → result_known h e (with_variable s x.name t) at text ≡ Some r →
+    (declare_of h e s at ty ty_at x (Some (right.Call text))).faults b ≡ result_faults h at r t ((whole_call h e (with_variable s x.name t) at text).faults ((new_variable h s ty ty_at x).faults b))
 unfolding declare_of
 declared_taken law h e s at ty ty_at x text b t r there is =
     let asked = (new_variable h s ty ty_at x).faults b in
-    let first = λ (u : ValueType ClassId). first_value h e (declared s x.name u) at u (length s.types) (Some (right.Call text)) in
-    ap (λ (o : Option (ValueType ClassId)). then_faults o (λ u. first u >>= (λ k. pure (with_scene (declared s x.name u) k))) asked) there
-    ∙ no_fault (first t).typed (with_scene (declared s x.name t)) ((first t).faults asked)
-    ∙ first_taken law h e (declared s x.name t) at t (length s.types) text asked r is
+    let first = λ (u : ValueType ClassId). first_value h e (with_variable s x.name u) at u (length s.types) (Some (right.Call text)) in
+    ap (λ (o : Option (ValueType ClassId)). then_faults o (λ u. first u >>= (λ k. pure (with_scene (with_variable s x.name u) k))) asked) there
+    ∙ no_fault (first t).typed (with_scene (with_variable s x.name t)) ((first t).faults asked)
+    ∙ first_taken law h e (with_variable s x.name t) at t (length s.types) text asked r is
 
 pub results_are_taken : ResultsAreAsked → ResultsAreTaken
 results_are_taken law = record { assigned = assigned_taken; declared = declared_taken law }

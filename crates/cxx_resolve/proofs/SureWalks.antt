@@ -20,11 +20,11 @@ use Rattle.cxx_expression.specs.declared.scene.Scene.{Scene}
 use Rattle.cxx_expression.specs.declared.scene.Setting.{Setting}
 use Rattle.cxx_expression.specs.Checked.{Checked}
 use Rattle.cxx_expression.specs.Faults.{least, settled}
-use Rattle.cxx_expression.specs.Values.{number_of}
+use Rattle.cxx_expression.specs.Values.{number_operand}
 use Rattle.cxx_expression.specs.Laws.{IsComplete, PiecesAreComplete}
 use Rattle.cxx_expression.proofs.Complete.{answered}
 use Rattle.cxx_resolve.specs.declared.draft.Draft.{Draft}
-use Rattle.cxx_resolve.specs.Statements.{declare_of, assign_of, write_of, copy_of, call_statement, delete_of, return_of, print_of, print_type_of, print_view_of, dump_of}
+use Rattle.cxx_resolve.specs.Statements.{declare_of, assign_of, write_of, copy_of, call_statement, delete_of, returned_kind, print_of, print_type_of, print_view_of, dump_of}
 use Rattle.cxx_resolve.specs.Walks.{KindMeaning, Meaning, kind_step, statement_step, block_step, kind_meaning, statement_meaning, block_meaning, sizes, walk_all, next_of, plain, declaration, declare_walk, branch, loop, head, scoped, most_locals}
 use Rattle.cxx_resolve.proofs.Walking.{layer_is}
 use Rattle.cxx_resolve.proofs.Never.{IsSure, sure_ok, sure_then}
@@ -57,7 +57,7 @@ sure_declaration q ty ty_at x init = record { walks = λ h e at line n next d. s
 
 sure_head : (q : PiecesAreComplete) (leads : TypedOperand → TypedKind) (e : Setting) (at : ℕ) (x : Operand) (line next : ℕ) (d : Draft) → IsSure (head leads e at x line next d)
 unfolding head
-sure_head q leads e at x line next d = let p = number_of e d.scene at x in sure_then (settled (least (p.faults [])) p.typed) _ (sure_settled p (q.number e d.scene at x)) (λ v. sure_ok _)
+sure_head q leads e at x line next d = let p = number_operand e d.scene at x in sure_then (settled (least (p.faults [])) p.typed) _ (sure_settled p (q.number e d.scene at x)) (λ v. sure_ok _)
 
 sure_scoped : (m : Meaning) → IsSureMeaning m → (h : Classes) (e : Setting) (n next : ℕ) (d : Draft) → IsSure (scoped m h e n next d)
 unfolding scoped

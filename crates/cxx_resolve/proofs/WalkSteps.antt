@@ -6,7 +6,7 @@ use Rattle.cxx_hierarchy.specs.Classes.{Classes}
 use Rattle.cxx_syntax.specs.declared.tree.Statement.{Statement}
 use Rattle.cxx_expression.specs.declared.scene.Setting.{Setting}
 use Rattle.cxx_resolve.specs.declared.draft.Draft.{Draft}
-use Rattle.cxx_resolve.specs.Stops.{◌>>=◌, Fails}
+use Rattle.cxx_resolve.specs.Stops.{◌>>>◌, Fails}
 use Rattle.cxx_resolve.specs.Walks.{statement_meaning, sizes, next_of, walk_all}
 use Rattle.cxx_resolve.proofs.Turning.{fails_more}
 
@@ -15,7 +15,7 @@ walk_on : (h : Classes) (e : Setting) (n follow next : ℕ) (s : Statement) (res
     walk_all (map statement_meaning rest) h e (n + (statement_meaning s).size) follow new ≡ walk_all (map statement_meaning (s ∷ rest)) h e n follow d
 unfolding walk_all
 walk_on h e n follow next s rest d new k w =
-    sym (ap (λ (r : Result Draft Stop). r >>= walk_all (map statement_meaning rest) h e (n + (statement_meaning s).size) follow) (ap (λ (m : ℕ). (statement_meaning s).walk h e n m d) (sym k) ∙ w))
+    sym (ap (λ (r : Result Draft Stop). r >>> walk_all (map statement_meaning rest) h e (n + (statement_meaning s).size) follow) (ap (λ (m : ℕ). (statement_meaning s).walk h e n m d) (sym k) ∙ w))
 
 stops_on : (h : Classes) (e : Setting) (n follow next : ℕ) (s : Statement) (rest : List Statement) (d : Draft) (x : Stop) →
     next ≡ next_of (map statement_meaning rest) (n + (statement_meaning s).size) follow → Fails x ((statement_meaning s).walk h e n next d) →

@@ -18,7 +18,7 @@ use Rattle.cxx_program.specs.declared.statement.TypedKind.{TypedKind}
 use Rattle.cxx_expression.specs.declared.faults.Fault.{Fault}
 use Rattle.cxx_expression.specs.declared.scene.Scene.{Scene}
 use Rattle.cxx_resolve.specs.declared.draft.Draft.{Draft}
-use Rattle.cxx_resolve.specs.Statements.{assign_of, write_of, copy_of, call_statement, delete_of, return_of, print_of, print_type_of, print_view_of, dump_of, with_scenes}
+use Rattle.cxx_resolve.specs.Statements.{assign_of, write_of, copy_of, call_statement, delete_of, returned_kind, print_of, print_type_of, print_view_of, dump_of, with_scenes}
 use Rattle.cxx_resolve.specs.Walks.{KindMeaning, Meaning, kind_step, statement_step, block_step, kind_meaning, statement_meaning, block_meaning, sizes, walk_all, plain, declaration, branch, loop, finished, finished_scene, in_scene}
 
 pub block_is : (b : BodyTree) → block_meaning b ≡ record { size = sizes (map statement_meaning (out-BodyTree b).statements.items); walk = walk_all (map statement_meaning (out-BodyTree b).statements.items) }
@@ -58,7 +58,7 @@ if_else_is x b c = ap kind_meaning (sym (rolls-If x b (Some c))) ∙ layer_is (l
 pub while_is : (x : Operand) (b : BodyTree) → kind_meaning (kind.While x b) ≡ loop x (block_meaning b)
 while_is x b = ap kind_meaning (sym (rolls-While x b)) ∙ layer_is (layer.While x b)
 
-pub return_is : (x : Option Operand) → kind_meaning (kind.Return x) ≡ plain (λ h e s at. return_of h e s at x)
+pub return_is : (x : Option Operand) → kind_meaning (kind.Return x) ≡ plain (λ h e s at. returned_kind h e s at x)
 return_is x = ap kind_meaning (sym (rolls-Return x)) ∙ layer_is (layer.Return x)
 
 pub print_is : (x : Operand) → kind_meaning (kind.Print x) ≡ plain (λ h e s at. print_of e s at x)

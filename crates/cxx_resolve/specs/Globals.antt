@@ -12,7 +12,7 @@ use Rattle.cxx_hierarchy.specs.Classes.{Classes}
 use Rattle.cxx_syntax.specs.declared.source_text.Global.{Global}
 use Rattle.cxx_expression.specs.Values.{type_of}
 use Rattle.cxx_expression.specs.declared.scene.Entry.{Entry}
-use Rattle.cxx_resolve.specs.Stops.{◌>>=◌}
+use Rattle.cxx_resolve.specs.Stops.{◌>>>◌}
 use Rattle.cxx_resolve.specs.Settled.{settle}
 
 -- the most globals of a source
@@ -23,7 +23,7 @@ abbrev pub global_entry : List Entry → Global → ValueType ClassId → Entry
 global_entry before g ty = record { name = g.name; number = length before; ty = ty }
 
 abbrev pub typed_global : Classes → List Entry → Global → Result Entry Stop
-typed_global h before g = settle (type_of h g.ty g.ty_at) >>= λ ty. Ok (global_entry before g ty)
+typed_global h before g = settle (type_of h g.ty g.ty_at) >>> λ ty. Ok (global_entry before g ty)
 
 -- one variable more: at most 1,024 (L3), no two of one name (E7), and each of a type that the source defines (E3)
 unfoldable pub global_of : Classes → List Entry → Global → Result Entry Stop

@@ -27,7 +27,7 @@ use Rattle.cxx_expression.specs.declared.scene.Returns.{Returns}
 use Rattle.cxx_expression.specs.declared.scene.Returns.TheVariants as returns
 use Rattle.cxx_expression.specs.Lookups.{find_class}
 use Rattle.cxx_resolve.specs.declared.draft.Draft.{Draft}
-use Rattle.cxx_resolve.specs.Stops.{◌>>=◌}
+use Rattle.cxx_resolve.specs.Stops.{◌>>>◌}
 use Rattle.cxx_resolve.specs.Turns.{given_in_turn}
 use Rattle.cxx_resolve.specs.Globals.{global_of}
 use Rattle.cxx_resolve.specs.Initializers.{init_of}
@@ -85,15 +85,15 @@ body_by o inits tree d = record {
 -- the statements of a tree; the number behind the last one is that of the end of the body
 unfoldable pub typed_body : Classes → Setting → Owner → List (Param ClassId) → List TypedInit → BodyTree → Result TypedBody Stop
 typed_body h e o params inits tree =
-    (block_meaning tree).walk h e 0 (block_meaning tree).size (first_draft params) >>= λ d. Ok (body_by o inits tree d)
+    (block_meaning tree).walk h e 0 (block_meaning tree).size (first_draft params) >>> λ d. Ok (body_by o inits tree d)
 
 abbrev pub member_setting : List Entry → ClassId → Returns → Setting
 member_setting globals c ret = record { globals = globals; this_class = Some c; returns = ret }
 
 unfoldable pub body_in : Classes → List Entry → ClassId → Option (Function ClassId) → Body → Result TypedBody Stop
-body_in h globals c f b = do
-  inits ← given_in_turn (init_of h c) [] b.inits
-  typed_body h (member_setting globals c (returns_in f)) (owner_of c b.owner) (params_in f) inits b.tree
+body_in h globals c f b =
+    given_in_turn (init_of h c) [] b.inits >>> λ inits.
+    typed_body h (member_setting globals c (returns_in f)) (owner_of c b.owner) (params_in f) inits b.tree
 
 -- a body in a class: the initializers before the statements
 abbrev pub body_of : Classes → List Entry → List TypedBody → Body → Result TypedBody Stop
@@ -104,9 +104,7 @@ abbrev pub main_setting : List Entry → Setting
 main_setting globals = record { globals = globals; this_class = None; returns = returns.Value (Number Int) }
 
 unfoldable pub main_tree : Classes → List Entry → BodyTree → Result (Option TypedBody) Stop
-main_tree h globals tree = do
-  body ← typed_body h (main_setting globals) owner.Main [] [] tree
-  Ok (Some body)
+main_tree h globals tree = typed_body h (main_setting globals) owner.Main [] [] tree >>> λ body. Ok (Some body)
 
 abbrev pub main_of : Classes → List Entry → Option BodyTree → Result (Option TypedBody) Stop
 main_of h globals None = Ok None
@@ -117,12 +115,12 @@ program globals main bodies = record { globals = map (λ g. g.ty) globals; bodie
 
 -- what a source resolves to: its program, or its first refusal or limit
 unfoldable pub program_of : Classes → SourceText → Result TypedProgram Stop
-program_of h source = do
-  globals ← given_in_turn (global_of h) [] source.globals
-  before ← given_in_turn (body_of h globals) [] (take source.main_place source.bodies)
-  main ← main_of h globals source.main
-  bodies ← given_in_turn (body_of h globals) before (drop source.main_place source.bodies)
-  Ok (program globals main bodies)
+program_of h source =
+    given_in_turn (global_of h) [] source.globals >>> λ globals.
+    given_in_turn (body_of h globals) [] (take source.main_place source.bodies) >>> λ before.
+    main_of h globals source.main >>> λ main.
+    given_in_turn (body_of h globals) before (drop source.main_place source.bodies) >>> λ bodies.
+    Ok (program globals main bodies)
 
 -- a block of fewer than n statements
 abbrev pub IsShort : ℕ → BodyTree → Type 0

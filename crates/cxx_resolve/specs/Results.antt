@@ -12,7 +12,7 @@ use Rattle.cxx_program.specs.declared.operand.Variable.{Variable}
 use Rattle.cxx_expression.specs.declared.faults.Fault.{Fault}
 use Rattle.cxx_expression.specs.declared.scene.Scene.{Scene}
 use Rattle.cxx_expression.specs.declared.scene.Setting.{Setting}
-use Rattle.cxx_expression.specs.Scenes.{declared as scene_with}
+use Rattle.cxx_expression.specs.Scenes.{with_variable as scene_with}
 use Rattle.cxx_expression.specs.Values.{variable_of}
 use Rattle.cxx_expression.specs.Calls.{whole_call}
 use Rattle.cxx_expression.specs.Laws.{result_known, result_faults}

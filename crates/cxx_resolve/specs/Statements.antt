@@ -24,7 +24,7 @@ use Rattle.cxx_expression.specs.declared.scene.Returns.{Returns}
 use Rattle.cxx_expression.specs.declared.scene.Returns.TheVariants as returns
 use Rattle.cxx_expression.specs.declared.typed.Pointer.{Pointer}
 use Rattle.cxx_expression.specs.Checked.{Checked, pure, fail, warn, ◌>>=◌, both}
-use Rattle.cxx_expression.specs.Scenes.{declared, is_taken}
+use Rattle.cxx_expression.specs.Scenes.{with_variable, is_taken}
 use Rattle.cxx_expression.specs.Values.{type_of, variable_of, operand_of, pointer_of, conversion_of, converted_operand, fitted, argument}
 use Rattle.cxx_expression.specs.Places.{leaf_of}
 use Rattle.cxx_expression.specs.Calls.{whole_call}
@@ -51,8 +51,8 @@ with_scene s k = (k, s)
 unfoldable pub declare_of : Classes → Setting → Scene → ℕ → ValueType Text → ℕ → Spot → Option Right → Checked (TypedKind × Scene)
 declare_of h e s at ty ty_at x init = do
   t ← new_variable h s ty ty_at x
-  k ← first_value h e (declared s x.name t) at t (length s.types) init
-  pure (with_scene (declared s x.name t) k)
+  k ← first_value h e (with_variable s x.name t) at t (length s.types) init
+  pure (with_scene (with_variable s x.name t) k)
 
 -- an assignment to a variable (ISO C++03 5.17)
 unfoldable pub assign_of : Classes → Setting → Scene → ℕ → Spot → Right → Checked TypedKind
@@ -102,8 +102,8 @@ typed_return h e s at returns.Nothing (Some x) = fail rule.TypeMismatch at
 typed_return h e s at (returns.Value t) None = fail rule.TypeMismatch at
 typed_return h e s at (returns.Value t) (Some x) = value_return h e s at t x
 
-unfoldable pub return_of : Classes → Setting → Scene → ℕ → Option Operand → Checked TypedKind
-return_of h e s at x = typed_return h e s at e.returns x
+unfoldable pub returned_kind : Classes → Setting → Scene → ℕ → Option Operand → Checked TypedKind
+returned_kind h e s at x = typed_return h e s at e.returns x
 
 unfoldable pub print_of : Setting → Scene → ℕ → Operand → Checked TypedKind
 print_of e s at x = do
@@ -147,7 +147,7 @@ plain_of h e s at (kind.Call text) = call_statement h e s at text
 plain_of h e s at (kind.Delete x) = delete_of e s at x
 plain_of h e s at (If' x block other) = fail rule.TypeMismatch at
 plain_of h e s at (kind.While x block) = fail rule.TypeMismatch at
-plain_of h e s at (kind.Return x) = return_of h e s at x
+plain_of h e s at (kind.Return x) = returned_kind h e s at x
 plain_of h e s at (kind.Print x) = print_of e s at x
 plain_of h e s at (kind.PrintType x) = print_type_of h e s at x
 plain_of h e s at (kind.PrintView x) = print_view_of h e s at x

@@ -3,11 +3,11 @@ use Rattle.std.specs.Prelude.{◌≡◌, Result, Ok, Err}
 use Rattle.cxx_hierarchy.specs.declared.stop.Stop.{Stop}
 use Rattle.cxx_hierarchy.specs.declared.stop.Stop.TheVariants as stop
 
-infixl 10 ◌>>=◌
+infixl 10 ◌>>>◌
 -- the first stop is the answer
-abbrev pub ◌>>=◌ : {A B : Type 0} → Result A Stop → (A → Result B Stop) → Result B Stop
-(Ok x) >>= next = next x
-(Err e) >>= next = Err e
+abbrev pub ◌>>>◌ : {A B : Type 0} → Result A Stop → (A → Result B Stop) → Result B Stop
+(Ok x) >>> next = next x
+(Err e) >>> next = Err e
 
 -- want of memory is free, and any other stop is the answer
 abbrev pub Fails : {A : Type 0} → Stop → Result A Stop → Type 0

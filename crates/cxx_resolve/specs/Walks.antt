@@ -24,11 +24,11 @@ use Rattle.cxx_expression.specs.declared.typed.Number.{Number}
 use Rattle.cxx_expression.specs.Checked.{Checked}
 use Rattle.cxx_expression.specs.Faults.{least, settled}
 use Rattle.cxx_expression.specs.Scenes.{opened, closed}
-use Rattle.cxx_expression.specs.Values.{number_of}
+use Rattle.cxx_expression.specs.Values.{number_operand}
 use Rattle.cxx_resolve.specs.declared.draft.Draft.{Draft}
-use Rattle.cxx_resolve.specs.Stops.{◌>>=◌}
+use Rattle.cxx_resolve.specs.Stops.{◌>>>◌}
 use Rattle.cxx_resolve.specs.Settled.{settle}
-use Rattle.cxx_resolve.specs.Statements.{declare_of, assign_of, write_of, copy_of, call_statement, delete_of, return_of, print_of, print_type_of, print_view_of, dump_of, plain_of}
+use Rattle.cxx_resolve.specs.Statements.{declare_of, assign_of, write_of, copy_of, call_statement, delete_of, returned_kind, print_of, print_type_of, print_view_of, dump_of, plain_of}
 
 -- What a kind of statement does: how many statements it is, and the draft behind it, by its place, its line, its number, the
 -- number of the statement behind it, and the draft before it.
@@ -50,7 +50,7 @@ pushed kind line next d = record { scene = d.scene; statements = d.statements ++
 
 -- a statement that is put behind those so far, where nothing refuses it
 abbrev pub finished : Option Fault → Option TypedKind → ℕ → ℕ → Draft → Result Draft Stop
-finished worst typed line next d = settled worst typed >>= λ kind. Ok (pushed kind line next d)
+finished worst typed line next d = settled worst typed >>> λ kind. Ok (pushed kind line next d)
 
 abbrev pub ended_statement : Checked TypedKind → ℕ → ℕ → Draft → Result Draft Stop
 ended_statement p line next d = finished (least (p.faults [])) p.typed line next d
@@ -63,7 +63,7 @@ abbrev pub in_scene : Scene → Draft → Draft
 in_scene s d = record { scene = s; statements = d.statements }
 
 abbrev pub finished_scene : Option Fault → Option (TypedKind × Scene) → ℕ → ℕ → Draft → Result Draft Stop
-finished_scene worst typed line next d = settled worst typed >>= λ r. Ok (pushed r.0 line next (in_scene r.1 d))
+finished_scene worst typed line next d = settled worst typed >>> λ r. Ok (pushed r.0 line next (in_scene r.1 d))
 
 abbrev pub ended_scene : Checked (TypedKind × Scene) → ℕ → ℕ → Draft → Result Draft Stop
 ended_scene p line next d = finished_scene (least (p.faults [])) p.typed line next d
@@ -82,11 +82,11 @@ declaration ty ty_at x init = record { size = 1; walk = λ h e at line n next d.
 
 -- a condition is a number
 abbrev pub condition_of : Setting → Scene → ℕ → Operand → Result Number Stop
-condition_of e s at x = settle (number_of e s at x)
+condition_of e s at x = settle (number_operand e s at x)
 
 -- a condition, and the numbers to which it leads
 unfoldable pub head : (TypedOperand → TypedKind) → Setting → ℕ → Operand → ℕ → ℕ → Draft → Result Draft Stop
-head leads e at x line next d = condition_of e d.scene at x >>= λ v. Ok (pushed (leads v.operand) line next d)
+head leads e at x line next d = condition_of e d.scene at x >>> λ v. Ok (pushed (leads v.operand) line next d)
 
 abbrev pub if_head : ℕ → ℕ → Setting → ℕ → Operand → ℕ → ℕ → Draft → Result Draft Stop
 if_head other behind = head (λ v. typed.If v other behind)
@@ -96,24 +96,24 @@ while_head behind = head (λ v. typed.While v behind)
 
 -- a block in a scope of its own (ISO C++03 3.3.2)
 unfoldable pub scoped : Meaning → Classes → Setting → ℕ → ℕ → Draft → Result Draft Stop
-scoped block h e n next d = block.walk h e n next (in_scene (opened d.scene) d) >>= λ new. Ok (in_scene (closed d.scene new.scene) new)
+scoped block h e n next d = block.walk h e n next (in_scene (opened d.scene) d) >>> λ new. Ok (in_scene (closed d.scene new.scene) new)
 
 abbrev pub branch : Operand → Meaning → Option Meaning → KindMeaning
 branch x block None = record {
   size = 1 + block.size;
-  walk = λ h e at line n next d. if_head (n + 1 + block.size) (n + 1 + block.size) e at x line next d >>= scoped block h e (n + 1) next;
+  walk = λ h e at line n next d. if_head (n + 1 + block.size) (n + 1 + block.size) e at x line next d >>> scoped block h e (n + 1) next;
 }
 branch x block (Some other) = record {
   size = 1 + block.size + other.size;
   walk = λ h e at line n next d. if_head (n + 1 + block.size) (n + 1 + block.size + other.size) e at x line next d
-      >>= scoped block h e (n + 1) next >>= scoped other h e (n + 1 + block.size) next;
+      >>> scoped block h e (n + 1) next >>> scoped other h e (n + 1 + block.size) next;
 }
 
 -- the block's last statement leads back to the condition
 abbrev pub loop : Operand → Meaning → KindMeaning
 loop x block = record {
   size = 1 + block.size;
-  walk = λ h e at line n next d. while_head (n + 1 + block.size) e at x line next d >>= scoped block h e (n + 1) n;
+  walk = λ h e at line n next d. while_head (n + 1 + block.size) e at x line next d >>> scoped block h e (n + 1) n;
 }
 
 -- a line a kind
@@ -126,7 +126,7 @@ kind_step (layer.Call text) = plain (λ h e s at. call_statement h e s at text)
 kind_step (layer.Delete x) = plain (λ h e s at. delete_of e s at x)
 kind_step (layer.If x block other) = branch x block other
 kind_step (layer.While x block) = loop x block
-kind_step (layer.Return x) = plain (λ h e s at. return_of h e s at x)
+kind_step (layer.Return x) = plain (λ h e s at. returned_kind h e s at x)
 kind_step (layer.Print x) = plain (λ h e s at. print_of e s at x)
 kind_step (layer.PrintType x) = plain (λ h e s at. print_type_of h e s at x)
 kind_step (layer.PrintView x) = plain (λ h e s at. print_view_of h e s at x)
@@ -146,7 +146,7 @@ next_of (m ∷ ms) behind follow = behind
 
 unfoldable pub walk_all : List Meaning → Classes → Setting → ℕ → ℕ → Draft → Result Draft Stop
 walk_all [] h e n follow d = Ok d
-walk_all (m ∷ ms) h e n follow d = m.walk h e n (next_of ms (n + m.size) follow) d >>= walk_all ms h e (n + m.size) follow
+walk_all (m ∷ ms) h e n follow d = m.walk h e n (next_of ms (n + m.size) follow) d >>> walk_all ms h e (n + m.size) follow
 
 abbrev pub block_step : BodyTree-F KindMeaning Meaning Meaning → Meaning
 block_step b = record { size = sizes b.statements.items; walk = walk_all b.statements.items }

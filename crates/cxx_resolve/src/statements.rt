@@ -4,7 +4,7 @@ ghost use Rattle.std.specs.Prelude.{◌≡◌, OnOk};
 ghost use Rattle.cxx_overrider.specs.Overriders.{AreOverriders};
 ghost use Rattle.cxx_expression.specs.Checked.{Answers};
 ghost use Rattle.cxx_expression.specs.invariants.Known.{Knows};
-ghost use Rattle.cxx_resolve.specs.Statements.{assign_of, write_of, copy_of, call_statement, delete_of, value_return, return_of, print_of, print_type_of, print_view_of, dump_of, plain_of};
+ghost use Rattle.cxx_resolve.specs.Statements.{assign_of, write_of, copy_of, call_statement, delete_of, value_return, returned_kind, print_of, print_type_of, print_view_of, dump_of, plain_of};
 
 use cxx_expression::{
     FaultList, Known, Returns, Site, conversion_of, converted_operand, converted_value, fitted,
@@ -142,10 +142,10 @@ fn value_return(
 }
 
 /// A `return`.
-#[tactic(auto, unfolding(crate::specs::Statements::return_of))]
+#[tactic(auto, unfolding(crate::specs::Statements::returned_kind))]
 fn return_of(site: &Site, known: &mut Known, faults: &mut FaultList, x: &Option<Operand>) -> Answer
     requires knows { Knows site.now.h.now known.old }
-    ensures answers { Answers result faults.old faults.new (return_of site.now.h.now site.now.setting.now site.now.scene.now site.now.at x.now) }
+    ensures answers { Answers result faults.old faults.new (returned_kind site.now.h.now site.now.setting.now site.now.scene.now site.now.at x.now) }
     ensures knows { OnOk result (Knows site.now.h.now known.new) }
 {
     match (&site.setting.returns, x) {

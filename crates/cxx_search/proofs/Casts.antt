@@ -12,7 +12,7 @@ use Rattle.cxx_subobject.proofs.PathLemmas.{same_id, class_there}
 use Rattle.foundation.proofs.Truth.{split}
 use Rattle.foundation.proofs.Members.{Has, EachOnce}
 use Rattle.foundation.proofs.Chosen.{has_filter, filter_has, once_filter}
-use Rattle.cxx_search.specs.Searches.{parts_of, is_within, is_public_in, is_class, is_of_class, the_only, where_it, targets, cast_down, cast_across, or_else, cast_in}
+use Rattle.cxx_search.specs.Searches.{subobjects_under, is_within, is_public_in, is_class, is_of_class, the_only, where_it, targets, cast_down, cast_across, or_else, cast_in}
 use Rattle.cxx_search.specs.Casts.{IsOnly, IsTarget, IsTargetOver, CastsDown, CastsAcross, IsCast, leads_down, leads_across, leads_nowhere}
 use Rattle.cxx_search.proofs.Within.{parts_inside, inside_parts, parts_once, within_inside, inside_within}
 use Rattle.cxx_search.proofs.Walks.{public_walk, walk_public}
@@ -65,13 +65,13 @@ is_the_class target o e = subst (λ z. is_class target z ≡ true) (sym e) (eq-e
 
 module _ (h : Classes) (keeps : IsHierarchy h) (c : ClassId) (x : Subobject) (there : IsSubobject h c x) (target : ClassId) where
   target_has : (t : Subobject) → IsTarget h target x t → Has (targets h target x) t
-  target_has t k = filter_has (is_of_class target) (parts_of h x) t (inside_parts h keeps x t k.inside) (is_the_class target (class_of t) k.class)
+  target_has t k = filter_has (is_of_class target) (subobjects_under h x) t (inside_parts h keeps x t k.inside) (is_the_class target (class_of t) k.class)
 
   has_target : (t : Subobject) → Has (targets h target x) t → IsTarget h target x t
-  has_target t has = let r = has_filter (is_of_class target) (parts_of h x) t has in record { inside = parts_inside h x t r.0; class = of_class target (class_of t) r.1 }
+  has_target t has = let r = has_filter (is_of_class target) (subobjects_under h x) t has in record { inside = parts_inside h x t r.0; class = of_class target (class_of t) r.1 }
 
   all_targets : Collects (IsTarget h target x) (targets h target x)
-  all_targets = record { has = target_has; is = has_target; once = once_filter (is_of_class target) (parts_of h x) (parts_once h keeps c x there) }
+  all_targets = record { has = target_has; is = has_target; once = once_filter (is_of_class target) (subobjects_under h x) (parts_once h keeps c x there) }
 
   module _ (y : Subobject) where
     targets_over : Collects (IsTargetOver h target x y) (filter (λ t. is_within h t y) (targets h target x))

@@ -18,7 +18,7 @@ use Rattle.cxx_hierarchy.specs.Hierarchies.{HasOrder, IsHierarchy}
 use Rattle.cxx_hierarchy.proofs.Orders.{numbered}
 use Rattle.cxx_overrider.specs.declared.FunctionId.{FunctionId}
 use Rattle.cxx_overrider.specs.Functions.{Signature, signature_at, signature_in, signature_of}
-use Rattle.cxx_overrider.specs.Virtuals.{function_at, index_of, implicit_index, indices_in, functions_in, declared}
+use Rattle.cxx_overrider.specs.Virtuals.{function_at, index_of, implicit_index, indices_in, function_ids_in, declared}
 use Rattle.cxx_overrider.proofs.Numbering.{signature_there}
 use Rattle.foundation.proofs.Members.{Has, EachOnce, has_at, has_left, has_right, has_cases, has_map, from_map, once_append, first_of}
 use Rattle.foundation.proofs.Chosen.{has_filter, filter_has, has_filter_map, from_filter_map}
@@ -78,14 +78,14 @@ signature_index class order i s (Some f) e b last is = function_index class orde
 pub signature_declared : (h : Classes) → IsHierarchy h → (f : FunctionId) (s : Signature) → signature_of h f ≡ Some s → Has (declared h f.class) f
 signature_declared h keeps f s e = by_class (class_at h f.class) refl e
   where
-    by_class : (o : Option Class) → class_at h f.class ≡ o → signature_in o f.index ≡ Some s → Has (functions_in f.class o) f
+    by_class : (o : Option Class) → class_at h f.class ≡ o → signature_in o f.index ≡ Some s → Has (function_ids_in f.class o) f
     by_class None at is = cc
     by_class (Some class) at is = has_map (function_at f.class) (indices_in class) f.index (signature_index class (keeps.orders f.class class at) f.index s (slice_get class.functions f.index) refl (nat_eq f.index (length class.functions)) refl is)
 
 pub is_declared : (h : Classes) → IsHierarchy h → (c : ClassId) (f : FunctionId) → f.class ≡ c → (s : Signature) × (signature_of h f ≡ Some s) → Has (declared h c) f
 is_declared h keeps c f class s = subst (λ (x : ClassId). Has (declared h x) f) class (signature_declared h keeps f s.0 s.1)
 
-declared_in : (c : ClassId) (o : Option Class) (f : FunctionId) → Has (functions_in c o) f → f.class ≡ c
+declared_in : (c : ClassId) (o : Option Class) (f : FunctionId) → Has (function_ids_in c o) f → f.class ≡ c
 declared_in c None f has = absurd has
 declared_in c (Some class) f has = let r = from_map (function_at c) (indices_in class) f has in ap (λ (g : FunctionId). g.class) (sym r.2)
 
@@ -122,7 +122,7 @@ index_bound class order i has = ⊎_elim
 pub declared_signature : (h : Classes) → IsHierarchy h → (c : ClassId) (f : FunctionId) → Has (declared h c) f → (s : Signature) × (signature_of h f ≡ Some s)
 declared_signature h keeps c f has = by_class (class_at h c) refl has
   where
-    by_class : (o : Option Class) → class_at h c ≡ o → Has (functions_in c o) f → (s : Signature) × (signature_of h f ≡ Some s)
+    by_class : (o : Option Class) → class_at h c ≡ o → Has (function_ids_in c o) f → (s : Signature) × (signature_of h f ≡ Some s)
     by_class None e k = absurd k
     by_class (Some class) e k =
         let r = from_map (function_at c) (indices_in class) f k in
@@ -172,6 +172,6 @@ indices_once class order =
 pub declared_once : (h : Classes) → IsHierarchy h → (c : ClassId) → EachOnce (declared h c)
 declared_once h keeps c = by_class (class_at h c) refl
   where
-    by_class : (o : Option Class) → class_at h c ≡ o → EachOnce (functions_in c o)
+    by_class : (o : Option Class) → class_at h c ≡ o → EachOnce (function_ids_in c o)
     by_class None e = tt
     by_class (Some class) e = once_map (function_at c) (indices_in class) (λ i j a b k. ap (λ (f : FunctionId). f.index) k) (indices_once class (keeps.orders c class e))

@@ -19,7 +19,7 @@ use Rattle.cxx_overrider.proofs.FinalLaws.{some_final}
 use Rattle.cxx_overrider.proofs.ViewLaws.{view_final, one_in_view, whole_final}
 use Rattle.foundation.proofs.Members.{Has, has_map, from_map, has_flat_map, from_flat_map}
 use Rattle.foundation.proofs.Chosen.{has_filter, filter_has, all_each, each_all, find_passes}
-use Rattle.cxx_search.specs.Searches.{parts_of, is_within, overrider, overriders_in, contains_all, candidates, final_in}
+use Rattle.cxx_search.specs.Searches.{subobjects_under, is_within, overrider, overriders_in, contains_all, candidates, final_in}
 use Rattle.cxx_search.proofs.Finding.{finds_some}
 use Rattle.cxx_search.proofs.Within.{parts_inside, inside_parts, within_inside, inside_within}
 use Rattle.cxx_search.proofs.Names.{name_signature, signature_name}
@@ -34,9 +34,9 @@ module _ (h : Classes) (keeps : IsHierarchy h) (c : ClassId) (x : Subobject) (th
 
   found_shares : (o : Overrider) → Has (candidates h x y f) o → Shares o
   found_shares o has =
-      let r = from_flat_map (λ t. overriders_in h f t (class_of t)) (filter (λ t. is_within h t y) (parts_of h x)) o has in
+      let r = from_flat_map (λ t. overriders_in h f t (class_of t)) (filter (λ t. is_within h t y) (subobjects_under h x)) o has in
       let t = r.0 in
-      let part = has_filter (λ z. is_within h z y) (parts_of h x) t r.1 in
+      let part = has_filter (λ z. is_within h z y) (subobjects_under h x) t r.1 in
       by_class t (parts_inside h x t part.0) (within_inside h t y part.1) (class_of t) refl r.2
     where
       by_class : (t : Subobject) → IsInside h x t → IsInside h t y → (d : Option ClassId) → class_of t ≡ d → Has (overriders_in h f t d) o → Shares o
@@ -60,11 +60,11 @@ module _ (h : Classes) (keeps : IsHierarchy h) (c : ClassId) (x : Subobject) (th
   shares_found : (o : Overrider) (signature : Signature) → signature_of h f ≡ Some signature → IsCandidateIn h c x y signature o → Has (candidates h x y f) o
   shares_found o signature is k =
       let cand = k.candidate in
-      let part = filter_has (λ z. is_within h z y) (parts_of h x) o.at (inside_parts h keeps x o.at k.inside) (inside_within h keeps o.at y cand.contains) in
+      let part = filter_has (λ z. is_within h z y) (subobjects_under h x) o.at (inside_parts h keeps x o.at k.inside) (inside_within h keeps o.at y cand.contains) in
       let named = filter_has (same_name h f) (declared h o.function.class) o.function (signature_declared h keeps o.function signature cand.same) (signature_name h f o.function signature is cand.same) in
       let listed = has_map (overrider o.at) (filter (same_name h f) (declared h o.function.class)) o.function named in
       let here : Has (overriders_in h f o.at (class_of o.at)) o = subst (λ d. Has (overriders_in h f o.at d) o) (sym cand.class) listed in
-      has_flat_map (λ t. overriders_in h f t (class_of t)) (filter (λ t. is_within h t y) (parts_of h x)) o.at o part here
+      has_flat_map (λ t. overriders_in h f t (class_of t)) (filter (λ t. is_within h t y) (subobjects_under h x)) o.at o part here
 
   pub found_final : (o : Overrider) → final_in h x y f ≡ Some o → IsFinalIn h c x y f o
   found_final o e =

@@ -19,12 +19,12 @@ preorder_of h None = []
 preorder_of h (Some c) = preorder h c
 
 -- the subobjects of x, each as a subobject of the object that x is one of
-abbrev pub parts_of : Classes → Subobject → List Subobject
-parts_of h x = map (join x) (preorder_of h (class_of x))
+abbrev pub subobjects_under : Classes → Subobject → List Subobject
+subobjects_under h x = map (join x) (preorder_of h (class_of x))
 
 -- y is x or a base subobject of it, direct or not
 abbrev pub is_within : Classes → Subobject → Subobject → Bool
-is_within h x y = list_any (same_subobject y) (parts_of h x)
+is_within h x y = list_any (same_subobject y) (subobjects_under h x)
 
 -- what is found behind a direct base of the class of s, if the base is public
 abbrev pub public_tree_of : (ClassId → Subobject → List Subobject) → Subobject → Base ClassId → List Subobject
@@ -64,7 +64,7 @@ overriders_in h f t (Some c) = map (overrider t) (filter (same_name h f) (declar
 
 -- the functions of the name and parameters of f in the subobjects of x that contain y
 abbrev pub candidates : Classes → Subobject → Subobject → FunctionId → List Overrider
-candidates h x y f = flat_map (λ t. overriders_in h f t (class_of t)) (filter (λ t. is_within h t y) (parts_of h x))
+candidates h x y f = flat_map (λ t. overriders_in h f t (class_of t)) (filter (λ t. is_within h t y) (subobjects_under h x))
 
 -- the subobject of o contains that of each other candidate
 abbrev pub contains_all : Classes → List Overrider → Overrider → Bool
@@ -114,7 +114,7 @@ where_it f (Some s) = if f s then Some s else None
 
 -- the subobjects of class `target` in the view x
 abbrev pub targets : Classes → ClassId → Subobject → List Subobject
-targets h target x = filter (is_of_class target) (parts_of h x)
+targets h target x = filter (is_of_class target) (subobjects_under h x)
 
 -- a cast down: exactly one of the targets contains y, and y is a public base of it (ISO C++03 5.2.7 p8, first clause)
 abbrev pub cast_down : Classes → ClassId → Subobject → Subobject → Option Subobject

@@ -19,7 +19,7 @@ use Rattle.cxx_subobject.specs.declared.parts.Counts.{Counts}
 use Rattle.cxx_subobject.specs.Subobjects.{IsSubobject, whole, shared, shared_base, whole_of, base_subobject, last_of, class_of}
 use Rattle.cxx_subobject.specs.Preorder.{tree, preorder}
 use Rattle.cxx_subobject.specs.Parts.{elements_of, parts_in, member_parts, parts_within, parts_of, IsWithinLimits}
-use Rattle.cxx_subobject.specs.invariants.Counts.{own_bases, own_within, own_of, parts_weight, parts_of_members, IsCapped, ListsVirtualBases, IsSharedSum, IsSharedValue, AreWithin, KnowsObject, HasGoodCount, AreCounts}
+use Rattle.cxx_subobject.specs.invariants.Counts.{own_bases, own_within, own_of, parts_weight, parts_of_members, IsCapped, ListsVirtualBases, IsSharedSum, IsSharedValue, AreCapped, KnowsObject, HasGoodCount, AreCounts}
 use Rattle.foundation.proofs.Truth.{split}
 use Rattle.foundation.proofs.Members.{Has, EachOnce, has_left, has_right, has_cases, once_append, contains_from_has, has_from_contains, once_by_place}
 use Rattle.cxx_subobject.proofs.TreeLemmas.{preorder_has, has_preorder, firsts_once}
@@ -242,7 +242,7 @@ member_more f members i m sum value new lt is sum_is value_is new_is =
     min_steps : (sum a y z b new : ℕ) → sum ≡ min (1 + a) 65537 → min y 65537 ≡ min z 65537 → b ≡ a + z → new ≡ min (sum + y) 65537 → new ≡ min (1 + b) 65537
     min_steps sum a y z b new p r s t = omega arith
 
-pub capped_within : (limit : ℕ) (f : ClassId → ℕ) (values : List ℕ) → IsCapped limit f values → AreWithin limit values
+pub capped_within : (limit : ℕ) (f : ClassId → ℕ) (values : List ℕ) → IsCapped limit f values → AreCapped limit values
 capped_within limit f values capped = record {
   each = λ i. ⊎_elim
       (λ a. let e : get_or values i 0 ≡ min (f (record { 0 = i })) (limit + 1) = capped.each (record { 0 = i }) a in omega arith)

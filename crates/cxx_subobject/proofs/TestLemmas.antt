@@ -14,7 +14,7 @@ use Rattle.cxx_subobject.specs.declared.Root.TheVariants.{Whole, Shared}
 use Rattle.cxx_subobject.specs.declared.Subobject.{Subobject}
 use Rattle.cxx_subobject.specs.Subobjects.{Leads, IsSubobject, whole, shared, subobject, shared_base, base_subobject, last_of, class_of_path, class_of, same_root, same_subobject}
 use Rattle.cxx_subobject.specs.Inside.{IsInside, IsPublicWalk, stays, steps}
-use Rattle.cxx_subobject.specs.invariants.Tests.{begins, is_longer, ReachesRoot, ReachesRootPublicly, leads_publicly, is_public_path, is_public_down}
+use Rattle.cxx_subobject.specs.invariants.Tests.{path_begins, is_longer, ReachesRoot, ReachesRootPublicly, leads_publicly, is_public_path, is_public_down}
 use Rattle.foundation.proofs.Truth.{split, is_false}
 use Rattle.cxx_subobject.proofs.TreeLemmas.{base_down, base_across, root_same, root_itself, subobject_same}
 use Rattle.cxx_subobject.proofs.PathLemmas.{same_id, last_append, leads_rest, class_there}
@@ -31,23 +31,23 @@ last_there (c ∷ b ∷ path) d lt =
     let e : length (c ∷ b ∷ path) - 1 ≡ suc (length (b ∷ path) - 1) = omega arith in
     ap (λ n. Some (slice_index_or (c ∷ b ∷ path) n d)) e ∙ last_there (b ∷ path) d (omega arith)
 
-pub begins_from : (p q : List ClassId) → begins p (p ++ q) ≡ true
+pub begins_from : (p q : List ClassId) → path_begins p (p ++ q) ≡ true
 begins_from [] q = refl
 begins_from (c ∷ p) q = rw (eq-eqb c.0 c.0 refl) (begins_from p q)
 
-begins_rest : (p path : List ClassId) → begins p path ≡ true → (q : List ClassId) × (path ≡ p ++ q)
+begins_rest : (p path : List ClassId) → path_begins p path ≡ true → (q : List ClassId) × (path ≡ p ++ q)
 begins_rest [] path e = (path, refl)
 begins_rest (c ∷ p) [] e = absurd (cc)
 begins_rest (c ∷ p) (d ∷ path) e =
-    let both = and_parts (nat_eq c.0 d.0) (begins p path) e in
+    let both = and_parts (nat_eq c.0 d.0) (path_begins p path) e in
     let r = begins_rest p path both.1 in
     (r.0, ap (λ (x : ClassId). x ∷ path) (sym (same_id c d (eqb-true c.0 d.0 both.0))) ∙ ap (λ xs. c ∷ xs) r.1)
 
-pub begins_shorter : (p path : List ClassId) → begins p path ≡ true → length p ≤ length path
+pub begins_shorter : (p path : List ClassId) → path_begins p path ≡ true → length p ≤ length path
 begins_shorter p path e = let r = begins_rest p path e in let f : length path ≡ length p + length r.0 = ap length r.1 ∙ length-append p r.0 in omega arith
 
 pub longer_shorter : (outer inner : Subobject) → is_longer outer inner ≡ true → length outer.path ≤ length inner.path
-longer_shorter outer inner e = begins_shorter outer.path inner.path (and_parts (same_root outer.root inner.root) (begins outer.path inner.path) e).1
+longer_shorter outer inner e = begins_shorter outer.path inner.path (and_parts (same_root outer.root inner.root) (path_begins outer.path inner.path) e).1
 
 -- what a longer path is
 pub record IsLonger (outer inner : Subobject) : Type 0 where
@@ -56,14 +56,14 @@ pub record IsLonger (outer inner : Subobject) : Type 0 where
 
 pub longer_sound : (outer inner : Subobject) → is_longer outer inner ≡ true → IsLonger outer inner
 longer_sound outer inner e =
-    let both = and_parts (same_root outer.root inner.root) (begins outer.path inner.path) e in
+    let both = and_parts (same_root outer.root inner.root) (path_begins outer.path inner.path) e in
     let r = begins_rest outer.path inner.path both.1 in
     let is : subobject inner.root inner.path ≡ subobject outer.root (outer.path ++ r.0) = ap (λ x. subobject x inner.path) (sym (root_same outer.root inner.root both.0)) ∙ ap (λ p. subobject outer.root p) r.1 in
     record { rest = r.0; is = is }
 
 pub longer_complete : (outer inner : Subobject) (rest : List ClassId) → inner ≡ subobject outer.root (outer.path ++ rest) → is_longer outer inner ≡ true
 longer_complete outer inner rest is = subst (λ (x : Subobject). is_longer outer x ≡ true) (sym is)
-    (and_from (same_root outer.root outer.root) (begins outer.path (outer.path ++ rest)) (root_itself outer.root) (begins_from outer.path rest))
+    (and_from (same_root outer.root outer.root) (path_begins outer.path (outer.path ++ rest)) (root_itself outer.root) (begins_from outer.path rest))
 
 -- the head of a subobject's path, and what its path leads along
 pub record HasPath (h : Classes) (s : Subobject) : Type 0 where

@@ -17,7 +17,7 @@ use Rattle.cxx_subobject.specs.declared.Root.TheVariants.{Whole, Shared}
 use Rattle.cxx_subobject.specs.declared.Subobject.{Subobject}
 use Rattle.cxx_subobject.specs.Subobjects.{IsSubobject, whole, shared, subobject, shared_base, whole_of, base_subobject, last_of, class_of_path, class_of, same_subobject}
 use Rattle.cxx_subobject.specs.Preorder.{tree, firsts, preorder}
-use Rattle.cxx_subobject.specs.invariants.Walks.{is_listed, with_new, IsFresh, AreMarks, IsPlaced, IsClosed}
+use Rattle.cxx_subobject.specs.invariants.Walks.{is_listed, with_new, IsFresh, AreSharedMarks, IsPlaced, IsClosed}
 use Rattle.foundation.proofs.Truth.{split}
 use Rattle.foundation.proofs.Members.{Has, has_left, has_right, has_cases, from_flat_map, has_at, contains_from_has, has_from_contains}
 use Rattle.cxx_subobject.proofs.TreeLemmas.{IsBelow, down, across, base_down, base_across, edge, tree_sound, tree_complete, tree_steps, subobject_same, same_itself, one_more, base_listed}
@@ -264,7 +264,7 @@ longer_shared : (p q : List ClassId) (v b c : ClassId) → class_of_path p ≡ S
 longer_shared [] q v b c class e = absurd (cc)
 longer_shared (x ∷ p) q v b c class e = (p, let same : v ≡ x = cc in ap (λ (y : ClassId). y ∷ p) (sym same))
 
-pub marks_down : (marks : List Bool) (found : List Subobject) (s : Subobject) (c b : ClassId) → AreMarks marks found → Has found s → class_of s ≡ Some c → AreMarks marks (found ++ subobject s.root (s.path ++ b ∷ []) ∷ [])
+pub marks_down : (marks : List Bool) (found : List Subobject) (s : Subobject) (c b : ClassId) → AreSharedMarks marks found → Has found s → class_of s ≡ Some c → AreSharedMarks marks (found ++ subobject s.root (s.path ++ b ∷ []) ∷ [])
 marks_down marks found s c b are there class = record {
   marked = λ v e. contains_from_has _ (shared_base v) (has_left found _ (shared_base v) (has_from_contains found (shared_base v) (are.marked v e)));
   unmarked = λ v path has. ⊎_elim
@@ -294,7 +294,7 @@ mark_set marks v w lt h = split (nat_eq w v) (λ b. get_or (set marks v true) w 
 same_class : (x y : ClassId) → x.0 ≡ y.0 → x ≡ y
 same_class x y e = let make : ℕ → ClassId = λ n. record { 0 = n } in let f : make x.0 ≡ make y.0 = ap make e in f
 
-pub marks_across : (marks : List Bool) (found : List Subobject) (v : ClassId) → AreMarks marks found → v.0 < length marks → AreMarks (set marks v.0 true) (found ++ shared_base v ∷ [])
+pub marks_across : (marks : List Bool) (found : List Subobject) (v : ClassId) → AreSharedMarks marks found → v.0 < length marks → AreSharedMarks (set marks v.0 true) (found ++ shared_base v ∷ [])
 marks_across marks found v are lt = record {
   marked = λ w e. contains_from_has _ (shared_base w) (⊎_elim
       (λ same. has_right found (shared_base v ∷ []) (shared_base w) (inl (ap shared_base (same_class v w (sym same)))))
@@ -306,10 +306,10 @@ marks_across marks found v are lt = record {
       (has_cases found (shared_base v ∷ []) (subobject (Shared w) (w ∷ path)) (has_from_contains _ _ has)));
 }
 
-pub fresh_shared : (marks : List Bool) (found : List Subobject) (v : ClassId) → AreMarks marks found → get_or marks v.0 false ≡ false → IsFresh found (shared_base v)
+pub fresh_shared : (marks : List Bool) (found : List Subobject) (v : ClassId) → AreSharedMarks marks found → get_or marks v.0 false ≡ false → IsFresh found (shared_base v)
 fresh_shared marks found v are e = record { none = λ path has. let f = are.unmarked v path has in let bad : true ≡ false = sym f ∙ e in cc }
 
-pub skip_shared : (h : Classes) → IsHierarchy h → (c : ClassId) (s : Subobject) (base : Base ClassId) (marks : List Bool) (found : List Subobject) → Contains (bases_of h c) base → base.is_virtual ≡ true → AreMarks marks found →
+pub skip_shared : (h : Classes) → IsHierarchy h → (c : ClassId) (s : Subobject) (base : Base ClassId) (marks : List Bool) (found : List Subobject) → Contains (bases_of h c) base → base.is_virtual ≡ true → AreSharedMarks marks found →
     get_or marks base.class.0 false ≡ true → IsClosed h c.0 found → with_new found (below h c s base) ≡ found
 skip_shared h keeps c s base marks found listed way are marked closed =
     let less = keeps.bases c base listed in
@@ -352,12 +352,12 @@ pub record IsWalked (h : Classes) (c : ClassId) (s : Subobject) (bases : List (B
   pub items : bases ≡ bases_of h c
   pub size : length held ≡ length h
   pub found : list ≡ with_new (old ++ s ∷ []) (flat_map (below h c s) (take i bases))
-  pub marks : AreMarks held list
+  pub marks : AreSharedMarks held list
   pub closed : IsClosed h c.0 list
 
 pub next_walked : (h : Classes) → IsHierarchy h → (c : ClassId) (s : Subobject) (bases : List (Base ClassId)) (i : ℕ) (d : Base ClassId) (old : List Subobject) (marks new_marks : List Bool) (found new_found : List Subobject) (inner : Subobject) →
     IsPlaced h c s → i < length bases → IsWalked h c s bases i old marks found → inner ≡ base_subobject s (get_or bases i d) →
-    new_found ≡ with_new found (tree h ((get_or bases i d).class.0 + 1) (get_or bases i d).class inner) → AreMarks new_marks new_found → length new_marks ≡ length h → IsWalked h c s bases (i + 1) old new_marks new_found
+    new_found ≡ with_new found (tree h ((get_or bases i d).class.0 + 1) (get_or bases i d).class inner) → AreSharedMarks new_marks new_found → length new_marks ≡ length h → IsWalked h c s bases (i + 1) old new_marks new_found
 next_walked h keeps c s bases i d old marks new_marks found new_found inner placed lt walked inner_is new_is new_are size =
     let base = get_or bases i d in
     let listed = base_listed h c bases i d walked.items lt in
@@ -396,7 +396,7 @@ all_false zero v = refl
 all_false (suc n) zero = refl
 all_false (suc n) (suc v) = all_false n v
 
-pub marks_start : (n : ℕ) (c : ClassId) → AreMarks (replicate n false) (whole_of c ∷ [])
+pub marks_start : (n : ℕ) (c : ClassId) → AreSharedMarks (replicate n false) (whole_of c ∷ [])
 marks_start n c = record {
   marked = λ v e. let bad : true ≡ false = sym e ∙ all_false n v.0 in absurd (cc);
   unmarked = λ v path has. ⊎_elim (λ e. let roots : Whole ≡ Shared v = ap (λ (x : Subobject). x.root) e in absurd (cc)) (λ bad. absurd bad) (has_from_contains (whole_of c ∷ []) _ has);

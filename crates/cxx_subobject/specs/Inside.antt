@@ -21,14 +21,14 @@ pub record IsPart (h : Classes) (outer part : Subobject) : Type 0 where
   pub valid : IsSubobject h class part
 
 -- a path begins with another
-abbrev pub begins : List ClassId → List ClassId → Bool
-begins [] path = true
-begins (c ∷ front) [] = false
-begins (c ∷ front) (d ∷ path) = nat_eq c.0 d.0 && begins front path
+abbrev pub path_begins : List ClassId → List ClassId → Bool
+path_begins [] path = true
+path_begins (c ∷ front) [] = false
+path_begins (c ∷ front) (d ∷ path) = nat_eq c.0 d.0 && path_begins front path
 
 -- the inner one lies in the non-virtual part of the outer one: it has its root, and a path that goes on from its path
 abbrev pub is_longer : Subobject → Subobject → Bool
-is_longer outer inner = same_root outer.root inner.root && begins outer.path inner.path
+is_longer outer inner = same_root outer.root inner.root && path_begins outer.path inner.path
 
 -- a walk of public edges from one subobject to another: each step goes to the subobject of a public direct base of
 -- the class it stands at (ISO C++03 11.2)

@@ -9,7 +9,7 @@ ghost use Rattle.cxx_hierarchy.specs.declared.records.ClassId.{ClassId};
 ghost use Rattle.cxx_subobject.specs.declared.Subobject.{Subobject};
 ghost use Rattle.cxx_subobject.specs.Subobjects.{IsSubobject, join, tail_of, class_of, shared_base};
 ghost use Rattle.cxx_subobject.specs.Inside.{IsInside, IsPart, IsPublicWalk};
-ghost use Rattle.cxx_subobject.specs.invariants.Tests.{begins, is_longer, ReachesRoot, ReachesRootPublicly, leads_publicly, is_public_path, is_public_down};
+ghost use Rattle.cxx_subobject.specs.invariants.Tests.{path_begins, is_longer, ReachesRoot, ReachesRootPublicly, leads_publicly, is_public_path, is_public_down};
 
 use crate::listing::subobject_below;
 use crate::sameness::is_same_root;
@@ -30,7 +30,7 @@ fn classes_below(path: &[ClassId]) -> &[ClassId]
 
 /// Whether a path begins with another.
 fn begins(front: &[ClassId], path: &[ClassId]) -> bool
-    ensures { result ≡ begins front.now path.now }
+    ensures { result ≡ path_begins front.now path.now }
 {
     match front {
         [] => true,

@@ -4,7 +4,7 @@ ghost use Rattle.std.specs.Prelude.{◌≡◌, ◌+◌, ◌≤◌, ◌<◌, ◌+
 ghost use Rattle.cxx_subobject.specs.Subobjects.{subobject, shared_base};
 ghost use Rattle.cxx_subobject.specs.Preorder.{tree, preorder, ListsSubobjects};
 ghost use Rattle.cxx_subobject.specs.Parts.{IsWithinLimits};
-ghost use Rattle.cxx_subobject.specs.invariants.Walks.{with_new, IsFresh, AreMarks, IsClosed, IsPlaced};
+ghost use Rattle.cxx_subobject.specs.invariants.Walks.{with_new, IsFresh, AreSharedMarks, IsClosed, IsPlaced};
 
 use crate::parts::PartCounts;
 use crate::{ClassPath, Root, Subobject};
@@ -100,11 +100,11 @@ fn visit(
     requires size { length marks.old ≡ length h.now }
     requires place { IsPlaced h.now c s.now }
     requires fresh { IsFresh found.old.items s.now }
-    requires marks { AreMarks marks.old (found.old.items ++ s.now ∷ []) }
+    requires marks { AreSharedMarks marks.old (found.old.items ++ s.now ∷ []) }
     requires closed { IsClosed h.now (c.0 + 1) found.old.items }
     ensures size { length marks.new ≡ length h.now }
     ensures found { OnOk result (found.new.items ≡ with_new found.old.items (tree h.now (c.0 + 1) c s.now)) }
-    ensures marks { OnOk result (AreMarks marks.new found.new.items) }
+    ensures marks { OnOk result (AreSharedMarks marks.new found.new.items) }
 {
     h.keeps();
     push_again(alloc, s, found)?;

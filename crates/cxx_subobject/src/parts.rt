@@ -8,7 +8,7 @@ ghost use Rattle.cxx_hierarchy.specs.Classes.{Classes};
 ghost use Rattle.cxx_hierarchy.specs.VirtualBases.{HasVirtualBase};
 ghost use Rattle.cxx_subobject.specs.VirtualFlags.{TellsVirtualBases};
 ghost use Rattle.cxx_subobject.specs.Parts.{IsWithinLimits, TellsLimits, elements_of, parts_in};
-ghost use Rattle.cxx_subobject.specs.invariants.Counts.{AreWithin, IsCapped, IsSharedSum, IsSharedValue, KnowsObject, HasGoodCount, own_bases, parts_of_members, AreCounts};
+ghost use Rattle.cxx_subobject.specs.invariants.Counts.{AreCapped, IsCapped, IsSharedSum, IsSharedValue, KnowsObject, HasGoodCount, own_bases, parts_of_members, AreCounts};
 
 use crate::virtual_flags::{classes_with_virtual_bases, has_virtual_bases};
 use cxx_hierarchy::{Base, ClassId, FieldType, Hierarchy, Member};
@@ -33,7 +33,7 @@ fn capped(limit: u32, one: u32, other: u32) -> u32
 /// What a base has outside its virtual bases: nothing where it is itself a virtual base.
 fn own_value(base: &Base<ClassId>, values: &[u32]) -> u32
     requires { base.now.class.0 < length values.now }
-    ensures within { (limit : ℕ) → AreWithin limit values.now → result ≤ limit + 1 }
+    ensures within { (limit : ℕ) → AreCapped limit values.now → result ≤ limit + 1 }
     ensures value { result ≡ (if base.now.is_virtual then 0 else get_or values.now base.now.class.0 0) }
 {
     if base.is_virtual {
@@ -48,7 +48,7 @@ fn base_sum(bases: &[Base<ClassId>], values: &[u32], limit: u32, start: u32) -> 
     requires limit { limit ≤ 65536 }
     requires start { start ≤ limit + 1 }
     requires known { All (λ (base : Base ClassId). base.class.0 < length values.now) bases.now }
-    requires values { AreWithin limit values.now }
+    requires values { AreCapped limit values.now }
     ensures within { result ≤ limit + 1 }
     ensures sum { (f : ClassId → ℕ) → (n : ℕ) → IsCapped limit f values.now → start ≡ min n (limit + 1) → result ≡ min (n + own_bases f bases.now) (limit + 1) }
 {
@@ -62,7 +62,7 @@ fn base_sum(bases: &[Base<ClassId>], values: &[u32], limit: u32, start: u32) -> 
 /// What a class has where it is a virtual base of another, and else nothing.
 fn shared_value(h: &Hierarchy, c: ClassId, v: ClassId, values: &[u32]) -> u32
     requires { v.0 < length values.now }
-    ensures within { (limit : ℕ) → AreWithin limit values.now → result ≤ limit + 1 }
+    ensures within { (limit : ℕ) → AreCapped limit values.now → result ≤ limit + 1 }
     ensures value { IsSharedValue h.now c v values.now result }
 {
     if h.has_virtual_base(c, v) {
@@ -85,7 +85,7 @@ fn shared_sum(
     requires limit { limit ≤ 65536 }
     requires start { start ≤ limit + 1 }
     requires known { c.0 ≤ length values.now }
-    requires values { AreWithin limit values.now }
+    requires values { AreCapped limit values.now }
     ensures within { result ≤ limit + 1 }
     ensures sum { (f : ClassId → ℕ) → (n : ℕ) → IsCapped limit f values.now → start ≡ min n (limit + 1) → IsSharedSum h.now c c.0 f n limit result }
 {
@@ -102,7 +102,7 @@ fn shared_sum(
 /// The parts of one element.
 fn element_parts(ty: &FieldType<ClassId>, parts: &[u32]) -> u32
     requires known { KnowsObject parts.now ty.now }
-    requires parts { AreWithin 65536 parts.now }
+    requires parts { AreCapped 65536 parts.now }
     ensures within { result ≤ 65537 }
     ensures parts { (f : ClassId → ℕ) → IsCapped 65536 f parts.now → result ≡ min (parts_in f ty.now) 65537 }
 {
@@ -116,7 +116,7 @@ fn element_parts(ty: &FieldType<ClassId>, parts: &[u32]) -> u32
 fn parts_of_member(member: &Member<ClassId>, parts: &[u32]) -> u32
     requires known { KnowsObject parts.now member.now.ty }
     requires count { HasGoodCount member.now }
-    requires parts { AreWithin 65536 parts.now }
+    requires parts { AreCapped 65536 parts.now }
     ensures within { result ≤ 268439552 }
     ensures parts { (f : ClassId → ℕ) → IsCapped 65536 f parts.now → min result 65537 ≡ min (elements_of member.now.count * parts_in f member.now.ty) 65537 }
 {
@@ -134,7 +134,7 @@ fn is_small(subobjects: u32, parts: u32) -> bool
 fn member_sum(members: &[Member<ClassId>], parts: &[u32]) -> u32
     requires known { All (λ (member : Member ClassId). KnowsObject parts.now member.ty) members.now }
     requires counts { All HasGoodCount members.now }
-    requires parts { AreWithin 65536 parts.now }
+    requires parts { AreCapped 65536 parts.now }
     ensures within { result ≤ 65537 }
     ensures parts { (f : ClassId → ℕ) → IsCapped 65536 f parts.now → result ≡ min (1 + parts_of_members f members.now) 65537 }
 {

@@ -21,25 +21,25 @@ use Rattle.cxx_syntax.specs.declared.part.Part.{Part}
 use Rattle.cxx_syntax.specs.declared.part.Part.TheVariants as part
 use Rattle.cxx_syntax.specs.Parts.{Spelled}
 
-abbrev pub member_in : Part → Option (Member Spelled)
-member_in (part.Field m ty_at) = Some m
-member_in _ = None
+abbrev pub member_from : Part → Option (Member Spelled)
+member_from (part.Field m ty_at) = Some m
+member_from _ = None
 
-abbrev pub function_in : Part → Option (Function Spelled)
-function_in (part.Function f ty_at body) = Some f
-function_in _ = None
+abbrev pub function_from : Part → Option (Function Spelled)
+function_from (part.Function f ty_at body) = Some f
+function_from _ = None
 
 -- the data members and the functions, in their order
-abbrev pub members_of : List Part → List (Member Spelled)
-members_of parts = filter_map member_in parts
+abbrev pub members_among : List Part → List (Member Spelled)
+members_among parts = filter_map member_from parts
 
-abbrev pub functions_of : List Part → List (Function Spelled)
-functions_of parts = filter_map function_in parts
+abbrev pub functions_among : List Part → List (Function Spelled)
+functions_among parts = filter_map function_from parts
 
 -- what each part gives, by the parts before it
-abbrev pub in_turn : {X : Type 0} → (List Part → Part → List X) → List Part → List Part → List X
-in_turn give before [] = []
-in_turn give before (p ∷ ps) = give before p ++ in_turn give (before ++ p ∷ []) ps
+abbrev pub given_by_parts : {X : Type 0} → (List Part → Part → List X) → List Part → List Part → List X
+given_by_parts give before [] = []
+given_by_parts give before (p ∷ ps) = give before p ++ given_by_parts give (before ++ p ∷ []) ps
 
 abbrev pub entry : PartKind → ℕ → Option ℕ → ℕ → List PartAt
 entry k number ty_at at = record { kind = k; number = number; ty_at = ty_at; at = at } ∷ []
@@ -47,17 +47,17 @@ entry k number ty_at at = record { kind = k; number = number; ty_at = ty_at; at 
 -- a part in the order of the class: a member's number counts the members before it, a function's the functions
 abbrev pub part_at : List Part → Part → List PartAt
 part_at before (part.Label p) = []
-part_at before (part.Field m ty_at) = entry kind.Member (length (members_of before)) (Some ty_at) m.at
-part_at before (part.Function f ty_at body) = entry kind.Function (length (functions_of before)) (Some ty_at) f.at
+part_at before (part.Field m ty_at) = entry kind.Member (length (members_among before)) (Some ty_at) m.at
+part_at before (part.Function f ty_at body) = entry kind.Function (length (functions_among before)) (Some ty_at) f.at
 part_at before (part.Constructor at inits body) = entry kind.Constructor 0 None at
 part_at before (part.Destructor v at body) = entry kind.Destructor 0 None at
 
 abbrev pub order_of : List Part → List PartAt
-order_of parts = in_turn part_at [] parts
+order_of parts = given_by_parts part_at [] parts
 
-abbrev pub is_constructor : Part → Bool
-is_constructor (part.Constructor at inits body) = true
-is_constructor _ = false
+abbrev pub is_constructor_part : Part → Bool
+is_constructor_part (part.Constructor at inits body) = true
+is_constructor_part _ = false
 
 abbrev pub declared_destructor : Bool → Destructor
 declared_destructor false = destructor.Plain
@@ -73,8 +73,8 @@ abbrev pub last_destructor : Destructor → List Part → Destructor
 last_destructor d [] = d
 last_destructor d (p ∷ ps) = last_destructor (destructor_after d p) ps
 
-abbrev pub destructor_of : List Part → Destructor
-destructor_of parts = last_destructor destructor.Implicit parts
+abbrev pub destructor_among : List Part → Destructor
+destructor_among parts = last_destructor destructor.Implicit parts
 
 -- the record of a class with this name token
 abbrev pub record_of : List ℕ → Lexeme → List (Base Spelled) → List Part → ClassRec Spelled
@@ -82,11 +82,11 @@ record_of text n bases parts = record {
   name = bytes_of text n;
   at = n.at;
   bases = bases;
-  members = members_of parts;
-  functions = functions_of parts;
+  members = members_among parts;
+  functions = functions_among parts;
   order = order_of parts;
-  has_constructor = list_any is_constructor parts;
-  destructor = destructor_of parts;
+  has_constructor = list_any is_constructor_part parts;
+  destructor = destructor_among parts;
 }
 
 abbrev pub a_body : Spelled → BodyOwner → List Init → BodyTree → List Body
@@ -97,9 +97,9 @@ abbrev pub body_at : Spelled → List Part → Part → List Body
 body_at class before (part.Label p) = []
 body_at class before (part.Field m ty_at) = []
 body_at class before (part.Function f ty_at None) = []
-body_at class before (part.Function f ty_at (Some tree)) = a_body class (owner.Function (length (functions_of before))) [] tree
+body_at class before (part.Function f ty_at (Some tree)) = a_body class (owner.Function (length (functions_among before))) [] tree
 body_at class before (part.Constructor at inits tree) = a_body class owner.Constructor inits tree
 body_at class before (part.Destructor v at tree) = a_body class owner.Destructor [] tree
 
 abbrev pub bodies_of : Spelled → List Part → List Body
-bodies_of class parts = in_turn (body_at class) [] parts
+bodies_of class parts = given_by_parts (body_at class) [] parts

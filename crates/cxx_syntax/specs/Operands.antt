@@ -105,20 +105,20 @@ pub data CallReads (text : List ℕ) : CallText → List Lexeme → List Lexeme 
       x.class ≡ Some (spot_of text k) → x.name ≡ spot_of text n → CallReads text x ts rest
 
 -- "static_cast" | "dynamic_cast"
-abbrev pub cast_of : Sort → Option CastKind
-cast_of StaticCast = Some cast.Static
-cast_of DynamicCast = Some cast.Dynamic
-cast_of _ = None
+abbrev pub cast_kind : Sort → Option CastKind
+cast_kind StaticCast = Some cast.Static
+cast_kind DynamicCast = Some cast.Dynamic
+cast_kind _ = None
 
 -- the front token, the word of this cast
-pub record IsCast (k : CastKind) (l : Lexeme) (ts rest : List Lexeme) : Type 0 where
+pub record IsCastWord (k : CastKind) (l : Lexeme) (ts rest : List Lexeme) : Type 0 where
   pub front : ts ≡ l ∷ rest
-  pub cast : cast_of l.sort ≡ Some k
+  pub cast : cast_kind l.sort ≡ Some k
 
 -- cast = ("static_cast" | "dynamic_cast") "<" name "*" ">" "(" pointer ")" | "(" name "*" ")" pointer
 pub data CastReads (text : List ℕ) : CastText → List Lexeme → List Lexeme → Type 0 where
   a_named_cast : {x : CastText} {ts a b c d e f g rest : List Lexeme} {k l n m h o z : Lexeme} →
-      IsCast x.kind k ts a → Is Less l a b → IsName n b c → Is Star m c d → Is Greater h d e →
+      IsCastWord x.kind k ts a → Is Less l a b → IsName n b c → Is Star m c d → Is Greater h d e →
       Is OpenParen o e f → PointerReads text x.pointer f g → Is CloseParen z g rest →
       x.target ≡ spot_of text n → CastReads text x ts rest
   a_plain_cast : {x : CastText} {ts a b c d rest : List Lexeme} {o n m z : Lexeme} →

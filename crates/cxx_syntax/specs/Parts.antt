@@ -41,21 +41,21 @@ pub record IsAccess (is_public : Bool) (l : Lexeme) (ts rest : List Lexeme) : Ty
   pub access : access_of l.sort ≡ Some is_public
 
 -- the base that a name token gives
-abbrev pub base_of : List ℕ → Lexeme → Bool → Bool → Base Spelled
-base_of text n is_virtual is_public = record { class = bytes_of text n; is_virtual = is_virtual; is_public = is_public; at = n.at }
+abbrev pub base_by_token : List ℕ → Lexeme → Bool → Bool → Base Spelled
+base_by_token text n is_virtual is_public = record { class = bytes_of text n; is_virtual = is_virtual; is_public = is_public; at = n.at }
 
 -- base = ["virtual"] [access] name | access "virtual" name, with the access that a base has without a word
 pub data BaseReads (text : List ℕ) (default : Bool) : Base Spelled → List Lexeme → List Lexeme → Type 0 where
   a_base : {b : Base Spelled} {ts rest : List Lexeme} {n : Lexeme} →
-      IsName n ts rest → b ≡ base_of text n false default → BaseReads text default b ts rest
+      IsName n ts rest → b ≡ base_by_token text n false default → BaseReads text default b ts rest
   a_virtual_base : {b : Base Spelled} {ts a rest : List Lexeme} {v n : Lexeme} →
-      Is Virtual v ts a → IsName n a rest → b ≡ base_of text n true default → BaseReads text default b ts rest
+      Is Virtual v ts a → IsName n a rest → b ≡ base_by_token text n true default → BaseReads text default b ts rest
   an_access_base : {b : Base Spelled} {p : Bool} {ts a rest : List Lexeme} {w n : Lexeme} →
-      IsAccess p w ts a → IsName n a rest → b ≡ base_of text n false p → BaseReads text default b ts rest
+      IsAccess p w ts a → IsName n a rest → b ≡ base_by_token text n false p → BaseReads text default b ts rest
   a_virtual_access_base : {b : Base Spelled} {p : Bool} {ts a c rest : List Lexeme} {v w n : Lexeme} →
-      Is Virtual v ts a → IsAccess p w a c → IsName n c rest → b ≡ base_of text n true p → BaseReads text default b ts rest
+      Is Virtual v ts a → IsAccess p w a c → IsName n c rest → b ≡ base_by_token text n true p → BaseReads text default b ts rest
   an_access_virtual_base : {b : Base Spelled} {p : Bool} {ts a c rest : List Lexeme} {w v n : Lexeme} →
-      IsAccess p w ts a → Is Virtual v a c → IsName n c rest → b ≡ base_of text n true p → BaseReads text default b ts rest
+      IsAccess p w ts a → Is Virtual v a c → IsName n c rest → b ≡ base_by_token text n true p → BaseReads text default b ts rest
 
 -- {"," base}
 pub data MoreBasesRead (text : List ℕ) (default : Bool) : List (Base Spelled) → List Lexeme → List Lexeme → Type 0 where

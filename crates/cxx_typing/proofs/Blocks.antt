@@ -28,10 +28,10 @@ use Rattle.cxx_program.specs.Typed.{Types, Scope, IsKnown, HasType, IsTyped, bra
 use Rattle.cxx_expression.specs.declared.scene.Scene.{Scene}
 use Rattle.cxx_expression.specs.declared.scene.Setting.{Setting}
 use Rattle.cxx_expression.specs.Checked.{Checked}
-use Rattle.cxx_expression.specs.Scenes.{declared, opened, closed}
-use Rattle.cxx_expression.specs.Values.{number_of}
+use Rattle.cxx_expression.specs.Scenes.{with_variable, opened, closed}
+use Rattle.cxx_expression.specs.Values.{number_operand}
 use Rattle.cxx_resolve.specs.declared.draft.Draft.{Draft}
-use Rattle.cxx_resolve.specs.Stops.{◌>>=◌}
+use Rattle.cxx_resolve.specs.Stops.{◌>>>◌}
 use Rattle.cxx_resolve.specs.Settled.{settle}
 use Rattle.cxx_resolve.specs.Statements.{declare_of, plain_of}
 use Rattle.cxx_resolve.specs.Walks.{KindMeaning, Meaning, kind_step, statement_step, block_step, kind_meaning, statement_meaning, block_meaning, sizes, walk_all, next_of, plain, pushed, in_scene, ended_scene, declaration, declare_walk, branch, loop, head, if_head, while_head, scoped, most_locals}
@@ -100,7 +100,7 @@ good_declare h q e at ty ty_at x init line n next size d new small good w =
     let go : TypedKind × Scene → Result Draft Stop = λ r. Ok (pushed r.0 line next (in_scene r.1 d)) in
     let r = then_ok (settle p) go new (past (nat_le most_locals d.scene.declared) (Limit L3) (ended_scene p line next d) new w) in
     let is = q.laws.declaration h q.keeps q.pure e d.scene at ty ty_at x init r.0 r.1 in
-    let s = declared d.scene x.name is.ty in
+    let s = with_variable d.scene x.name is.ty in
     let own = declared_scene d.scene x.name is.ty good.own in
     let longer = pushed_on h e size n line next d s r.0.0 (is.ty ∷ []) good refl own (one_more h d.scene.types is.ty is.known good.known) small (declare_goes h e d.scene at ty ty_at x init r.0 (settled_clean p r.0 r.1).typed size n)
     (λ k f front. is.typed k f (scene_in s k own front) (front (length d.scene.types) is.ty (get_last d.scene.types is.ty))) in
@@ -118,7 +118,7 @@ good_head : (h : Classes) → HasTypedStatements h → (leads : TypedOperand →
     head leads e at x line next d ≡ Ok new → IsLonger h e size (n + 1) d new
 unfolding head
 good_head h q leads e at x line n next size d new has within small good w =
-    let r = then_ok (settle (number_of e d.scene at x)) (λ v. Ok (pushed (leads v.operand) line next d)) new w in
+    let r = then_ok (settle (number_operand e d.scene at x)) (λ v. Ok (pushed (leads v.operand) line next d)) new w in
     let last = r.2 in
     let same : pushed (leads r.0.operand) line next d ≡ new = cc in
     subst (IsLonger h e size (n + 1) d) same
@@ -155,7 +155,7 @@ good_branches h q x m o s t = record {
   walks = λ e at line n next size d new few small good w.
       let other = n + 1 + m.size in
       let behind = n + 1 + m.size + o.size in
-      let p = then_ok (if_head other behind e at x line next d >>= scoped m h e (n + 1) next) (λ (y : Draft). scoped o h e (n + 1 + m.size) next y) new w in
+      let p = then_ok (if_head other behind e at x line next d >>> scoped m h e (n + 1) next) (λ (y : Draft). scoped o h e (n + 1 + m.size) next y) new w in
       let r = then_ok (if_head other behind e at x line next d) (λ (y : Draft). scoped m h e (n + 1) next y) p.0 p.1 in
       let first = good_head h q (λ v. typed.If v other behind) e at x line n next size d r.0 (λ k v t has. branches v t other behind has) (λ v. (omega arith, omega arith, omega arith)) small good r.1 in
       let second = good_scoped h m s e (n + 1) next size r.0 p.0 (omega arith) small first.good r.2 in

@@ -35,8 +35,8 @@ use Rattle.cxx_expression.specs.declared.typed.Pointer.{Pointer}
 use Rattle.cxx_expression.specs.Checked.{pure, warn, noted, both, beside, kept}
 use Rattle.cxx_expression.specs.Laws.{IsComplete, PiecesAreComplete}
 use Rattle.cxx_expression.specs.Lookups.{looked_up, function_record}
-use Rattle.cxx_expression.specs.Values.{pointer_of, class_of, path_to}
-use Rattle.cxx_expression.specs.Calls.{found_function, as_found, function_in, as_function, function_of, counted, target, target_of, plain_operand, argument_of, arguments_of, parameters_in, dispatched, plain_value, plain_call, defined, named_function, receiver, receiver_of, parameters_of, qualified, qualified_value, qualified_call, call_by, call_of, whole_call}
+use Rattle.cxx_expression.specs.Values.{pointer_of, class_of_spot, path_to}
+use Rattle.cxx_expression.specs.Calls.{found_function, as_found, function_in, as_function, function_of, counted, target, target_of, plain_operand, argument_of, arguments_of, target_parameters, dispatched, plain_value, plain_call, defined, named_function, receiver, receiver_of, found_parameters, qualified, qualified_value, qualified_call, call_by, call_of, whole_call}
 use Rattle.cxx_expression.proofs.Complete.{complete_pure, complete_bind, complete_both, complete_beside, complete_first}
 use Rattle.cxx_expression.proofs.CompletePlaces.{c_function, c_counted, c_defined, c_named, c_call}
 use Rattle.cxx_expression.proofs.CompleteValues.{c_path}
@@ -217,9 +217,9 @@ plain_is h keeps virtual e s k f g at xs t list v is made same =
 plain_typed : PiecesAreComplete → (h : Classes) → IsHierarchy h → PureAreVirtual h → (e : Setting) (s : Scene) (k : Scope) → IsSetting e k → IsScene s k → (at : ℕ) (call : CallText) (v : CallValue) → IsClean (plain_call h e s at call) v → IsCallValue h k v
 unfolding plain_call
 plain_typed q h keeps virtual e s k f g at call v i =
-    let grows = λ (o : Option Target). arguments_grow q h e s at (parameters_in o) 0 call.arguments in
-    let r = clean_both (beside (target_of h e s at call) (λ t. arguments_of h e s at (parameters_in t) 0 call.arguments)) _ v (complete_beside _ _ (target_grows q h e s at call) grows) (λ r. complete_pure _) i in
-    let p = clean_beside (target_of h e s at call) (λ t. arguments_of h e s at (parameters_in t) 0 call.arguments) r.0 (target_grows q h e s at call) grows r.1 in
+    let grows = λ (o : Option Target). arguments_grow q h e s at (target_parameters o) 0 call.arguments in
+    let r = clean_both (beside (target_of h e s at call) (λ t. arguments_of h e s at (target_parameters t) 0 call.arguments)) _ v (complete_beside _ _ (target_grows q h e s at call) grows) (λ r. complete_pure _) i in
+    let p = clean_beside (target_of h e s at call) (λ t. arguments_of h e s at (target_parameters t) 0 call.arguments) r.0 (target_grows q h e s at call) grows r.1 in
     let last = r.2.typed in
     let there : r.0.1 ≡ Some p.1.0 = p.1.1 in
     let same : plain_value r.0.0 (is_virtual h r.0.0.found.function) (Some p.1.0) ≡ v = cc in
@@ -280,14 +280,14 @@ qualified_by h keeps e s k f g at c xs r u list v receives is made same =
 qualified_typed : PiecesAreComplete → (h : Classes) → IsHierarchy h → (e : Setting) (s : Scene) (k : Scope) → IsSetting e k → IsScene s k → (at : ℕ) (call : CallText) (x : Spot) (v : CallValue) → IsClean (qualified_call h e s at call x) v → IsCallValue h k v
 unfolding qualified_call
 qualified_typed q h keeps e s k f g at call x v i =
-    let passed = λ (c : ClassId) (o : Option FoundFunction). both (receiver_of h e s at c call.pointer) (arguments_of h e s at (parameters_of o) 0 call.arguments) in
-    let grow = λ (c : ClassId) (o : Option FoundFunction). complete_both (receiver_of h e s at c call.pointer) (arguments_of h e s at (parameters_of o) 0 call.arguments) (receiver_grows q h e s at c call.pointer) (arguments_grow q h e s at (parameters_of o) 0 call.arguments) in
+    let passed = λ (c : ClassId) (o : Option FoundFunction). both (receiver_of h e s at c call.pointer) (arguments_of h e s at (found_parameters o) 0 call.arguments) in
+    let grow = λ (c : ClassId) (o : Option FoundFunction). complete_both (receiver_of h e s at c call.pointer) (arguments_of h e s at (found_parameters o) 0 call.arguments) (receiver_grows q h e s at c call.pointer) (arguments_grow q h e s at (found_parameters o) 0 call.arguments) in
     let all_grow = λ (c : ClassId). complete_beside (named_function h at c call) (passed c) (c_named h at c call) (grow c) in
-    let c = clean_both (class_of h x) _ v (q.class_of h x) (λ c. complete_bind _ _ (all_grow c) (λ r. complete_pure _)) i in
+    let c = clean_both (class_of_spot h x) _ v (q.class_of h x) (λ c. complete_bind _ _ (all_grow c) (λ r. complete_pure _)) i in
     let r = clean_both (beside (named_function h at c.0 call) (passed c.0)) _ v (all_grow c.0) (λ r. complete_pure _) c.2 in
     let b = clean_beside (named_function h at c.0 call) (passed c.0) r.0 (c_named h at c.0 call) (grow c.0) r.1 in
-    let list = arguments_of h e s at (parameters_of (Some r.0.0)) 0 call.arguments in
-    let p = clean_pair (receiver_of h e s at c.0 call.pointer) list b.1.0 (receiver_grows q h e s at c.0 call.pointer) (arguments_grow q h e s at (parameters_of (Some r.0.0)) 0 call.arguments) b.1.2 in
+    let list = arguments_of h e s at (found_parameters (Some r.0.0)) 0 call.arguments in
+    let p = clean_pair (receiver_of h e s at c.0 call.pointer) list b.1.0 (receiver_grows q h e s at c.0 call.pointer) (arguments_grow q h e s at (found_parameters (Some r.0.0)) 0 call.arguments) b.1.2 in
     let last = r.2.typed in
     let there : r.0.1 ≡ Some b.1.0 = b.1.1 in
     let same : qualified_value r.0.0 (Some b.1.0) ≡ v = cc in

@@ -34,7 +34,7 @@ use Rattle.cxx_expression.specs.declared.typed.Pointer.{Pointer}
 use Rattle.cxx_expression.specs.declared.typed.RightValue.{RightValue}
 use Rattle.cxx_expression.specs.Checked.{pure}
 use Rattle.cxx_expression.specs.Lookups.{class_numbered, find_class, base_up, is_polymorphic, declares_virtual, has_virtual}
-use Rattle.cxx_expression.specs.Values.{as_class, class_named, class_of, pointer_of}
+use Rattle.cxx_expression.specs.Values.{as_class, class_named, class_of_spot, pointer_of}
 use Rattle.cxx_expression.specs.Operators.{right_value, truth_value}
 use Rattle.cxx_expression.specs.Casts.{down_to, up_or_down, static_cast, if_polymorphic, up_or_dynamic, dynamic_cast, cast_of, cast_right, polymorphic_pointer, type_right}
 use Rattle.cxx_subobject.proofs.TreeLemmas.{has_preorder}
@@ -64,8 +64,8 @@ pub named_class_typed : (h : Classes) (name : Text) (at : ℕ) (c : ClassId) →
 unfolding class_named
 named_class_typed h name at c t = class_known h name c (as_class_typed at (find_class h name) c t)
 
-pub class_typed : (h : Classes) (x : Spot) (c : ClassId) → (class_of h x).typed ≡ Some c → c.0 < length h
-unfolding class_of
+pub class_typed : (h : Classes) (x : Spot) (c : ClassId) → (class_of_spot h x).typed ≡ Some c → c.0 < length h
+unfolding class_of_spot
 class_typed h x c t = named_class_typed h x.name x.at c t
 
 -- classes with virtual functions
@@ -137,7 +137,7 @@ pub cast_right_typed : (h : Classes) → IsHierarchy h → (e : Setting) (s : Sc
 unfolding cast_right
 cast_right_typed h keeps e s k f g at text r t =
     let p = then_both _ _ r t in
-    let q = pair_both (class_of h text.target).typed (pointer_of e s at text.pointer).typed p.0 p.1 in
+    let q = pair_both (class_of_spot h text.target).typed (pointer_of e s at text.pointer).typed p.0 p.1 in
     let c = then_both (cast_of h at text.kind p.0.1.class p.0.0).typed _ r p.2 in
     let result = right_value (typed.Cast c.0 p.0.1.operand) (type.Pointer p.0.0) false in
     let same : result ≡ r = let last = c.2 in cc in
@@ -159,7 +159,7 @@ pub type_test_typed : (h : Classes) (e : Setting) (s : Scene) (k : Scope) → Is
 unfolding type_right
 type_test_typed h e s k f g at x name r t =
     let p = then_both _ _ r t in
-    let q = pair_both (polymorphic_pointer h e s at x).typed (class_of h name).typed p.0 p.1 in
+    let q = pair_both (polymorphic_pointer h e s at x).typed (class_of_spot h name).typed p.0 p.1 in
     let pointer = polymorphic_typed h e s k f g at x p.0.0 q.0 in
     let result = truth_value (typed.TypeEqual p.0.0.operand p.0.1) in
     let same : result ≡ r = let last = p.2 in cc in

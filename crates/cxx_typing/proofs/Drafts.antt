@@ -11,13 +11,13 @@ use Rattle.cxx_program.specs.Typed.{Types, Scope, IsKnown, IsTyped, IsWithin, Is
 use Rattle.cxx_expression.specs.declared.scene.Scene.{Scene}
 use Rattle.cxx_expression.specs.declared.scene.Setting.{Setting}
 use Rattle.cxx_resolve.specs.declared.draft.Draft.{Draft}
-use Rattle.cxx_resolve.specs.Stops.{◌>>=◌}
+use Rattle.cxx_resolve.specs.Stops.{◌>>>◌}
 use Rattle.cxx_resolve.specs.Walks.{pushed, in_scene}
 use Rattle.cxx_typing.specs.Scopes.{IsSetting}
 use Rattle.cxx_typing.proofs.Scopes.{IsFront, IsOwnScene}
 
 -- the first answer is a value, and the second that rests on it
-pub then_ok : {A B : Type 0} (r : Result A Stop) (go : A → Result B Stop) (y : B) → (r >>= go) ≡ Ok y → (x : A) × (r ≡ Ok x) × (go x ≡ Ok y)
+pub then_ok : {A B : Type 0} (r : Result A Stop) (go : A → Result B Stop) (y : B) → (r >>> go) ≡ Ok y → (x : A) × (r ≡ Ok x) × (go x ≡ Ok y)
 then_ok (Ok x) go y e = (x, refl, e)
 then_ok (Err s) go y e = absurd (cc)
 

@@ -23,13 +23,13 @@ use Rattle.cxx_expression.specs.declared.scene.Returns.{Returns}
 use Rattle.cxx_expression.specs.declared.scene.Returns.TheVariants as returns
 use Rattle.cxx_expression.specs.declared.typed.Pointer.{Pointer}
 use Rattle.cxx_expression.specs.Checked.{pure, fail, both}
-use Rattle.cxx_expression.specs.Scenes.{declared}
+use Rattle.cxx_expression.specs.Scenes.{with_variable}
 use Rattle.cxx_expression.specs.Values.{variable_of, operand_of, pointer_of, conversion_of, converted_operand, fitted, argument}
 use Rattle.cxx_expression.specs.Places.{leaf_of}
 use Rattle.cxx_expression.specs.Calls.{whole_call}
 use Rattle.cxx_expression.specs.Casts.{polymorphic_pointer}
 use Rattle.cxx_expression.specs.Rights.{right_of, converted_value, converted_right}
-use Rattle.cxx_resolve.specs.Statements.{new_variable, first_value, declare_of, assign_of, write_of, copy_of, call_statement, delete_of, value_return, typed_return, return_of, print_of, print_type_of, print_view_of, dump_of, plain_of}
+use Rattle.cxx_resolve.specs.Statements.{new_variable, first_value, declare_of, assign_of, write_of, copy_of, call_statement, delete_of, value_return, typed_return, returned_kind, print_of, print_type_of, print_view_of, dump_of, plain_of}
 use Rattle.cxx_typing.proofs.Steps.{then_both}
 
 -- the statement leads to no other number
@@ -52,9 +52,9 @@ pub declare_goes : (h : Classes) (e : Setting) (s : Scene) (at : ℕ) (ty : Valu
 unfolding declare_of
 declare_goes h e s at ty ty_at x init r t =
     let u = then_both (new_variable h s ty ty_at x).typed _ r t in
-    let v = then_both (first_value h e (declared s x.name u.0) at u.0 (length s.types) init).typed _ r u.2 in
+    let v = then_both (first_value h e (with_variable s x.name u.0) at u.0 (length s.types) init).typed _ r u.2 in
     let last = v.2 in
-    goes v.0 r.0 (cc) (first_goes h e (declared s x.name u.0) at u.0 (length s.types) init v.0 v.1)
+    goes v.0 r.0 (cc) (first_goes h e (with_variable s x.name u.0) at u.0 (length s.types) init v.0 v.1)
 
 assign_goes : (h : Classes) (e : Setting) (s : Scene) (at : ℕ) (x : Spot) (r : Right) (kind : TypedKind) → (assign_of h e s at x r).typed ≡ Some kind → GoesOn kind
 unfolding assign_of
@@ -110,8 +110,8 @@ return_by h e s at returns.Nothing (Some x) kind t = absurd (cc)
 return_by h e s at (returns.Value u) None kind t = absurd (cc)
 return_by h e s at (returns.Value u) (Some x) kind t = value_return_goes h e s at u x kind t
 
-return_goes : (h : Classes) (e : Setting) (s : Scene) (at : ℕ) (x : Option Operand) (kind : TypedKind) → (return_of h e s at x).typed ≡ Some kind → GoesOn kind
-unfolding return_of
+return_goes : (h : Classes) (e : Setting) (s : Scene) (at : ℕ) (x : Option Operand) (kind : TypedKind) → (returned_kind h e s at x).typed ≡ Some kind → GoesOn kind
+unfolding returned_kind
 return_goes h e s at x kind t = return_by h e s at e.returns x kind t
 
 print_goes : (e : Setting) (s : Scene) (at : ℕ) (x : Operand) (kind : TypedKind) → (print_of e s at x).typed ≡ Some kind → GoesOn kind

@@ -28,7 +28,7 @@ use Rattle.cxx_expression.specs.declared.scene.Setting.{Setting}
 use Rattle.cxx_expression.specs.declared.typed.RightValue.{RightValue}
 use Rattle.cxx_expression.specs.Checked.{pure}
 use Rattle.cxx_expression.specs.Lookups.{base_up}
-use Rattle.cxx_expression.specs.Values.{operand_of, number_of, argument}
+use Rattle.cxx_expression.specs.Values.{operand_of, number_operand, argument}
 use Rattle.cxx_expression.specs.Operators.{type_by, calculated, arithmetic_right, same_pointer, one_converted, to_one_class, if_null, equality, pointers_right, null_right, compared, equal_right, binary_right, not_right, truth_value}
 use Rattle.cxx_typing.proofs.Steps.{then_both, pair_both}
 use Rattle.cxx_typing.specs.Scopes.{IsSetting, IsScene}
@@ -64,7 +64,7 @@ arithmetic_typed : (h : Classes) (e : Setting) (s : Scene) (k : Scope) → IsSet
 unfolding arithmetic_right
 arithmetic_typed h e s k f g at op x y r t =
     let p = then_both _ _ r t in
-    let q = pair_both (number_of e s at x).typed (number_of e s at y).typed p.0 p.1 in
+    let q = pair_both (number_operand e s at x).typed (number_operand e s at y).typed p.0 p.1 in
     let same : calculated op p.0.0.operand p.0.0.scalar p.0.1.operand p.0.1.scalar ≡ r = let last = p.2 in cc in
     calculates h k op p.0.0.operand p.0.0.scalar p.0.1.operand p.0.1.scalar (number_typed e s k f g at x p.0.0 q.0) (number_typed e s k f g at y p.0.1 q.1) r same
 
@@ -163,6 +163,6 @@ binary_typed h keeps e s k f g at x binary.NotEqual y r t = equal_typed h keeps 
 pub not_typed : (h : Classes) (e : Setting) (s : Scene) (k : Scope) → IsSetting e k → IsScene s k → (at : ℕ) (x : Operand) (r : RightValue) → (not_right e s at x).typed ≡ Some r → IsRight h k r
 unfolding not_right
 not_typed h e s k f g at x r t =
-    let p = then_both (number_of e s at x).typed _ r t in
+    let p = then_both (number_operand e s at x).typed _ r t in
     let same : truth_value (typed.Not p.0.operand) ≡ r = let last = p.2 in cc in
     right_is h k (typed.Not p.0.operand) (truth_value (typed.Not p.0.operand)) r same refl refl (a_negation p.0.operand p.0.scalar (number_typed e s k f g at x p.0 p.1))

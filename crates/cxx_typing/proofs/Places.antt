@@ -35,7 +35,7 @@ use Rattle.cxx_expression.specs.declared.typed.LeafPlace.{LeafPlace}
 use Rattle.cxx_expression.specs.Checked.{pure, warn}
 use Rattle.cxx_expression.specs.Lookups.{as_looked, looked_up, member_record}
 use Rattle.cxx_expression.specs.Values.{pointer_of}
-use Rattle.cxx_expression.specs.Places.{found_member, as_found, member_in, as_member, member_of, index_of, object_of, place_step, step_of, passed_by, passed_with, further, steps_of, begun, typed_place, with_last, ended, place_of, as_leaf, leaf_of, as_object, object_place_of}
+use Rattle.cxx_expression.specs.Places.{found_member, as_found, member_in, as_member, member_of, checked_index, object_of, place_step, step_of, passed_by, passed_with, further, steps_of, begun, typed_place, with_last, ended, place_of, as_leaf, leaf_of, as_object, object_place_of}
 use Rattle.cxx_typing.proofs.Steps.{then_both}
 use Rattle.cxx_typing.proofs.PieceTypes.{FoundMember, PlaceStep, Reached, FieldPlace, ObjectPlace}
 use Rattle.cxx_typing.specs.Scopes.{IsSetting, IsScene}
@@ -101,8 +101,8 @@ index_if at count index true is some i t =
 index_if at count index false is some i t = let same : 0 ≡ i = cc in subst (λ (n : ℕ). n < count) same some
 
 -- an index that is refused stands for the first element, so that what is typed is always an element
-index_typed : (at : ℕ) (count : Option ℕ) (index : Option (ℕ × ℕ)) → ((n : ℕ) → count ≡ Some n → 1 ≤ n) → (i : ℕ) → (index_of at count index).typed ≡ Some i → i < elements_of count
-unfolding index_of
+index_typed : (at : ℕ) (count : Option ℕ) (index : Option (ℕ × ℕ)) → ((n : ℕ) → count ≡ Some n → 1 ≤ n) → (i : ℕ) → (checked_index at count index).typed ≡ Some i → i < elements_of count
+unfolding checked_index
 index_typed at None None some i t = let same : 0 ≡ i = cc in subst (λ (n : ℕ). n < 1) same (omega arith)
 index_typed at None (Some index) some i t = absurd (cc)
 index_typed at (Some count) None some i t = absurd (cc)
@@ -119,7 +119,7 @@ step_typed : (h : Classes) → IsHierarchy h → (at : ℕ) (c : ClassId) (part 
 unfolding step_of
 step_typed h keeps at c part step t =
     let r = then_both (member_of h at c part.name).typed _ step t in
-    let q = then_both (index_of at r.0.count part.index).typed _ step r.2 in
+    let q = then_both (checked_index at r.0.count part.index).typed _ step r.2 in
     let same : place_step r.0 q.0 ≡ step = let last = q.2 in cc in
     let m = member_typed h keeps at c part.name r.0 r.1 in
     let some = λ (n : ℕ) (e : r.0.count ≡ Some n). (keeps.counts m.class m.member n (contains_at (members_of h m.class) r.0.number m.member m.there) (m.count_is ∙ e)).0 in

@@ -17,7 +17,7 @@ use Rattle.cxx_program.specs.declared.program.TypedBody.{TypedBody}
 use Rattle.cxx_program.specs.declared.program.TypedProgram.{TypedProgram}
 use Rattle.cxx_program.specs.Typed.{IsTypedProgram}
 use Rattle.cxx_expression.specs.declared.scene.Entry.{Entry}
-use Rattle.cxx_resolve.specs.Stops.{◌>>=◌}
+use Rattle.cxx_resolve.specs.Stops.{◌>>>◌}
 use Rattle.cxx_resolve.specs.Turns.{given_in_turn}
 use Rattle.cxx_resolve.specs.Globals.{global_of}
 use Rattle.cxx_resolve.specs.Programs.{owner_of, body_of, main_of, program, program_of}
@@ -45,11 +45,11 @@ unfolding program_of
 made_of h source result w =
     let n = source.main_place in
     let g = then_ok (given_in_turn (global_of h) [] source.globals)
-    (λ (globals : List Entry). given_in_turn (body_of h globals) [] (take n source.bodies) >>= λ before. main_of h globals source.main >>= λ main. given_in_turn (body_of h globals) before (drop n source.bodies) >>= λ bodies. Ok (program globals main bodies)) result w in
+    (λ (globals : List Entry). given_in_turn (body_of h globals) [] (take n source.bodies) >>> λ before. main_of h globals source.main >>> λ main. given_in_turn (body_of h globals) before (drop n source.bodies) >>> λ bodies. Ok (program globals main bodies)) result w in
     let b = then_ok (given_in_turn (body_of h g.0) [] (take n source.bodies))
-    (λ (before : List TypedBody). main_of h g.0 source.main >>= λ main. given_in_turn (body_of h g.0) before (drop n source.bodies) >>= λ bodies. Ok (program g.0 main bodies)) result g.2 in
+    (λ (before : List TypedBody). main_of h g.0 source.main >>> λ main. given_in_turn (body_of h g.0) before (drop n source.bodies) >>> λ bodies. Ok (program g.0 main bodies)) result g.2 in
     let m = then_ok (main_of h g.0 source.main)
-    (λ (main : Option TypedBody). given_in_turn (body_of h g.0) b.0 (drop n source.bodies) >>= λ bodies. Ok (program g.0 main bodies)) result b.2 in
+    (λ (main : Option TypedBody). given_in_turn (body_of h g.0) b.0 (drop n source.bodies) >>> λ bodies. Ok (program g.0 main bodies)) result b.2 in
     let r = then_ok (given_in_turn (body_of h g.0) b.0 (drop n source.bodies)) (λ (bodies : List TypedBody). Ok (program g.0 m.0 bodies)) result m.2 in
     let last = r.2 in
     record {

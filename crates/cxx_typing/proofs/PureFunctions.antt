@@ -23,7 +23,7 @@ use Rattle.cxx_syntax.specs.declared.part.Part.TheVariants as part
 use Rattle.cxx_syntax.specs.declared.part.Item.{Item}
 use Rattle.cxx_syntax.specs.declared.source_text.SourceText.{SourceText}
 use Rattle.cxx_syntax.specs.Parts.{Spelled, PartReads, a_label, a_field, a_bit_field, a_function, a_pure_function, a_constructor, a_destructor, PartsRead, no_part, one_part}
-use Rattle.cxx_syntax.specs.Definitions.{function_in}
+use Rattle.cxx_syntax.specs.Definitions.{function_from}
 use Rattle.cxx_syntax.specs.Sources.{ItemReads, a_class, a_forward, a_global, a_main, ItemsRead, no_item, one_item, record_in, SourceReads, a_source}
 use Rattle.cxx_typing.specs.Scopes.{PureAreVirtual}
 
@@ -53,7 +53,7 @@ parts_say : {text : List ℕ} {is_public : Bool} {ps : List Part} {ts rest : Lis
 parts_say no_part p has = absurd has
 parts_say (one_part x xs) p has = ⊎_elim (λ same. subst PartSays same (part_says x)) (λ later. parts_say xs p later) has
 
-function_says : (p : Part) (f : Function Spelled) → function_in p ≡ Some f → PartSays p → SaysSo f
+function_says : (p : Part) (f : Function Spelled) → function_from p ≡ Some f → PartSays p → SaysSo f
 function_says (part.Label p) f e says = absurd (cc)
 function_says (part.Field m ty_at) f e says = absurd (cc)
 function_says (part.Function g ty_at body) f e says = let same : g ≡ f = cc in subst SaysSo same says
@@ -66,7 +66,7 @@ RecordSays r = (f : Function Spelled) → Has r.functions f → SaysSo f
 item_says : {text : List ℕ} {i : Item} {ts rest : List Lexeme} → ItemReads text i ts rest → (r : Record) → record_in i ≡ Some r → RecordSays r
 item_says {text = text} (a_class {c = c} {bases = bases} {parts = ps} {n = n} k m b o p z q e f) r is =
     let same : c ≡ r = cc in
-    subst RecordSays (sym e ∙ same) (λ g has. let x = from_filter_map function_in ps g has in function_says x.0 g x.2 (parts_say p x.0 x.1))
+    subst RecordSays (sym e ∙ same) (λ g has. let x = from_filter_map function_from ps g has in function_says x.0 g x.2 (parts_say p x.0 x.1))
 item_says (a_forward k m q) r is = absurd (cc)
 item_says (a_global f v m q e) r is = absurd (cc)
 item_says (a_main w m o z b) r is = absurd (cc)

@@ -27,7 +27,7 @@ use Rattle.cxx_expression.specs.declared.scene.Scene.{Scene}
 use Rattle.cxx_expression.specs.declared.scene.Setting.{Setting}
 use Rattle.cxx_expression.specs.declared.typed.RightValue.{RightValue}
 use Rattle.cxx_expression.specs.Laws.{PiecesAreComplete}
-use Rattle.cxx_expression.specs.Values.{operand_of, class_of, conversion_of}
+use Rattle.cxx_expression.specs.Values.{operand_of, class_of_spot, conversion_of}
 use Rattle.cxx_expression.specs.Places.{leaf_of, object_place_of}
 use Rattle.cxx_expression.specs.Calls.{call_of}
 use Rattle.cxx_expression.specs.Operators.{right_value}
@@ -88,7 +88,7 @@ made_typed h k at false c known r t =
 new_typed : (h : Classes) (k : Scope) (x : Spot) (r : RightValue) → (new_right h x).typed ≡ Some r → IsRight h k r
 unfolding new_right
 new_typed h k x r t =
-    let c = then_both (class_of h x).typed _ r t in
+    let c = then_both (class_of_spot h x).typed _ r t in
     made_typed h k x.at (is_abstract h c.0) c.0 (class_typed h x c.0 c.1) r c.2
 
 pub right_typed : PiecesAreComplete → (h : Classes) → IsHierarchy h → PureAreVirtual h → (e : Setting) (s : Scene) (k : Scope) → IsSetting e k → IsScene s k → (at : ℕ) (x : Right) (r : RightValue) → IsClean (right_of h e s at x) r → IsRight h k r

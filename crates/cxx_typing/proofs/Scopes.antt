@@ -14,7 +14,7 @@ use Rattle.cxx_hierarchy.specs.NameTables.{Text}
 use Rattle.cxx_program.specs.Typed.{Scope}
 use Rattle.cxx_expression.specs.declared.scene.Entry.{Entry}
 use Rattle.cxx_expression.specs.declared.scene.Scene.{Scene}
-use Rattle.cxx_expression.specs.Scenes.{last_of, declared, opened, closed}
+use Rattle.cxx_expression.specs.Scenes.{innermost_entry, with_variable, opened, closed}
 use Rattle.cxx_typing.specs.Scopes.{IsScene}
 
 later : {X : Type 0} (y : X) (ys : List X) (x : X) → (Has (reverse ys) x → Has ys x) → Has (reverse ys) x ⊎ Has (y ∷ []) x → Has (y ∷ ys) x
@@ -27,7 +27,7 @@ reversed [] x h = h
 reversed {X = X} (y ∷ ys) x h = later y ys x (λ a. reversed ys x a) (has_cases (reverse ys) (y ∷ []) x (subst (λ (list : List X). Has list x) (reverse-append (y ∷ []) ys) h))
 
 -- the variable that a name means is one of those in scope
-pub named_entry : (entries : List Entry) (name : Text) (x : Entry) → last_of entries name ≡ Some x → Contains entries x
+pub named_entry : (entries : List Entry) (name : Text) (x : Entry) → innermost_entry entries name ≡ Some x → Contains entries x
 named_entry entries name x e = contains_from_has entries x (reversed entries x (find_passes (λ (entry : Entry). bytes_eq entry.name name) (reverse entries) x e).0)
 
 -- each item stands at the same number of the other list
@@ -49,7 +49,7 @@ declared_entry : (s : Scene) (name : Text) (ty : ValueType ClassId) → IsOwnSce
 declared_entry s name ty own x (inl h) = get_front s.types (ty ∷ []) x.number x.ty (own.each x h)
 declared_entry s name ty own x (inr h) = of_new s name ty x (has_from_contains ((record { name = name; number = length s.types; ty = ty }) ∷ []) x h)
 
-pub declared_scene : (s : Scene) (name : Text) (ty : ValueType ClassId) → IsOwnScene s → IsOwnScene (declared s name ty)
+pub declared_scene : (s : Scene) (name : Text) (ty : ValueType ClassId) → IsOwnScene s → IsOwnScene (with_variable s name ty)
 declared_scene s name ty own = record { each = λ x h. declared_entry s name ty own x (Contains-append_cases s.entries ((record { name = name; number = length s.types; ty = ty }) ∷ []) x h) }
 
 pub opened_scene : (s : Scene) → IsOwnScene s → IsOwnScene (opened s)

@@ -31,15 +31,15 @@ use Rattle.cxx_expression.specs.declared.typed.Pointer.{Pointer}
 use Rattle.cxx_expression.specs.declared.typed.RightValue.{RightValue}
 use Rattle.cxx_expression.specs.Checked.{pure, fail, warn, both}
 use Rattle.cxx_expression.specs.Laws.{IsComplete, PiecesAreComplete}
-use Rattle.cxx_expression.specs.Scenes.{declared, is_taken}
-use Rattle.cxx_expression.specs.Values.{class_named, type_of, variable_of, operand_of, pointer_of, number_of, conversion_of, converted_operand, fitted, argument}
+use Rattle.cxx_expression.specs.Scenes.{with_variable, is_taken}
+use Rattle.cxx_expression.specs.Values.{class_named, type_of, variable_of, operand_of, pointer_of, number_operand, conversion_of, converted_operand, fitted, argument}
 use Rattle.cxx_expression.specs.Places.{leaf_of}
 use Rattle.cxx_expression.specs.Calls.{whole_call}
 use Rattle.cxx_expression.specs.Casts.{polymorphic_pointer}
 use Rattle.cxx_expression.specs.Rights.{right_of, converted_value, converted_right}
 use Rattle.cxx_expression.proofs.Complete.{complete_pure, complete_warn, complete_bind, complete_both, complete_if, complete_first, whole_grows}
 use Rattle.cxx_expression.proofs.CompleteRights.{c_right, value_grows}
-use Rattle.cxx_resolve.specs.Statements.{new_variable, first_value, declare_of, assign_of, write_of, copy_of, call_statement, delete_of, value_return, typed_return, return_of, print_of, print_type_of, print_view_of, dump_of, plain_of}
+use Rattle.cxx_resolve.specs.Statements.{new_variable, first_value, declare_of, assign_of, write_of, copy_of, call_statement, delete_of, value_return, typed_return, returned_kind, print_of, print_type_of, print_view_of, dump_of, plain_of}
 use Rattle.cxx_typing.specs.Pieces.{IsTypedDeclaration, StatementsAreTyped}
 use Rattle.cxx_typing.proofs.Steps.{then_both, pair_both, IsClean, clean_rest, clean_both, clean_pair, settled_clean}
 use Rattle.cxx_typing.specs.Scopes.{PureAreVirtual, wanted, IsSetting, IsScene}
@@ -95,16 +95,16 @@ pub declare_typed : PiecesAreComplete → (h : Classes) → IsHierarchy h → Pu
     IsClean (declare_of h e s at ty ty_at x init) r → IsTypedDeclaration h e s x r
 unfolding declare_of
 declare_typed q h keeps virtual e s at ty ty_at x init r i =
-    let u = clean_both (new_variable h s ty ty_at x) _ r (c_new_variable q h s ty ty_at x) (λ t. complete_bind _ _ (c_first_value q h e (declared s x.name t) at t (length s.types) init) (λ k. complete_pure _)) i in
-    let v = clean_both (first_value h e (declared s x.name u.0) at u.0 (length s.types) init) _ r (c_first_value q h e (declared s x.name u.0) at u.0 (length s.types) init) (λ k. complete_pure _) u.2 in
+    let u = clean_both (new_variable h s ty ty_at x) _ r (c_new_variable q h s ty ty_at x) (λ t. complete_bind _ _ (c_first_value q h e (with_variable s x.name t) at t (length s.types) init) (λ k. complete_pure _)) i in
+    let v = clean_both (first_value h e (with_variable s x.name u.0) at u.0 (length s.types) init) _ r (c_first_value q h e (with_variable s x.name u.0) at u.0 (length s.types) init) (λ k. complete_pure _) u.2 in
     let last = v.2.typed in
     let kind : v.0 ≡ r.0 = cc in
-    let scene : declared s x.name u.0 ≡ r.1 = cc in
+    let scene : with_variable s x.name u.0 ≡ r.1 = cc in
     record {
       ty = u.0;
       known = new_typed h s ty ty_at x u.0 u.1.typed;
       scene = sym scene;
-      typed = λ k f g there. kind_is h k v.0 r.0 kind (first_typed q h keeps virtual e (declared s x.name u.0) k f g at u.0 (length s.types) there init v.0 v.1);
+      typed = λ k f g there. kind_is h k v.0 r.0 kind (first_typed q h keeps virtual e (with_variable s x.name u.0) k f g at u.0 (length s.types) there init v.0 v.1);
     }
 
 -- other statements
@@ -181,8 +181,8 @@ return_by h keeps e s k f g at returns.Nothing is (Some x) kind t = absurd (cc)
 return_by h keeps e s k f g at (returns.Value u) is None kind t = absurd (cc)
 return_by h keeps e s k f g at (returns.Value u) is (Some x) kind t = value_return_typed h keeps e s k f g at u (ap wanted is) x kind t
 
-return_typed : (h : Classes) → IsHierarchy h → (e : Setting) (s : Scene) (k : Scope) → IsSetting e k → IsScene s k → (at : ℕ) (x : Option Operand) (kind : TypedKind) → (return_of h e s at x).typed ≡ Some kind → IsTyped h k kind
-unfolding return_of
+return_typed : (h : Classes) → IsHierarchy h → (e : Setting) (s : Scene) (k : Scope) → IsSetting e k → IsScene s k → (at : ℕ) (x : Option Operand) (kind : TypedKind) → (returned_kind h e s at x).typed ≡ Some kind → IsTyped h k kind
+unfolding returned_kind
 return_typed h keeps e s k f g at x kind t = return_by h keeps e s k f g at e.returns refl x kind t
 
 print_typed : (h : Classes) (e : Setting) (s : Scene) (k : Scope) → IsSetting e k → IsScene s k → (at : ℕ) (x : Operand) (kind : TypedKind) → (print_of e s at x).typed ≡ Some kind → IsTyped h k kind
@@ -236,5 +236,5 @@ pub statements_are_typed : PiecesAreComplete → StatementsAreTyped
 statements_are_typed q = record {
   plain = λ h keeps virtual e s k f g at x kind is. plain_typed q h keeps virtual e s k f g at x kind (settled_clean (plain_of h e s at x) kind is);
   declaration = λ h keeps virtual e s at ty ty_at x init r is. declare_typed q h keeps virtual e s at ty ty_at x init r (settled_clean (declare_of h e s at ty ty_at x init) r is);
-  condition = λ e s k f g at x n is. number_typed e s k f g at x n (settled_clean (number_of e s at x) n is).typed;
+  condition = λ e s k f g at x n is. number_typed e s k f g at x n (settled_clean (number_operand e s at x) n is).typed;
 }

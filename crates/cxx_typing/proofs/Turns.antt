@@ -1,7 +1,7 @@
 -- What the items of a list give in turn.
 use Rattle.std.proofs.Common.{◌≡◌, ℕ, zero, suc, Some, Result, Ok, List, [], ◌∷◌, ◌++◌, append_assoc, append-nil, refl, sym, ◌∙◌, ap, subst, slice_get}
 use Rattle.cxx_hierarchy.specs.declared.stop.Stop.{Stop}
-use Rattle.cxx_resolve.specs.Stops.{◌>>=◌}
+use Rattle.cxx_resolve.specs.Stops.{◌>>>◌}
 use Rattle.cxx_resolve.specs.Turns.{given_in_turn}
 use Rattle.cxx_typing.proofs.Drafts.{then_ok}
 
@@ -18,7 +18,7 @@ pub turn_join : {X Y : Type 0} (give : List Y → X → Result Y Stop) (xs ys : 
 turn_join {Y = Y} give [] ys done mid new a b = let same : done ≡ mid = cc in subst (λ (d : List Y). given_in_turn give d ys ≡ Ok new) (sym same) b
 turn_join {Y = Y} give (x ∷ xs) ys done mid new a b =
     let r = then_ok (give done x) (λ (y : Y). given_in_turn give (done ++ y ∷ []) xs) mid a in
-    ap (λ (q : Result Y Stop). q >>= λ y. given_in_turn give (done ++ y ∷ []) (xs ++ ys)) r.1 ∙ turn_join give xs ys (done ++ r.0 ∷ []) mid new r.2 b
+    ap (λ (q : Result Y Stop). q >>> λ y. given_in_turn give (done ++ y ∷ []) (xs ++ ys)) r.1 ∙ turn_join give xs ys (done ++ r.0 ∷ []) mid new r.2 b
 
 -- item by item
 abbrev pub AreEach : {X Y : Type 0} → (X → Y → Type 0) → List X → List Y → Type 0

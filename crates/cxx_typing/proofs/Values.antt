@@ -42,8 +42,8 @@ use Rattle.cxx_expression.specs.declared.typed.Pointer.{Pointer}
 use Rattle.cxx_expression.specs.declared.typed.Number.{Number}
 use Rattle.cxx_expression.specs.Checked.{pure}
 use Rattle.cxx_expression.specs.Lookups.{as_based, base_up}
-use Rattle.cxx_expression.specs.Scenes.{last_of}
-use Rattle.cxx_expression.specs.Values.{global_of, local_of, variable_of, named_value, this_of, within_long, spelled, truth, constant_of, operand_of, pointer_value, as_pointer, pointer_of, as_number, number_of, as_base, path_to, conversion_by, class_conversion, conversion_of, argument, converted_operand, value}
+use Rattle.cxx_expression.specs.Scenes.{innermost_entry}
+use Rattle.cxx_expression.specs.Values.{named_global, local_of, variable_of, named_value, this_pointer_value, within_long, spelled, truth, constant_of, operand_of, pointer_value, as_pointer, pointer_of, as_number, number_operand, as_base, path_to, conversion_by, class_conversion, conversion_of, argument, converted_operand, value}
 use Rattle.foundation.proofs.Truth.{not_both}
 use Rattle.cxx_typing.proofs.Steps.{then_both}
 use Rattle.cxx_typing.specs.Scopes.{IsSetting, IsScene}
@@ -51,21 +51,21 @@ use Rattle.cxx_typing.proofs.Scopes.{named_entry}
 
 -- variables
 
-global_typed : (e : Setting) (k : Scope) → IsSetting e k → (at : ℕ) (name : Text) (o : Option Entry) → last_of e.globals name ≡ o → (v : Variable × ValueType ClassId) → (global_of at o).typed ≡ Some v → variable_type k v.0 ≡ Some v.1
+global_typed : (e : Setting) (k : Scope) → IsSetting e k → (at : ℕ) (name : Text) (o : Option Entry) → innermost_entry e.globals name ≡ o → (v : Variable × ValueType ClassId) → (named_global at o).typed ≡ Some v → variable_type k v.0 ≡ Some v.1
 global_typed e k f at name None is v t = absurd (cc)
 global_typed e k f at name (Some x) is v t =
     let same : (Global x.number, x.ty) ≡ v = cc in
     subst (λ (u : Variable × ValueType ClassId). variable_type k u.0 ≡ Some u.1) same (f.globals x (named_entry e.globals name x is))
 
-local_typed : (e : Setting) (s : Scene) (k : Scope) → IsSetting e k → IsScene s k → (x : Spot) (o : Option Entry) → last_of s.entries x.name ≡ o → (v : Variable × ValueType ClassId) → (local_of e x o).typed ≡ Some v → variable_type k v.0 ≡ Some v.1
-local_typed e s k f g x None is v t = global_typed e k f x.at x.name (last_of e.globals x.name) refl v t
+local_typed : (e : Setting) (s : Scene) (k : Scope) → IsSetting e k → IsScene s k → (x : Spot) (o : Option Entry) → innermost_entry s.entries x.name ≡ o → (v : Variable × ValueType ClassId) → (local_of e x o).typed ≡ Some v → variable_type k v.0 ≡ Some v.1
+local_typed e s k f g x None is v t = global_typed e k f x.at x.name (innermost_entry e.globals x.name) refl v t
 local_typed e s k f g x (Some y) is v t =
     let same : (Local y.number, y.ty) ≡ v = cc in
     subst (λ (u : Variable × ValueType ClassId). variable_type k u.0 ≡ Some u.1) same (g.locals y (named_entry s.entries x.name y is))
 
 pub variable_typed : (e : Setting) (s : Scene) (k : Scope) → IsSetting e k → IsScene s k → (x : Spot) (v : Variable × ValueType ClassId) → (variable_of e s x).typed ≡ Some v → variable_type k v.0 ≡ Some v.1
 unfolding variable_of
-variable_typed e s k f g x v t = local_typed e s k f g x (last_of s.entries x.name) refl v t
+variable_typed e s k f g x v t = local_typed e s k f g x (innermost_entry s.entries x.name) refl v t
 
 -- operands
 
@@ -84,7 +84,7 @@ named_typed e s k f g x v t =
     let same : value (typed.Variable r.0.0) r.0.1 false ≡ v = let q = r.2 in cc in
     valued k _ v (record { has = of_variable r.0.0 r.0.1 (variable_typed e s k f g x r.0 r.1); null = λ n. absurd (cc) }) same
 
-this_typed : (e : Setting) (k : Scope) → IsSetting e k → (at : ℕ) (o : Option ClassId) → e.this_class ≡ o → (v : Value) → (this_of at o).typed ≡ Some v → IsValue k v
+this_typed : (e : Setting) (k : Scope) → IsSetting e k → (at : ℕ) (o : Option ClassId) → e.this_class ≡ o → (v : Value) → (this_pointer_value at o).typed ≡ Some v → IsValue k v
 this_typed e k f at None is v t = absurd (cc)
 this_typed e k f at (Some c) is v t =
     let same : value typed.This (type.Pointer c) false ≡ v = cc in
@@ -176,8 +176,8 @@ as_number_typed k at x (type.Pointer c) has p t = absurd (cc)
 as_number_typed k at x (type.Number n) has p t =
     let same : record { operand = x; scalar = n } ≡ p = cc in subst (λ (q : Number). HasType k q.operand (type.Number q.scalar)) same has
 
-pub number_typed : (e : Setting) (s : Scene) (k : Scope) → IsSetting e k → IsScene s k → (at : ℕ) (x : Operand) (p : Number) → (number_of e s at x).typed ≡ Some p → HasType k p.operand (type.Number p.scalar)
-unfolding number_of
+pub number_typed : (e : Setting) (s : Scene) (k : Scope) → IsSetting e k → IsScene s k → (at : ℕ) (x : Operand) (p : Number) → (number_operand e s at x).typed ≡ Some p → HasType k p.operand (type.Number p.scalar)
+unfolding number_operand
 number_typed e s k f g at x p t =
     let r = then_both (operand_of e s at x).typed _ p t in
     as_number_typed k at r.0.operand r.0.ty (operand_typed e s k f g at x r.0 r.1).has p r.2

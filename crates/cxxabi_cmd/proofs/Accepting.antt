@@ -24,7 +24,7 @@ use Rattle.cxx_program.specs.declared.program.TypedProgram.{TypedProgram}
 use Rattle.cxx_program.specs.declared.program.Owner.TheVariants as owner
 use Rattle.cxx_program.specs.Typed.{IsTypedProgram}
 use Rattle.cxx_expression.specs.declared.scene.Entry.{Entry}
-use Rattle.cxx_resolve.specs.Stops.{◌>>=◌}
+use Rattle.cxx_resolve.specs.Stops.{◌>>>◌}
 use Rattle.cxx_resolve.specs.Turns.{given_in_turn}
 use Rattle.cxx_resolve.specs.Globals.{global_of}
 use Rattle.cxx_resolve.specs.Programs.{typed_body, main_setting, main_tree, main_of, body_of, program, program_of}
@@ -104,7 +104,7 @@ main_kept h globals None main w = let same : None ≡ main = cc in ap is_body (s
 main_kept h globals (Some tree) main w = tree_kept h globals tree main w
 
 behind_main : (h : Classes) (globals : List Entry) (before : List TypedBody) (behind : List Body) (main : Option TypedBody) (given : Bool) (result : TypedProgram) →
-    (given_in_turn (body_of h globals) before behind >>= λ bodies. Ok (program globals main bodies)) ≡ Ok result → is_body main ≡ given → is_body result.main ≡ given
+    (given_in_turn (body_of h globals) before behind >>> λ bodies. Ok (program globals main bodies)) ≡ Ok result → is_body main ≡ given → is_body result.main ≡ given
 behind_main h globals before behind main given result w is =
     let r = then_ok (given_in_turn (body_of h globals) before behind) (λ (bodies : List TypedBody). Ok (program globals main bodies)) result w in
     let last = r.2 in
@@ -112,16 +112,16 @@ behind_main h globals before behind main given result w is =
     ap (λ (p : TypedProgram). is_body p.main) (sym same) ∙ is
 
 from_main : (h : Classes) (globals : List Entry) (before : List TypedBody) (behind : List Body) (tree : Option BodyTree) (result : TypedProgram) →
-    (main_of h globals tree >>= λ main. given_in_turn (body_of h globals) before behind >>= λ bodies. Ok (program globals main bodies)) ≡ Ok result → is_body result.main ≡ is_some tree
+    (main_of h globals tree >>> λ main. given_in_turn (body_of h globals) before behind >>> λ bodies. Ok (program globals main bodies)) ≡ Ok result → is_body result.main ≡ is_some tree
 from_main h globals before behind tree result w =
-    let m = then_ok (main_of h globals tree) (λ (main : Option TypedBody). given_in_turn (body_of h globals) before behind >>= λ bodies. Ok (program globals main bodies)) result w in
+    let m = then_ok (main_of h globals tree) (λ (main : Option TypedBody). given_in_turn (body_of h globals) before behind >>> λ bodies. Ok (program globals main bodies)) result w in
     behind_main h globals before behind m.0 (is_some tree) result m.2 (main_kept h globals tree m.0 m.1)
 
 from_bodies : (h : Classes) (globals : List Entry) (front behind : List Body) (tree : Option BodyTree) (result : TypedProgram) →
-    (given_in_turn (body_of h globals) [] front >>= λ before. main_of h globals tree >>= λ main. given_in_turn (body_of h globals) before behind >>= λ bodies. Ok (program globals main bodies)) ≡ Ok result → is_body result.main ≡ is_some tree
+    (given_in_turn (body_of h globals) [] front >>> λ before. main_of h globals tree >>> λ main. given_in_turn (body_of h globals) before behind >>> λ bodies. Ok (program globals main bodies)) ≡ Ok result → is_body result.main ≡ is_some tree
 from_bodies h globals front behind tree result w =
     let b = then_ok (given_in_turn (body_of h globals) [] front)
-    (λ (before : List TypedBody). main_of h globals tree >>= λ main. given_in_turn (body_of h globals) before behind >>= λ bodies. Ok (program globals main bodies)) result w in
+    (λ (before : List TypedBody). main_of h globals tree >>> λ main. given_in_turn (body_of h globals) before behind >>> λ bodies. Ok (program globals main bodies)) result w in
     from_main h globals b.0 behind tree result b.2
 
 program_main : (h : Classes) (source : SourceText) (result : TypedProgram) → program_of h source ≡ Ok result → is_body result.main ≡ is_some source.main
@@ -129,7 +129,7 @@ unfolding program_of
 program_main h source result w =
     let n = source.main_place in
     let g = then_ok (given_in_turn (global_of h) [] source.globals)
-    (λ (globals : List Entry). given_in_turn (body_of h globals) [] (take n source.bodies) >>= λ before. main_of h globals source.main >>= λ main. given_in_turn (body_of h globals) before (drop n source.bodies) >>= λ bodies. Ok (program globals main bodies)) result w in
+    (λ (globals : List Entry). given_in_turn (body_of h globals) [] (take n source.bodies) >>> λ before. main_of h globals source.main >>> λ main. given_in_turn (body_of h globals) before (drop n source.bodies) >>> λ bodies. Ok (program globals main bodies)) result w in
     from_bodies h g.0 (take n source.bodies) (drop n source.bodies) source.main result g.2
 
 -- what a source resolves to without a fault is typed

@@ -12,7 +12,7 @@ use Rattle.cxx_syntax.specs.declared.part.Item.{Item}
 use Rattle.cxx_syntax.specs.declared.source_text.Body.{Body}
 use Rattle.cxx_syntax.specs.declared.source_text.SourceText.{SourceText}
 use Rattle.cxx_syntax.specs.Parts.{Spelled, PartReads, a_label, a_field, a_bit_field, a_function, a_pure_function, a_constructor, a_destructor, PartsRead, no_part, one_part}
-use Rattle.cxx_syntax.specs.Definitions.{body_at, in_turn, bodies_of}
+use Rattle.cxx_syntax.specs.Definitions.{body_at, given_by_parts, bodies_of}
 use Rattle.cxx_syntax.specs.Sources.{ItemReads, a_class, a_forward, a_global, a_main, ItemsRead, no_item, one_item, bodies_in, main_in, trees_in, SourceReads, a_source}
 use Rattle.cxx_resolve.specs.Walks.{block_meaning}
 use Rattle.cxx_resolve.proofs.Counting.{body_counted}
@@ -51,10 +51,10 @@ part_within class before (a_pure_function v f r n o ps z w q k e g) =
 part_within class before (a_constructor n o z is b e) = omega (arith, one_less n.front, one_less o.front, one_less z.front, inits_less is, body_within b)
 part_within class before (a_destructor v w n o z b e) = omega (arith, virtual_less v, one_less w.front, one_less n.front, one_less o.front, one_less z.front, body_within b)
 
-parts_within : {text : List ℕ} {is_public : Bool} {ps : List Part} {ts rest : List Lexeme} (class : Spelled) (before : List Part) → PartsRead text is_public ps ts rest → sum_by body_weight (in_turn (body_at class) before ps) + length rest ≤ length ts
+parts_within : {text : List ℕ} {is_public : Bool} {ps : List Part} {ts rest : List Lexeme} (class : Spelled) (before : List Part) → PartsRead text is_public ps ts rest → sum_by body_weight (given_by_parts (body_at class) before ps) + length rest ≤ length ts
 parts_within class before no_part = omega arith
 parts_within class before (one_part {p = p} {ps = ps} x xs) =
-    omega (arith, part_within class before x, parts_within class (before ++ p ∷ []) xs, sum_by-append body_weight (body_at class before p) (in_turn (body_at class) (before ++ p ∷ []) ps))
+    omega (arith, part_within class before x, parts_within class (before ++ p ∷ []) xs, sum_by-append body_weight (body_at class before p) (given_by_parts (body_at class) (before ++ p ∷ []) ps))
 
 class_within : {text : List ℕ} {is_public : Bool} {ps : List Part} {ts rest : List Lexeme} {bs : List Body} (class : Spelled) → bs ≡ bodies_of class ps → PartsRead text is_public ps ts rest → sum_by body_weight bs + length rest ≤ length ts
 class_within class same x = omega (arith, ap (sum_by body_weight) same, parts_within class [] x)

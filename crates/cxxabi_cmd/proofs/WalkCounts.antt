@@ -21,12 +21,12 @@ use Rattle.cxx_program.specs.declared.statement.TypedStatement.{TypedStatement}
 use Rattle.cxx_expression.specs.declared.scene.Scene.{Scene}
 use Rattle.cxx_expression.specs.declared.scene.Setting.{Setting}
 use Rattle.cxx_expression.specs.Checked.{Checked}
-use Rattle.cxx_expression.specs.Scenes.{declared, opened, closed}
-use Rattle.cxx_expression.specs.Values.{number_of}
+use Rattle.cxx_expression.specs.Scenes.{with_variable, opened, closed}
+use Rattle.cxx_expression.specs.Values.{number_operand}
 use Rattle.cxx_resolve.specs.declared.draft.Draft.{Draft}
-use Rattle.cxx_resolve.specs.Stops.{◌>>=◌}
+use Rattle.cxx_resolve.specs.Stops.{◌>>>◌}
 use Rattle.cxx_resolve.specs.Settled.{settle}
-use Rattle.cxx_resolve.specs.Statements.{new_variable, first_value, declare_of, assign_of, write_of, copy_of, call_statement, delete_of, return_of, print_of, print_type_of, print_view_of, dump_of}
+use Rattle.cxx_resolve.specs.Statements.{new_variable, first_value, declare_of, assign_of, write_of, copy_of, call_statement, delete_of, returned_kind, print_of, print_type_of, print_view_of, dump_of}
 use Rattle.cxx_resolve.specs.Walks.{KindMeaning, Meaning, kind_step, statement_step, block_step, kind_meaning, statement_meaning, block_meaning, sizes, walk_all, next_of, plain, pushed, in_scene, ended_scene, declaration, declare_walk, branch, loop, head, if_head, while_head, scoped, most_locals}
 use Rattle.cxx_resolve.proofs.Walking.{layer_is}
 use Rattle.cxx_typing.proofs.Steps.{settled_clean, then_both}
@@ -71,9 +71,9 @@ declared_types : (h : Classes) (e : Setting) (s : Scene) (at : ℕ) (ty : ValueT
 unfolding declare_of
 declared_types h e s at ty ty_at x init r t =
     let u = then_both (new_variable h s ty ty_at x).typed _ r t in
-    let v = then_both (first_value h e (declared s x.name u.0) at u.0 (length s.types) init).typed _ r u.2 in
+    let v = then_both (first_value h e (with_variable s x.name u.0) at u.0 (length s.types) init).typed _ r u.2 in
     let last = v.2 in
-    let scene : declared s x.name u.0 ≡ r.1 = cc in
+    let scene : with_variable s x.name u.0 ≡ r.1 = cc in
     let same : length (s.types ++ u.0 ∷ []) ≡ length r.1.types = ap (λ (z : Scene). length z.types) scene in
     omega (arith, same, length-append s.types (u.0 ∷ []))
 
@@ -93,7 +93,7 @@ declaration_adds ty ty_at x init = record { walks = λ h e at line n next d new 
 head_adds : (leads : TypedOperand → TypedKind) (e : Setting) (at : ℕ) (x : Operand) (line next : ℕ) (d new : Draft) → head leads e at x line next d ≡ Ok new → AddsTo 1 d new
 unfolding head
 head_adds leads e at x line next d new w =
-    let r = then_ok (settle (number_of e d.scene at x)) (λ v. Ok (pushed (leads v.operand) line next d)) new w in
+    let r = then_ok (settle (number_operand e d.scene at x)) (λ v. Ok (pushed (leads v.operand) line next d)) new w in
     let last = r.2 in
     let same : pushed (leads r.0.operand) line next d ≡ new = cc in
     subst (AddsTo 1 d) same (adds_pushed d d.scene (leads r.0.operand) line next (omega arith))
@@ -121,7 +121,7 @@ branches_add x m o s t = record {
   walks = λ h e at line n next d new w.
       let other = n + 1 + m.size in
       let behind = n + 1 + m.size + o.size in
-      let p = then_ok (if_head other behind e at x line next d >>= scoped m h e (n + 1) next) (λ (y : Draft). scoped o h e (n + 1 + m.size) next y) new w in
+      let p = then_ok (if_head other behind e at x line next d >>> scoped m h e (n + 1) next) (λ (y : Draft). scoped o h e (n + 1 + m.size) next y) new w in
       let r = then_ok (if_head other behind e at x line next d) (λ (y : Draft). scoped m h e (n + 1) next y) p.0 p.1 in
       adds_both (1 + m.size) o.size (1 + m.size + o.size) d p.0 new
       (adds_both 1 m.size (1 + m.size) d r.0 p.0 (head_adds (λ v. typed.If v other behind) e at x line next d r.0 r.1) (scoped_adds m s h e (n + 1) next r.0 p.0 r.2) refl)
@@ -164,7 +164,7 @@ kind_adds f g k s (layer.Delete x) = subst KindAdds (sym (layer_is (layer.Delete
 kind_adds f g k s (layer.If x b None) = subst KindAdds (sym (layer_is (layer.If x (g b) None))) (branch_adds x (block_meaning (g b)) (s b))
 kind_adds f g k s (layer.If x b (Some c)) = subst KindAdds (sym (layer_is (layer.If x (g b) (Some (g c))))) (branches_add x (block_meaning (g b)) (block_meaning (g c)) (s b) (s c))
 kind_adds f g k s (layer.While x b) = subst KindAdds (sym (layer_is (layer.While x (g b)))) (loop_adds x (block_meaning (g b)) (s b))
-kind_adds f g k s (layer.Return x) = subst KindAdds (sym (layer_is (layer.Return x))) (plain_adds (λ h e s at. return_of h e s at x))
+kind_adds f g k s (layer.Return x) = subst KindAdds (sym (layer_is (layer.Return x))) (plain_adds (λ h e s at. returned_kind h e s at x))
 kind_adds f g k s (layer.Print x) = subst KindAdds (sym (layer_is (layer.Print x))) (plain_adds (λ h e s at. print_of e s at x))
 kind_adds f g k s (layer.PrintType x) = subst KindAdds (sym (layer_is (layer.PrintType x))) (plain_adds (λ h e s at. print_type_of h e s at x))
 kind_adds f g k s (layer.PrintView x) = subst KindAdds (sym (layer_is (layer.PrintView x))) (plain_adds (λ h e s at. print_view_of h e s at x))

@@ -13,7 +13,7 @@ use Rattle.cxx_subobject.specs.declared.Subobject.{Subobject}
 use Rattle.cxx_subobject.specs.Subobjects.{class_of, join, same_subobject}
 use Rattle.cxx_subobject.specs.Locations.{ObjectPart}
 use Rattle.cxx_subobject.proofs.InsideLemmas.{join_class}
-use Rattle.cxx_search.specs.Searches.{is_within, is_of_class, is_public_in, parts_of, the_only, where_it, targets, cast_down, cast_across, or_else, cast_in, preorder_of}
+use Rattle.cxx_search.specs.Searches.{is_within, is_of_class, is_public_in, subobjects_under, the_only, where_it, targets, cast_down, cast_across, or_else, cast_in, preorder_of}
 use Rattle.cxx_search.proofs.Casts.{of_class}
 use Rattle.cxx_program.specs.declared.statement.TypedCast.{TypedCast}
 use Rattle.cxx_program.specs.declared.statement.TypedPlace.{TypedPlace}
@@ -54,7 +54,7 @@ where_is f None t e = e
 where_is f (Some s) t e = split (f s) (λ b. (if b then Some s else None) ≡ Some t → Some s ≡ Some t) (λ _ g. g) (λ _ g. absurd (let k : None ≡ Some t = g in cc)) e
 
 target_class : (h : Classes) (target : ClassId) (x t : Subobject) → Has (targets h target x) t → class_of t ≡ Some target
-target_class h target x t has = of_class target (class_of t) (has_filter (is_of_class target) (parts_of h x) t has).1
+target_class h target x t has = of_class target (class_of t) (has_filter (is_of_class target) (subobjects_under h x) t has).1
 
 down_class : (h : Classes) (target : ClassId) (x y t : Subobject) → cast_down h target x y ≡ Some t → class_of t ≡ Some target
 down_class h target x y t e =

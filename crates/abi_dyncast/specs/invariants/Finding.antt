@@ -27,7 +27,7 @@ found_itself goal at class = record { source = is_source goal at class; public_s
 
 -- what is told does not change by a base of a class: the source was found, by any edges and by public ones, and the class has a lower
 -- number than the target class
-pub record IsTold (goal : Goal) (found : Found) (class : ℕ) : Type 0 where
+pub record IsToldAlready (goal : Goal) (found : Found) (class : ℕ) : Type 0 where
   pub source : found.source ≡ true
   pub public_source : found.public_source ≡ true
   pub lower : class < goal.target

@@ -20,6 +20,6 @@ tasks_after u (Place p) = end_tasks u
 tasks_after u (Call c) = Only Semicolon ∷ []
 
 -- as the right side of an assignment
-abbrev pub right_of : Through → Right
-right_of (Place p) = right.Place p
-right_of (Call c) = right.Call c
+abbrev pub right_through : Through → Right
+right_through (Place p) = right.Place p
+right_through (Call c) = right.Call c

@@ -32,8 +32,8 @@ run (l ∷ ts) s [] = Done (l ∷ ts)
 run (l ∷ ts) s (m ∷ k) = go_on l (after m l.sort) (admits m l.sort s) k (run ts)
 
 -- Whatever comes behind them, the first tasks lead to the second.
-abbrev pub Leads : State → List Task → List Lexeme → State → List Task → List Lexeme → Type 0
-Leads s ms ts s' ms' ts' = (k : List Task) → run ts s (ms ++ k) ≡ run ts' s' (ms' ++ k)
+abbrev pub TasksLead : State → List Task → List Lexeme → State → List Task → List Lexeme → Type 0
+TasksLead s ms ts s' ms' ts' = (k : List Task) → run ts s (ms ++ k) ≡ run ts' s' (ms' ++ k)
 
 -- Whatever comes behind them, these tasks stop so, unless it was for want of memory.
 abbrev pub Stops : State → List Task → List Lexeme → Stop → Type 0
@@ -41,10 +41,10 @@ Stops s ms ts e = (e ≡ stop.NoMemory → ⊥) → (k : List Task) → run ts s
 
 -- what a reader did
 abbrev pub Follows : {X : Type 0} → (X → List Lexeme) → State → List Task → List Lexeme → State → List Task → Result X Stop → Type 0
-Follows rest_of s ms ts s' ms' (Ok x) = Leads s ms ts s' ms' (rest_of x)
+Follows rest_of s ms ts s' ms' (Ok x) = TasksLead s ms ts s' ms' (rest_of x)
 Follows rest_of s ms ts s' ms' (Err e) = Stops s ms ts e
 
 -- what a reader did after which different tasks may be left
 abbrev pub FollowsBy : {X : Type 0} → (X → List Lexeme) → State → List Task → List Lexeme → (X → List Task) → Result X Stop → Type 0
-FollowsBy rest_of s ms ts left (Ok x) = Leads s ms ts s (left x) (rest_of x)
+FollowsBy rest_of s ms ts left (Ok x) = TasksLead s ms ts s (left x) (rest_of x)
 FollowsBy rest_of s ms ts left (Err e) = Stops s ms ts e

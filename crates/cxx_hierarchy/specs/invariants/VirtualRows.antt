@@ -31,7 +31,7 @@ pub record AreRows (h : Classes) (public_only : Bool) (rows : List Row) : Type 0
   pub each : (c : ClassId) (v : ℕ) → c.0 < length rows → mark rows c.0 v ≡ list_any (gives public_only rows v) (bases_of h c)
 
 -- rows for all classes of a hierarchy
-pub record AreTables (h : Classes) (every public : List Row) : Type 0 where
+pub record AreVirtualRows (h : Classes) (every public : List Row) : Type 0 where
   pub every_rows : AreRows h false every
   pub every_size : length every ≡ length h
   pub public_rows : AreRows h true public

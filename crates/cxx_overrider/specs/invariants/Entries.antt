@@ -9,7 +9,7 @@ use Rattle.cxx_subobject.specs.Inside.{IsInside}
 use Rattle.cxx_overrider.specs.declared.Overrider.{Overrider}
 use Rattle.cxx_overrider.specs.declared.entries.Entry.{Entry}
 use Rattle.cxx_overrider.specs.Functions.{Signature, signature_of}
-use Rattle.cxx_overrider.specs.invariants.Places.{place_of}
+use Rattle.cxx_overrider.specs.invariants.Places.{place_of_subobject}
 
 -- a subobject of c, of a class that has the virtual base v and declares a function of the signature
 pub record Declares (h : Classes) (c v : ClassId) (signature : Signature) (o : Overrider) : Type 0 where
@@ -27,7 +27,7 @@ pub record IsGreatest (h : Classes) (c v : ClassId) (signature : Signature) (o :
 pub record Tells (h : Classes) (c v : ClassId) (signature : Signature) (e : Entry) : Type 0 where
   pub subobject : Subobject
   pub greatest : IsGreatest h c v signature (record { at = subobject; function = e.function })
-  pub place : place_of subobject ≡ e.place
+  pub place : place_of_subobject subobject ≡ e.place
 
 -- no entry: none declares one
 abbrev pub TellsOf : Classes → (c v : ClassId) → Signature → Option Entry → Type 0

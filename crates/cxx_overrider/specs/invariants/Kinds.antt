@@ -8,10 +8,10 @@ use Rattle.cxx_subobject.specs.Subobjects.{IsSubobject, class_of}
 use Rattle.cxx_overrider.specs.declared.places.Place.{Place}
 use Rattle.cxx_overrider.specs.declared.kinds.BaseKind.{BaseKind}
 use Rattle.cxx_overrider.specs.declared.kinds.BaseKind.TheVariants.{NotBase, Unique, Ambiguous}
-use Rattle.cxx_overrider.specs.invariants.Places.{place_of, lifted, IsThrough}
+use Rattle.cxx_overrider.specs.invariants.Places.{place_of_subobject, lifted, IsThrough}
 
 -- s is a subobject of c of class d
-pub record IsPart (h : Classes) (c d : ClassId) (s : Subobject) : Type 0 where
+pub record IsPartOfClass (h : Classes) (c d : ClassId) (s : Subobject) : Type 0 where
   pub valid : IsSubobject h c s
   pub class : class_of s ≡ Some d
 
@@ -25,10 +25,10 @@ pub record IsPartThrough (h : Classes) (c d : ClassId) (count : ℕ) (s : Subobj
   pub class : class_of s ≡ Some d
 
 -- one subobject is as P says, at this place
-pub record IsOnly (P : Subobject → Type 0) (place : Place) : Type 0 where
+pub record IsOnlyAtPlace (P : Subobject → Type 0) (place : Place) : Type 0 where
   pub one : Subobject
   pub is : P one
-  pub at_place : place_of one ≡ place
+  pub at_place : place_of_subobject one ≡ place
   pub only : (s : Subobject) → P s → s ≡ one
 
 pub record AreTwo (P : Subobject → Type 0) : Type 0 where
@@ -41,7 +41,7 @@ pub record AreTwo (P : Subobject → Type 0) : Type 0 where
 -- how many subobjects are as P says: none, one, or more
 abbrev pub Counts : (P : Subobject → Type 0) → BaseKind → Type 0
 Counts P NotBase = (s : Subobject) → P s → ⊥
-Counts P (Unique place) = IsOnly P place
+Counts P (Unique place) = IsOnlyAtPlace P place
 Counts P Ambiguous = AreTwo P
 
 abbrev pub kind_of : List (List BaseKind) → ClassId → ClassId → BaseKind
@@ -49,12 +49,12 @@ kind_of rows c d = slice_index_or (slice_index_or rows c.0 []) d.0 NotBase
 
 -- the rows say of each class, which of all classes are among it and its bases, and how often
 pub record AreKinds (h : Classes) (rows : List (List BaseKind)) : Type 0 where
-  pub each : (c d : ClassId) → c.0 < length rows → Counts (IsPart h c d) (kind_of rows c d)
+  pub each : (c d : ClassId) → c.0 < length rows → Counts (IsPartOfClass h c d) (kind_of rows c d)
 
 -- the row of a class
 pub record IsKindRow (h : Classes) (c : ClassId) (row : List BaseKind) : Type 0 where
   pub size : length row ≡ c.0 + 1
-  pub each : (d : ClassId) → d.0 < length row → Counts (IsPart h c d) (slice_index_or row d.0 NotBase)
+  pub each : (d : ClassId) → d.0 < length row → Counts (IsPartOfClass h c d) (slice_index_or row d.0 NotBase)
 
 -- the kind where some subobjects count as the first kind says, and those of one more base as the second
 abbrev pub IsMerged : BaseKind → BaseKind → BaseKind → Type 0

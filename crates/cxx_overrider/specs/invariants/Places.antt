@@ -18,8 +18,8 @@ abbrev pub place_at : Root → List ClassId → Place
 place_at Whole path = place_below (tail_of path)
 place_at (Shared w) path = InShared w
 
-abbrev pub place_of : Subobject → Place
-place_of s = place_at s.root s.path
+abbrev pub place_of_subobject : Subobject → Place
+place_of_subobject s = place_at s.root s.path
 
 abbrev pub base_place : Bool → ClassId → Place
 base_place true b = InShared b
@@ -31,13 +31,13 @@ lifted base Itself = base_place base.is_virtual base.class
 lifted base (InBase b) = base_place base.is_virtual base.class
 lifted base (InShared w) = InShared w
 
-abbrev pub base_subobject : Bool → ClassId → ClassId → Subobject
-base_subobject true c b = subobject (Shared b) (b ∷ [])
-base_subobject false c b = subobject Whole (c ∷ b ∷ [])
+abbrev pub direct_base_part : Bool → ClassId → ClassId → Subobject
+direct_base_part true c b = subobject (Shared b) (b ∷ [])
+direct_base_part false c b = subobject Whole (c ∷ b ∷ [])
 
 -- the subobject of c that its direct base is
 abbrev pub base_of : ClassId → Base ClassId → Subobject
-base_of c base = base_subobject base.is_virtual c base.class
+base_of c base = direct_base_part base.is_virtual c base.class
 
 -- s, in an object of class c, is a subobject of its direct base
 pub record IsThrough (h : Classes) (c : ClassId) (base : Base ClassId) (s : Subobject) : Type 0 where

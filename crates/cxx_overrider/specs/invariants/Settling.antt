@@ -19,7 +19,7 @@ use Rattle.cxx_overrider.specs.Overriding.{HasVirtual, HasTwoFinalOverriders}
 use Rattle.cxx_overrider.specs.invariants.Numbers.{IsNumberOf}
 use Rattle.cxx_overrider.specs.invariants.Pure.{DeclaresNone}
 use Rattle.cxx_overrider.specs.invariants.Within.{HasVirtualWithin}
-use Rattle.cxx_overrider.specs.invariants.Places.{place_of, base_of, IsThrough}
+use Rattle.cxx_overrider.specs.invariants.Places.{place_of_subobject, base_of, IsThrough}
 use Rattle.cxx_overrider.specs.invariants.Entries.{Declares, IsGreatest, Tells, TellsOf}
 use Rattle.cxx_overrider.specs.invariants.EntryTables.{entry_of}
 
@@ -34,7 +34,7 @@ pub record StandsFor (h : Classes) (c v : ClassId) (signature : Signature) (e : 
   pub subobject : Subobject
   pub through : IsThrough h c base subobject
   pub greatest : IsGreatest h base.class v signature (record { at = through.part; function = e.function })
-  pub place : place_of subobject ≡ e.place
+  pub place : place_of_subobject subobject ≡ e.place
 
 -- an entry of the list stands for a subobject that has this one in it
 pub record HasHolder (h : Classes) (c v : ClassId) (signature : Signature) (xs : List Entry) (s : Subobject) : Type 0 where

@@ -8,7 +8,7 @@ use Rattle.cxx_grammar.specs.Front.{Is, IsName}
 use Rattle.cxx_grammar.specs.Lexemes.{bytes_of}
 use Rattle.cxx_grammar.specs.Event.{State}
 use Rattle.cxx_grammar.specs.Table.{Task, Only, AName, scalar_rest, is_scalar_word}
-use Rattle.cxx_grammar.specs.invariants.Run.{Leads, Stops}
+use Rattle.cxx_grammar.specs.invariants.Run.{TasksLead, Stops}
 use Rattle.cxx_hierarchy.specs.declared.stop.Stop.{Stop}
 use Rattle.cxx_hierarchy.specs.declared.records.ReturnType.{ReturnType}
 use Rattle.cxx_syntax.specs.Statements.{IsFirst}
@@ -17,7 +17,7 @@ use Rattle.cxx_syntax.specs.declared.part.Item.{Item}
 use Rattle.cxx_syntax.specs.declared.part.Item.TheVariants as item
 use Rattle.cxx_record_parser.specs.declared.draft.Draft.{Draft}
 use Rattle.cxx_syntax.specs.Parts.{Spelled, VirtualReads, ReturnReads}
-use Rattle.cxx_syntax.specs.Definitions.{members_of, functions_of, order_of, is_constructor, destructor_of, bodies_of}
+use Rattle.cxx_syntax.specs.Definitions.{members_among, functions_among, order_of, is_constructor_part, destructor_among, bodies_of}
 
 -- what begins a value
 abbrev pub begins_value : Sort → Bool
@@ -46,7 +46,7 @@ main_after m _ = m
 
 -- what a reader did after which the state may differ
 abbrev pub FollowsTo : {X : Type 0} → (X → List Lexeme) → State → List Task → List Lexeme → (X → State) → List Task → Result X Stop → Type 0
-FollowsTo rest_of s ms ts state left (Ok x) = Leads s ms ts (state x) left (rest_of x)
+FollowsTo rest_of s ms ts state left (Ok x) = TasksLead s ms ts (state x) left (rest_of x)
 FollowsTo rest_of s ms ts state left (Err e) = Stops s ms ts e
 
 -- ["virtual"] (value | "void") name "("
@@ -63,9 +63,9 @@ pub record HeadReads (text : List ℕ) (v : Bool) (f : Lexeme) (r : ReturnType S
 
 -- what these parts of a class of this name make
 pub record IsDraft (text : List ℕ) (class : Lexeme) (parts : List Part) (d : Draft) : Type 0 where
-  pub members : d.members ≡ members_of parts
-  pub functions : d.functions ≡ functions_of parts
+  pub members : d.members ≡ members_among parts
+  pub functions : d.functions ≡ functions_among parts
   pub order : d.order ≡ order_of parts
-  pub has_constructor : d.has_constructor ≡ list_any is_constructor parts
-  pub destructor : d.destructor ≡ destructor_of parts
+  pub has_constructor : d.has_constructor ≡ list_any is_constructor_part parts
+  pub destructor : d.destructor ≡ destructor_among parts
   pub bodies : d.bodies ≡ bodies_of (bytes_of text class) parts

@@ -28,7 +28,7 @@ abbrev pub parts_weight : Classes → ClassId → ℕ
 parts_weight h c = 1 + member_parts h (parts_of h) (Some c)
 
 -- no value is larger than one past the limit
-pub record AreWithin (limit : ℕ) (values : List ℕ) : Type 0 where
+pub record AreCapped (limit : ℕ) (values : List ℕ) : Type 0 where
   pub each : (i : ℕ) → get_or values i 0 ≤ limit + 1
 
 -- each value is that of its class, or one past the limit where it is larger

@@ -8,7 +8,7 @@ use Rattle.cxx_hierarchy.specs.VirtualBases.{HasVirtualBase, HasPublicVirtualBas
 use Rattle.cxx_subobject.specs.declared.Root.{Root}
 use Rattle.cxx_subobject.specs.declared.Root.TheVariants.{Whole, Shared}
 use Rattle.cxx_subobject.specs.declared.Subobject.{Subobject}
-pub use Rattle.cxx_subobject.specs.Inside.{begins, is_longer}
+pub use Rattle.cxx_subobject.specs.Inside.{path_begins, is_longer}
 
 -- a root that is a virtual base of the class
 abbrev pub ReachesRoot : Classes → Option ClassId → Root → Type 0

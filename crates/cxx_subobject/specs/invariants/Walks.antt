@@ -23,7 +23,7 @@ pub record IsFresh (found : List Subobject) (s : Subobject) : Type 0 where
 
 -- a class is marked where it is there as a shared base, and where anything is that lies in it without crossing to
 -- another shared base
-pub record AreMarks (marks : List Bool) (found : List Subobject) : Type 0 where
+pub record AreSharedMarks (marks : List Bool) (found : List Subobject) : Type 0 where
   pub marked : (v : ClassId) → get_or marks v.0 false ≡ true → Contains found (shared_base v)
   pub unmarked : (v : ClassId) (path : List ClassId) → Contains found (subobject (Shared v) (v ∷ path)) → get_or marks v.0 false ≡ true
 

@@ -1,7 +1,7 @@
 use Rattle.std.proofs.Common.{◌+◌, ◌*◌, ◌≤◌, Bool, [], ◌∷◌, length}
 use Rattle.cxx_body_parser.proofs.Lists.{StatementsSoFar}
 use Rattle.cxx_grammar.specs.Table.{StatementsEnd}
-use Rattle.cxx_grammar.specs.invariants.Run.{Leads}
+use Rattle.cxx_grammar.specs.invariants.Run.{TasksLead}
 use Rattle.cxx_body_parser.proofs.body.+parser.Given as goal
 
 abbrev pub decreases-block : goal.decreases-block
@@ -23,7 +23,7 @@ abbrev pub invariant-statements-loop-items : goal.invariant-statements-loop-item
 invariant-statements-loop-items l = record {
   shorter : length l.left ≤ length l.fn.rest;
   reads : StatementsSoFar l.text.bytes.now l.fn.rest l.left l.items.items;
-  follows : (m : Bool) → Leads (record { blocks = l.depth; main = m }) (StatementsEnd ∷ []) l.fn.rest (record { blocks = l.depth; main = m }) (StatementsEnd ∷ []) l.left;
+  follows : (m : Bool) → TasksLead (record { blocks = l.depth; main = m }) (StatementsEnd ∷ []) l.fn.rest (record { blocks = l.depth; main = m }) (StatementsEnd ∷ []) l.left;
 }
 
 abbrev pub decreases-statements-loop-items : goal.decreases-statements-loop-items

@@ -1,6 +1,6 @@
 use Rattle.std.proofs.Common.{◌≤◌, false, List, [], ◌∷◌, length, is_some}
 use Rattle.cxx_grammar.specs.Table.{ItemsEnd}
-use Rattle.cxx_grammar.specs.invariants.Run.{Leads}
+use Rattle.cxx_grammar.specs.invariants.Run.{TasksLead}
 use Rattle.cxx_syntax.specs.declared.part.Item.{Item}
 use Rattle.cxx_syntax.specs.Sources.{AreItemsOf}
 use Rattle.cxx_record_parser.specs.invariants.Readers.{outside}
@@ -11,7 +11,7 @@ abbrev pub invariant-loop-source : goal.invariant-loop-source
 invariant-loop-source l = record {
   shorter : length l.left ≤ length l.fn.rest;
   reads : (done : List Item) × ItemsSoFar l.text.bytes.now l.fn.rest l.left done × AreItemsOf l.source done;
-  follows : Leads (outside false) (ItemsEnd ∷ []) l.fn.rest (outside (is_some l.source.main)) (ItemsEnd ∷ []) l.left;
+  follows : TasksLead (outside false) (ItemsEnd ∷ []) l.fn.rest (outside (is_some l.source.main)) (ItemsEnd ∷ []) l.left;
 }
 
 abbrev pub decreases-loop-source : goal.decreases-loop-source

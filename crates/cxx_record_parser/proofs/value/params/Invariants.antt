@@ -1,7 +1,7 @@
 use Rattle.std.proofs.Common.{◌≤◌, [], ◌∷◌, length}
 use Rattle.cxx_grammar.specs.Table.{ParamsEnd, MoreParamsEnd}
 use Rattle.cxx_grammar.specs.Event.{State}
-use Rattle.cxx_grammar.specs.invariants.Run.{Leads}
+use Rattle.cxx_grammar.specs.invariants.Run.{TasksLead}
 use Rattle.cxx_record_parser.proofs.Series.{ParamsSoFar}
 use Rattle.cxx_record_parser.proofs.value.params.Given as goal
 
@@ -9,7 +9,7 @@ abbrev pub invariant-loop-items : goal.invariant-loop-items
 invariant-loop-items l = record {
   shorter : length l.left ≤ length l.fn.rest;
   reads : ParamsSoFar l.text l.fn.rest l.left l.items;
-  follows : (s : State) → Leads s (ParamsEnd ∷ []) l.fn.rest s (MoreParamsEnd ∷ []) l.left;
+  follows : (s : State) → TasksLead s (ParamsEnd ∷ []) l.fn.rest s (MoreParamsEnd ∷ []) l.left;
 }
 
 abbrev pub decreases-loop-items : goal.decreases-loop-items

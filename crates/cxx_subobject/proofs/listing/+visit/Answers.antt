@@ -6,7 +6,7 @@ use Rattle.cxx_hierarchy.specs.declared.records.Base.{Base}
 use Rattle.cxx_hierarchy.specs.Classes.{bases_in}
 use Rattle.cxx_subobject.specs.declared.Subobject.{Subobject}
 use Rattle.cxx_subobject.specs.Subobjects.{subobject}
-use Rattle.cxx_subobject.specs.invariants.Walks.{IsFresh, AreMarks, IsPlaced, IsClosed}
+use Rattle.cxx_subobject.specs.invariants.Walks.{IsFresh, AreSharedMarks, IsPlaced, IsClosed}
 use Rattle.cxx_subobject.proofs.TreeLemmas.{base_listed, base_down, base_across}
 use Rattle.cxx_subobject.proofs.WalkLemmas.{below, closed_here, closed_less, placed_down, fresh_next, others_before, marks_down, marks_across, fresh_shared, walk_whole, has_start, next_walked, skip_walked}
 use Rattle.cxx_subobject.proofs.listing.+visit.Goals.{then-base+then-not-marks-number+in_ok-put_shared+in_ok-visit, then-base+else-not-marks-number, else-base+in_ok-put_below+in_ok-visit-2}
@@ -22,7 +22,7 @@ loop-base-init t c =
       items = c.as_slice-base-items.ensures ∙ sym (ap bases_in c.class.ensures);
       size = c.requires.size;
       found = pushed;
-      marks = subst (λ (xs : List Subobject). AreMarks c.args.marks.now xs) (sym pushed) c.requires.marks;
+      marks = subst (λ (xs : List Subobject). AreSharedMarks c.args.marks.now xs) (sym pushed) c.requires.marks;
       closed = subst (λ (xs : List Subobject). IsClosed c.args.h.now c.args.c.0 xs) (sym pushed) (closed_here c.args.h.now c.args.c c.args.s.now c.args.found.now.items c.requires.place.class c.requires.closed);
     }
 
@@ -68,7 +68,7 @@ visit-requires t c =
             (
               subst (λ (x : Subobject). IsFresh found x) (sym is) (fresh_shared marks found base.class c.loop-base.invariant.marks c.if-not-marks-number.true),
               (
-                subst (λ (x : Subobject). AreMarks (set marks base.class.0 true) (found ++ x ∷ [])) (sym is) (marks_across marks found base.class c.loop-base.invariant.marks (omega arith)),
+                subst (λ (x : Subobject). AreSharedMarks (set marks base.class.0 true) (found ++ x ∷ [])) (sym is) (marks_across marks found base.class c.loop-base.invariant.marks (omega arith)),
                 closed_less h c.args.c.0 (base.class.0 + 1) found (omega arith) c.loop-base.invariant.closed,
               ),
             ),
@@ -105,7 +105,7 @@ visit-requires-else-base t c =
             (
               subst (λ (x : Subobject). IsFresh found x) (sym is) (subst (λ (xs : List Subobject). IsFresh xs (subobject s.root (s.path ++ base.class ∷ []))) (sym c.loop-base.invariant.found) fresh),
               (
-                subst (λ (x : Subobject). AreMarks marks (found ++ x ∷ [])) (sym is) (marks_down marks found s c.args.c base.class c.loop-base.invariant.marks (has_start old (flat_map (below h c.args.c s) (take i bases)) found s c.loop-base.invariant.found) c.requires.place.class),
+                subst (λ (x : Subobject). AreSharedMarks marks (found ++ x ∷ [])) (sym is) (marks_down marks found s c.args.c base.class c.loop-base.invariant.marks (has_start old (flat_map (below h c.args.c s) (take i bases)) found s c.loop-base.invariant.found) c.requires.place.class),
                 closed_less h c.args.c.0 (base.class.0 + 1) found (omega arith) c.loop-base.invariant.closed,
               ),
             ),

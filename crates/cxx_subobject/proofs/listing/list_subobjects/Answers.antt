@@ -5,7 +5,7 @@ use Rattle.cxx_subobject.specs.declared.Root.TheVariants.{Whole}
 use Rattle.cxx_subobject.specs.declared.Subobject.{Subobject}
 use Rattle.cxx_subobject.specs.Subobjects.{subobject, whole_of}
 use Rattle.cxx_subobject.specs.Preorder.{tree, ListsSubobjects}
-use Rattle.cxx_subobject.specs.invariants.Walks.{with_new, IsFresh, AreMarks, IsPlaced, IsClosed}
+use Rattle.cxx_subobject.specs.invariants.Walks.{with_new, IsFresh, AreSharedMarks, IsPlaced, IsClosed}
 use Rattle.cxx_subobject.proofs.TreeLemmas.{preorder_lists}
 use Rattle.cxx_subobject.proofs.WalkLemmas.{fresh_start, closed_start, marks_start, walked_whole, whole_placed}
 use Rattle.cxx_subobject.proofs.listing.list_subobjects.Goals as goal
@@ -24,8 +24,8 @@ visit-requires c =
       size = ap length marks ∙ length-replicate c.len.result false ∙ c.len.ensures;
       place = subst (λ (x : Subobject). IsPlaced h c.args.c x) whole (whole_placed h c.args.c);
       fresh = subst (λ (xs : List Subobject). IsFresh xs (subobject Whole c.in_ok-longer_path.field-0)) (sym none) (fresh_start (subobject Whole c.in_ok-longer_path.field-0));
-      marks = subst (λ (xs : List Subobject). AreMarks c.deref_mut.result.now (xs ++ subobject Whole c.in_ok-longer_path.field-0 ∷ [])) (sym none)
-          (subst (λ (x : Subobject). AreMarks c.deref_mut.result.now (x ∷ [])) whole (subst (λ (bs : List Bool). AreMarks bs (whole_of c.args.c ∷ [])) (sym marks) (marks_start c.len.result c.args.c)));
+      marks = subst (λ (xs : List Subobject). AreSharedMarks c.deref_mut.result.now (xs ++ subobject Whole c.in_ok-longer_path.field-0 ∷ [])) (sym none)
+          (subst (λ (x : Subobject). AreSharedMarks c.deref_mut.result.now (x ∷ [])) whole (subst (λ (bs : List Bool). AreSharedMarks bs (whole_of c.args.c ∷ [])) (sym marks) (marks_start c.len.result c.args.c)));
       closed = subst (λ (xs : List Subobject). IsClosed h (c.args.c.0 + 1) xs) (sym none) (closed_start h (c.args.c.0 + 1));
     }
 

@@ -4,7 +4,7 @@ use Rattle.cxx_hierarchy.specs.declared.records.Base.{Base}
 use Rattle.cxx_hierarchy.specs.declared.records.Member.{Member}
 use Rattle.cxx_hierarchy.proofs.VirtualRows.{known_bases}
 use Rattle.cxx_subobject.specs.Parts.{parts_of}
-use Rattle.cxx_subobject.specs.invariants.Counts.{AreWithin, IsCapped, KnowsObject, HasGoodCount, own_of, own_bases, parts_weight, parts_of_members}
+use Rattle.cxx_subobject.specs.invariants.Counts.{AreCapped, IsCapped, KnowsObject, HasGoodCount, own_of, own_bases, parts_weight, parts_of_members}
 use Rattle.cxx_subobject.proofs.CountLemmas.{capped_within, known_member, good_count, counts_push}
 use Rattle.cxx_subobject.proofs.VirtualFlagLemmas.{no_virtual_bases}
 use Rattle.cxx_subobject.proofs.parts.Counts.push.Goals as goal
@@ -17,7 +17,7 @@ base_sum-own-requires-clause-known c = λ k d lt.
     omega arith
 
 pub base_sum-own-requires-clause-values : goal.base_sum-own-requires-clause-values
-base_sum-own-requires-clause-values c = subst (AreWithin 1024) (sym c.deref.ensures.value) (capped_within 1024 (own_of (λ d. 1) c.args.h.now) _ c.requires.counts.own)
+base_sum-own-requires-clause-values c = subst (AreCapped 1024) (sym c.deref.ensures.value) (capped_within 1024 (own_of (λ d. 1) c.args.h.now) _ c.requires.counts.own)
 
 pub member_sum-itself-requires-clause-known : goal.member_sum-itself-requires-clause-known
 member_sum-itself-requires-clause-known c = λ k d lt.
@@ -30,7 +30,7 @@ member_sum-itself-requires-clause-counts c = λ k d lt.
     subst (λ (ms : List (Member ClassId)). HasGoodCount (get_or ms k d)) (sym c.as_slice.ensures) here
 
 pub member_sum-itself-requires-clause-parts : goal.member_sum-itself-requires-clause-parts
-member_sum-itself-requires-clause-parts c = subst (AreWithin 65536) (sym c.deref-2.ensures.value) (capped_within 65536 (parts_of c.args.h.now) _ c.requires.counts.parts)
+member_sum-itself-requires-clause-parts c = subst (AreCapped 65536) (sym c.deref-2.ensures.value) (capped_within 65536 (parts_of c.args.h.now) _ c.requires.counts.parts)
 
 pub base_sum-own_parts-requires-clause-known : goal.base_sum-own_parts-requires-clause-known
 base_sum-own_parts-requires-clause-known c = λ k d lt.
@@ -40,13 +40,13 @@ base_sum-own_parts-requires-clause-known c = λ k d lt.
     omega arith
 
 pub base_sum-own_parts-requires-clause-values : goal.base_sum-own_parts-requires-clause-values
-base_sum-own_parts-requires-clause-values c = subst (AreWithin 65536) (sym c.deref-3.ensures.value) (capped_within 65536 (own_of (parts_weight c.args.h.now) c.args.h.now) _ c.requires.counts.own_parts)
+base_sum-own_parts-requires-clause-values c = subst (AreCapped 65536) (sym c.deref-3.ensures.value) (capped_within 65536 (own_of (parts_weight c.args.h.now) c.args.h.now) _ c.requires.counts.own_parts)
 
 pub shared_sum-all-requires-clause-values : goal.shared_sum-all-requires-clause-values
-shared_sum-all-requires-clause-values c = subst (AreWithin 1024) (sym c.deref-4.ensures.value) (capped_within 1024 (own_of (λ d. 1) c.args.h.now) _ c.requires.counts.own)
+shared_sum-all-requires-clause-values c = subst (AreCapped 1024) (sym c.deref-4.ensures.value) (capped_within 1024 (own_of (λ d. 1) c.args.h.now) _ c.requires.counts.own)
 
 pub shared_sum-parts-requires-clause-values : goal.shared_sum-parts-requires-clause-values
-shared_sum-parts-requires-clause-values c = subst (AreWithin 65536) (sym c.deref-5.ensures.value) (capped_within 65536 (own_of (parts_weight c.args.h.now) c.args.h.now) _ c.requires.counts.own_parts)
+shared_sum-parts-requires-clause-values c = subst (AreCapped 65536) (sym c.deref-5.ensures.value) (capped_within 65536 (own_of (parts_weight c.args.h.now) c.args.h.now) _ c.requires.counts.own_parts)
 
 pub shared_sum-all-requires-clause-with_virtual : goal.shared_sum-all-requires-clause-with_virtual
 shared_sum-all-requires-clause-with_virtual c = λ e v has. no_virtual_bases c.args.h.now c.args.with_virtual.now c.args.c v c.has_virtual_bases-is_one.result c.requires.with_virtual (let a = c.requires.known in let b = c.requires.flags in omega arith) c.has_virtual_bases-is_one.ensures e has
