@@ -14,11 +14,13 @@ use Rattle.cxx_overrider.specs.declared.entries.EntryTable.{EntryTable}
 use Rattle.cxx_overrider.specs.Functions.{Signature}
 use Rattle.cxx_overrider.specs.invariants.Pure.{DeclaresNone}
 use Rattle.cxx_overrider.specs.invariants.Within.{HasVirtualWithin, AreWithin}
-use Rattle.cxx_overrider.specs.invariants.Numbers.{row_of, IsNumbering, IsNumberOf}
+use Rattle.cxx_overrider.specs.invariants.Numbers.{row_of, number_of, IsNumbering, IsNumberOf}
 use Rattle.cxx_overrider.specs.invariants.Entries.{Tells, TellsOf}
 use Rattle.cxx_overrider.specs.invariants.EntryTables.{same_key, entry_of, KeepsBefore}
 use Rattle.cxx_overrider.specs.invariants.Settling.{TellsBefore, IsDone, IsMade, key}
 use Rattle.std.proofs.lemmas.Option.{slice_get_within}
+use Rattle.cxx_overrider.specs.declared.FunctionId.{FunctionId}
+use Rattle.cxx_overrider.proofs.MarkLemmas.{says_number}
 
 same_parts : (a b c d e f : ℕ) → (nat_eq a b && (nat_eq c d && nat_eq e f)) ≡ true → (a ≡ b) × (c ≡ d) × (e ≡ f)
 same_parts a b c d e f k = (eqb-true a b (left (nat_eq a b) (nat_eq c d && nat_eq e f) k), eqb-true c d (left (nat_eq c d) (nat_eq e f) (right (nat_eq a b) (nat_eq c d && nat_eq e f) k)), eqb-true e f (right (nat_eq c d) (nat_eq e f) (right (nat_eq a b) (nat_eq c d && nat_eq e f) k)))
@@ -226,3 +228,10 @@ no_bases h numbers table c (suc k) none made =
 
 pub made_without : (h : Classes) → IsHierarchy h → (numbers : List (List ℕ)) (table : EntryTable) (c : ClassId) → ((v : ClassId) → HasVirtualBase h c v → ⊥) → IsMade h numbers table c.0 0 0 → IsMade h numbers table (c.0 + 1) 0 0
 made_without h keeps numbers table c none made = made_class h keeps numbers table c (no_bases h numbers table c c.0 none made)
+
+-- no class behind a virtual base declares a function of the number: no class that has the base does
+pub none_behind : (h : Classes) → IsHierarchy h → (numbers : List (List ℕ)) (count n : ℕ) (c v : ClassId) (s : Signature) → IsNumbering h numbers count → IsNumberOf h numbers n s → ((f : FunctionId) → number_of numbers f ≡ Some n → f.class.0 ≤ v.0) → TellsOf h c v s None
+none_behind h keeps numbers count n c v s is k all = λ p d.
+    let below = virtual_below h keeps p.function.class v d.has in
+    let above = all p.function (says_number h numbers count n s p.function is k d.same) in
+    omega arith

@@ -2,6 +2,7 @@ pub mod Places
 pub mod Numbers
 pub mod Keys
 pub mod Kinds
+pub mod Lasts
 pub mod Marks
 pub mod Pure
 pub mod Within

@@ -18,6 +18,7 @@ pub mod entries;
 pub mod finding;
 pub mod keys;
 pub mod kinds;
+pub mod lasts;
 pub mod laws;
 pub mod overriding;
 pub mod parts;

@@ -14,6 +14,7 @@ ghost use Rattle.cxx_overrider.specs.invariants.Sites.{numbers_at, IsClassSite, 
 
 use crate::entries::{Entry, EntryTable, key_of};
 use crate::finding::find_entry;
+use crate::lasts::has_none_behind;
 use crate::places::{Place, lifted};
 use crate::signatures::own_function;
 use crate::sites::ClassSite;
@@ -151,6 +152,10 @@ fn settle_number(
     ensures one { IfOk result (λ is_one. MatchBool is_one (IsMadeAt site.now entries.new v.0 (n + 1)) (HasTwoFinalOverriders site.now.h.now site.now.c)) }
     ensures kept { KeepsBefore site.now.c entries.old entries.new }
 {
+    site.h.keeps();
+    if has_none_behind(site.tables, n, v) {
+        return Ok(true);
+    }
     match own_function(&site.tables.numbering.rows, site.c, n) {
         Some(_) => return Ok(true),
         None => {}

@@ -4,6 +4,7 @@ ghost use Rattle.std.specs.Prelude.{IfOk};
 ghost use Rattle.cxx_overrider.specs.invariants.Tables.{AreTables};
 
 use crate::kinds::{KindRow, kind_rows};
+use crate::lasts::last_classes;
 use crate::parts::Signatures;
 use crate::signatures::{NumberRow, Numbering, number_signatures};
 use crate::virtuals::{MarkRow, virtual_rows};
@@ -18,6 +19,8 @@ use std::alloc::Global;
 #[derive(Drop)]
 pub struct Tables {
     pub numbering: Numbering,
+    /// The last class that declares a function of each number.
+    pub lasts: Vec<u32>,
     pub kinds: Vec<KindRow>,
     pub virtuals: Vec<MarkRow>,
     pub pure: Vec<MarkRow>,
@@ -33,6 +36,7 @@ pub fn tables_of(alloc: Global, h: &Hierarchy) -> Result<Tables, NoMemory>
     ensures { IfOk result (AreTables h.now) }
 {
     let numbering = number_signatures(alloc, h)?;
+    let lasts = last_classes(alloc, h, &numbering)?;
     let kinds = kind_rows(alloc, h)?;
     let virtuals = virtual_rows(alloc, h, &numbering)?;
     let signatures = Signatures {
@@ -45,6 +49,7 @@ pub fn tables_of(alloc: Global, h: &Hierarchy) -> Result<Tables, NoMemory>
     let with_virtual = classes_with_virtual_bases(alloc, h)?;
     Ok(Tables {
         numbering,
+        lasts,
         kinds,
         virtuals,
         pure,

@@ -6,6 +6,7 @@ use Rattle.cxx_overrider.specs.declared.tables.Tables.{Tables}
 use Rattle.cxx_overrider.specs.Overriding.{HasVirtual}
 use Rattle.cxx_overrider.specs.invariants.Numbers.{IsNumbering}
 use Rattle.cxx_overrider.specs.invariants.Kinds.{AreKinds}
+use Rattle.cxx_overrider.specs.invariants.Lasts.{AreLasts}
 use Rattle.cxx_overrider.specs.invariants.Marks.{AreMarks}
 use Rattle.cxx_overrider.specs.invariants.Pure.{LeavesPure}
 use Rattle.cxx_overrider.specs.invariants.Within.{AreWithin}
@@ -13,6 +14,7 @@ use Rattle.cxx_overrider.specs.invariants.Within.{AreWithin}
 -- the tables are those of the hierarchy
 pub record AreTables (h : Classes) (tables : Tables) : Type 0 where
   pub numbering : IsNumbering h tables.numbering.rows.items tables.numbering.count
+  pub lasts : AreLasts tables.numbering.rows.items tables.lasts.items
   pub kinds : AreKinds h tables.kinds.items
   pub all_kinds : length tables.kinds.items ≡ length h
   pub virtuals : AreMarks h tables.numbering.rows.items (HasVirtual h) tables.virtuals.items

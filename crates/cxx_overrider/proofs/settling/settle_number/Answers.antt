@@ -5,10 +5,20 @@ use Rattle.cxx_overrider.specs.declared.settling.Settled.{Settled}
 use Rattle.cxx_overrider.specs.invariants.Numbers.{number_of, IsNumberOf}
 use Rattle.cxx_overrider.specs.invariants.EntryTables.{same_key, entry_of}
 use Rattle.cxx_overrider.specs.invariants.Settling.{IsSettled}
-use Rattle.cxx_overrider.proofs.Made.{made_tells, made_skip, made_put, keeps_all, keeps_put}
+use Rattle.cxx_overrider.proofs.Made.{none_behind, made_tells, made_skip, made_put, keeps_all, keeps_put}
 use Rattle.cxx_overrider.proofs.MarkLemmas.{number_says}
 use Rattle.cxx_overrider.proofs.WithinLemmas.{within_virtual}
 use Rattle.cxx_overrider.proofs.settling.settle_number.Goals as goal
+
+pub returns-then-has_none_behind-clause-one : goal.returns-then-has_none_behind-clause-one
+returns-then-has_none_behind-clause-one c =
+    let h = c.args.site.now.h.now in
+    let tables = c.args.site.now.tables.now in
+    made_skip h tables.numbering.rows.items c.args.entries.now c.args.site.now.c c.args.v c.args.n c.requires.made
+    (λ s k has own. none_behind h c.keeps.ensures tables.numbering.rows.items tables.numbering.count c.args.n c.args.site.now.c c.args.v s c.requires.site.tables.numbering k (λ f e. c.has_none_behind.ensures c.if-has_none_behind.true f c.requires.site.tables.lasts e))
+
+pub returns-then-has_none_behind-clause-kept : goal.returns-then-has_none_behind-clause-kept
+returns-then-has_none_behind-clause-kept c = keeps_all c.args.site.now.c c.args.entries.now
 
 pub returns-in-Some-clause-one : goal.returns-in-Some-clause-one
 returns-in-Some-clause-one c =
