@@ -5,7 +5,7 @@ use Rattle.foundation.proofs.Members.{Has, EachOnce, contains_from_has, has_from
 use Rattle.foundation.proofs.Chosen.{has_filter, filter_has}
 use Rattle.abi_dyncast.specs.declared.parts.Part.{Part}
 use Rattle.abi_dyncast.specs.declared.work.Entry.{Entry}
-use Rattle.abi_dyncast.specs.Rule.{IsOnlyOne}
+use Rattle.foundation.specs.Only.{IsOnly}
 use Rattle.abi_dyncast.specs.invariants.Chain.{IsEachOnce}
 use Rattle.abi_dyncast.specs.invariants.Deciding.{only_of}
 use Rattle.abi_dyncast.proofs.OnceLists.{each_once, once_chosen}
@@ -22,10 +22,10 @@ chosen entries test e h t = filter_has test entries e (has_from_contains entries
 from_chosen : (entries : List Entry) (test : Entry → Bool) (e : Entry) → Has (filter test entries) e → Contains entries e × (test e ≡ true)
 from_chosen entries test e h = let r = has_filter test entries e h in (contains_from_has entries e r.0, r.1)
 
-pub found_only : (entries : List Entry) (test : Entry → Bool) (Q : Part → Type 0) (x : Entry) → Matches entries test Q → only_of (filter test entries) ≡ Some x → Contains entries x × IsOnlyOne Q x.part
+pub found_only : (entries : List Entry) (test : Entry → Bool) (Q : Part → Type 0) (x : Entry) → Matches entries test Q → only_of (filter test entries) ≡ Some x → Contains entries x × IsOnly Q x.part
 found_only entries test Q x m e = by_list (filter test entries) refl e
   where
-    by_list : (xs : List Entry) → filter test entries ≡ xs → only_of xs ≡ Some x → Contains entries x × IsOnlyOne Q x.part
+    by_list : (xs : List Entry) → filter test entries ≡ xs → only_of xs ≡ Some x → Contains entries x × IsOnly Q x.part
     by_list [] is e = absurd (cc)
     by_list (y ∷ []) is e =
         let same : y ≡ x = cc in
@@ -41,7 +41,7 @@ found_only entries test Q x m e = by_list (filter test entries) refl e
         )
     by_list (y ∷ z ∷ xs) is e = absurd (cc)
 
-pub found_none : (entries : List Entry) (test : Entry → Bool) (Q : Part → Type 0) → IsEachOnce entries → Matches entries test Q → only_of (filter test entries) ≡ None → (part : Part) → IsOnlyOne Q part → ⊥
+pub found_none : (entries : List Entry) (test : Entry → Bool) (Q : Part → Type 0) → IsEachOnce entries → Matches entries test Q → only_of (filter test entries) ≡ None → (part : Part) → IsOnly Q part → ⊥
 found_none entries test Q once m e part only = by_list (filter test entries) refl e (once_chosen part_in test entries (each_once part_in entries once))
   where
     by_list : (xs : List Entry) → filter test entries ≡ xs → only_of xs ≡ None → EachOnce (map part_in (filter test entries)) → ⊥

@@ -11,7 +11,8 @@ use Rattle.byte_code.specs.declared.image.BaseRecord.{BaseRecord}
 use Rattle.abi_dyncast.specs.declared.parts.Part.{Part}
 use Rattle.abi_dyncast.specs.declared.parts.Edge.{Edge}
 use Rattle.abi_dyncast.specs.Rule.{AnswersCast}
-use Rattle.abi_dyncast.specs.Graph.{Graph, graph_of, word_in, loaded_or_zero, pointer_at, moved_address, info_at, base_record_at, has_virtual_flag, offset_word, vbase_at, edge_by, record_at, base_record, any_edge, LeadsByEdges, stays, steps, LeadsToSome}
+use Rattle.abi_dyncast.specs.Graph.{moved}
+use Rattle.abi_dyncast.specs.Graph.{Graph, graph_of, word_in, loaded_or_zero, pointer_at, info_at, base_record_at, has_virtual_flag, offset_word, vbase_at, edge_by, record_at, base_record, any_edge, LeadsByEdges, stays, steps, LeadsToSome}
 use Rattle.abi_dyncast.specs.Casts.{CanStep, CanReadParts, AreClosedParts, CanWalk, IsPartAtAddress, IsTargetPart, parts_below, view_at_address, CastsTo, CanCast, KeepsReads}
 use Rattle.abi_dyncast.proofs.Ways.{leads_inside}
 use Rattle.abi_dyncast.proofs.Transfer.{Corresponds, made, transfer}
@@ -143,10 +144,10 @@ table_kept image other words at t = record {
 -- an edge is the same where its base is not virtual, and where pointer and word are
 edge_kept : (image other : ℕ → Option ℕ) (memory next : Store) (at : ℕ) (base : BaseRecord) → (has_virtual_flag base ≡ true → pointer_at next at ≡ pointer_at memory at) → (has_virtual_flag base ≡ true → other (vbase_at memory at base) ≡ image (vbase_at memory at base)) → edge_by other next at base ≡ edge_by image memory at base
 edge_kept image other memory next at base pointer word =
-    let make : Bool → ℕ → ℕ → Edge = λ is_public d info. record { part = record { at = moved_address at d; info = info }; is_public = is_public } in
+    let make : Bool → ℕ → ℕ → Edge = λ is_public d info. record { part = record { at = moved at d; info = info }; is_public = is_public } in
     let far : (if has_virtual_flag base then word_in (other (vbase_at next at base)) else offset_word base) ≡ (if has_virtual_flag base then word_in (image (vbase_at memory at base)) else offset_word base) =
     split (has_virtual_flag base) (λ b. (if b then word_in (other (vbase_at next at base)) else offset_word base) ≡ (if b then word_in (image (vbase_at memory at base)) else offset_word base))
-    (λ t. ap (λ p. word_in (other (moved_address p (offset_word base)))) (pointer t) ∙ ap word_in (word t))
+    (λ t. ap (λ p. word_in (other (moved p (offset_word base)))) (pointer t) ∙ ap word_in (word t))
     (λ f. refl) in
     ap (λ d. make (edge_by image memory at base).is_public d base.info) far
 
@@ -177,11 +178,11 @@ step_kept image other memory next part i words load info s =
       pointer = λ v. subst (λ (r : Result ℕ MemoryFault). IsOk r) (sym load) (s.pointer (ap has_virtual_flag (sym base) ∙ v));
       word = λ v.
           let old : has_virtual_flag (base_record image part i) ≡ true = ap has_virtual_flag (sym base) ∙ v in
-          let where_is : vbase_at next part.at (base_record other part i) ≡ vbase_at memory part.at (base_record image part i) = ap (λ b. vbase_at next part.at b) base ∙ ap (λ r. moved_address (loaded_or_zero r) (offset_word (base_record image part i))) load in
+          let where_is : vbase_at next part.at (base_record other part i) ≡ vbase_at memory part.at (base_record image part i) = ap (λ b. vbase_at next part.at b) base ∙ ap (λ r. moved (loaded_or_zero r) (offset_word (base_record image part i))) load in
           subst (λ o. IsSome o) (sym (ap other where_is ∙ kept image other words (vbase_at memory part.at (base_record image part i)) (s.word old))) (s.word old);
       table = λ v.
           let old : has_virtual_flag (base_record image part i) ≡ true = ap has_virtual_flag (sym base) ∙ v in
-          let where_is : vbase_at next part.at (base_record other part i) ≡ vbase_at memory part.at (base_record image part i) = ap (λ b. vbase_at next part.at b) base ∙ ap (λ r. moved_address (loaded_or_zero r) (offset_word (base_record image part i))) load in
+          let where_is : vbase_at next part.at (base_record other part i) ≡ vbase_at memory part.at (base_record image part i) = ap (λ b. vbase_at next part.at b) base ∙ ap (λ r. moved (loaded_or_zero r) (offset_word (base_record image part i))) load in
           subst (λ n. IsTableWord other n) (sym where_is) (table_kept image other words (vbase_at memory part.at (base_record image part i)) (s.table old));
     }
 
@@ -196,7 +197,7 @@ read_kept image other memory next parts read keeps = record {
 
 view_kept : (image other : ℕ → Option ℕ) (memory next : Store) (at : ℕ) → ((at word : ℕ) → image at ≡ Some word → other at ≡ Some word) → load_of next at 8 ≡ load_of memory at 8 → IsSome (image (pointer_at memory at - 16)) → IsSome (image (pointer_at memory at - 8)) → view_at_address other next at ≡ view_at_address image memory at
 view_kept image other memory next at words load top info =
-    let make : ℕ → ℕ → Part = λ x y. record { at = moved_address at x; info = y } in
+    let make : ℕ → ℕ → Part = λ x y. record { at = moved at x; info = y } in
     let pointer : pointer_at next at ≡ pointer_at memory at = ap loaded_or_zero load in
     let a : word_in (other (pointer_at next at - 16)) ≡ word_in (image (pointer_at memory at - 16)) = ap (λ p. word_in (other (p - 16))) pointer ∙ ap word_in (kept image other words (pointer_at memory at - 16) top) in
     let b : word_in (other (pointer_at next at - 8)) ≡ word_in (image (pointer_at memory at - 8)) = ap (λ p. word_in (other (p - 8))) pointer ∙ ap word_in (kept image other words (pointer_at memory at - 8) info) in

@@ -9,7 +9,8 @@ use Rattle.abi_dyncast.specs.declared.work.Goal.{Goal}
 use Rattle.abi_dyncast.specs.declared.work.Found.{Found}
 use Rattle.abi_dyncast.specs.declared.work.Entry.{Entry}
 use Rattle.abi_dyncast.specs.Rule.{Parts, IsOver, IsDown, AnswersCast, down, across, nowhere}
-use Rattle.abi_dyncast.specs.Graph.{Graph, graph_of, word_in, pointer_at, moved_address, any_edge, public_edge, LeadsByEdges, LeadsToSome}
+use Rattle.abi_dyncast.specs.Graph.{moved}
+use Rattle.abi_dyncast.specs.Graph.{Graph, graph_of, word_in, pointer_at, any_edge, public_edge, LeadsByEdges, LeadsToSome}
 use Rattle.abi_dyncast.specs.Casts.{IsPartAtAddress, IsTargetPart, parts_below, view_at_address, found_address, CastsTo}
 use Rattle.abi_dyncast.specs.invariants.Chain.{IsMet, IsEachOnce}
 use Rattle.abi_dyncast.specs.invariants.Finding.{IsOfTarget, TellsBelow}
@@ -100,12 +101,12 @@ decides g goal view found entries w = by_over (only_candidate entries goal.targe
         (only_candidate entries goal.target false) refl)
 
 -- the view as the code reads it
-pub view_is : (image : ℕ → Option ℕ) (memory : Store) (at point before top to behind info : ℕ) → point ≡ pointer_at memory at → before ≡ point - 16 → top ≡ word_in (image before) → to ≡ moved_address at top → behind ≡ point - 8 → info ≡ word_in (image behind) → record { at = to; info = info } ≡ view_at_address image memory at
+pub view_is : (image : ℕ → Option ℕ) (memory : Store) (at point before top to behind info : ℕ) → point ≡ pointer_at memory at → before ≡ point - 16 → top ≡ word_in (image before) → to ≡ moved at top → behind ≡ point - 8 → info ≡ word_in (image behind) → record { at = to; info = info } ≡ view_at_address image memory at
 view_is image memory at point before top to behind info a b c d e f =
     let make : ℕ → ℕ → Part = λ x y. record { at = x; info = y } in
     let top_is : top ≡ word_in (image (pointer_at memory at - 16)) = c ∙ ap (λ k. word_in (image k)) (b ∙ ap (λ p. p - 16) a) in
     let info_is : info ≡ word_in (image (pointer_at memory at - 8)) = f ∙ ap (λ k. word_in (image k)) (e ∙ ap (λ p. p - 8) a) in
-    let end : make to info ≡ view_at_address image memory at = ap (λ x. make x info) (d ∙ ap (moved_address at) top_is) ∙ ap (make (moved_address at (word_in (image (pointer_at memory at - 16))))) info_is in
+    let end : make to info ≡ view_at_address image memory at = ap (λ x. make x info) (d ∙ ap (moved at) top_is) ∙ ap (make (moved at (word_in (image (pointer_at memory at - 16))))) info_is in
     end
 
 -- the answer of the code

@@ -12,7 +12,8 @@ use Rattle.byte_code.specs.Records.{IsInfoAt, HasBaseRecord, IsTableWord}
 use Rattle.abi_dyncast.specs.declared.parts.Part.{Part}
 use Rattle.abi_dyncast.specs.declared.work.WorkList.{WorkList}
 use Rattle.abi_dyncast.specs.Rule.{Parts, AnswersCast}
-use Rattle.abi_dyncast.specs.Graph.{Graph, graph_of, word_in, pointer_at, moved_address, info_at, record_at, base_record, has_virtual_flag, vbase_at, any_edge, public_edge, LeadsByEdges, LeadsToSome}
+use Rattle.abi_dyncast.specs.Graph.{moved}
+use Rattle.abi_dyncast.specs.Graph.{Graph, graph_of, word_in, pointer_at, info_at, record_at, base_record, has_virtual_flag, vbase_at, any_edge, public_edge, LeadsByEdges, LeadsToSome}
 
 -- for how many parts a work list was reserved
 abbrev pub room : WorkList → ℕ
@@ -72,7 +73,7 @@ parts_below g view at class target = record {
 -- the view of what stands at an address, by its virtual pointer: the word 16 bytes before the address point says where it lies, and
 -- the word 8 bytes before is its type information
 abbrev pub view_at_address : (ℕ → Option ℕ) → Store → ℕ → Part
-view_at_address image memory at = record { at = moved_address at (word_in (image (pointer_at memory at - 16))); info = word_in (image (pointer_at memory at - 8)) }
+view_at_address image memory at = record { at = moved at (word_in (image (pointer_at memory at - 16))); info = word_in (image (pointer_at memory at - 8)) }
 
 abbrev pub found_address : Option Part → Option ℕ
 found_address None = None

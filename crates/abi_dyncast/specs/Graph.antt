@@ -28,9 +28,9 @@ loaded_or_zero (Err fault) = 0
 abbrev pub pointer_at : Store → ℕ → ℕ
 pointer_at memory at = loaded_or_zero (load_of memory at 8)
 
--- an address moved by the word of a distance, as addresses wrap
-abbrev pub moved_address : ℕ → ℕ → ℕ
-moved_address at word = (at + word) % 2 ^ 64
+-- an address, or a word, moved by another; addresses wrap at 2 ^ 64
+abbrev pub moved : ℕ → ℕ → ℕ
+moved at by = (at + by) % 2 ^ 64
 
 -- the type information at an address: the number of the class, its flags, how many bases it has, and where the first one stands
 abbrev pub info_at : (ℕ → Option ℕ) → ℕ → InfoRecord
@@ -54,14 +54,14 @@ offset_word base = word_of (int_div_euclid base.offset_flags (pos 256))
 
 -- where the word of a virtual base stands, for a part at an address
 abbrev pub vbase_at : Store → ℕ → BaseRecord → ℕ
-vbase_at memory at base = moved_address (pointer_at memory at) (offset_word base)
+vbase_at memory at base = moved (pointer_at memory at) (offset_word base)
 
 -- how far a base lies from the part at an address, as a word
 abbrev pub distance_word : (ℕ → Option ℕ) → Store → ℕ → BaseRecord → ℕ
 distance_word image memory at base = if has_virtual_flag base then word_in (image (vbase_at memory at base)) else offset_word base
 
 abbrev pub edge_by : (ℕ → Option ℕ) → Store → ℕ → BaseRecord → Edge
-edge_by image memory at base = record { part = record { at = moved_address at (distance_word image memory at base); info = base.info }; is_public = is_public base }
+edge_by image memory at base = record { part = record { at = moved at (distance_word image memory at base); info = base.info }; is_public = is_public base }
 
 -- where the record of the i-th base of the class of a part stands
 abbrev pub record_at : (ℕ → Option ℕ) → Part → ℕ → ℕ

@@ -1,5 +1,6 @@
 -- The rule of a dynamic_cast, over any kind of parts (ISO C++03 5.2.7 p8).
-use Rattle.std.specs.Prelude.{◌≡◌, Option, Some, None}
+use Rattle.std.specs.Prelude.{Option, Some, None}
+use Rattle.foundation.specs.Only.{IsOnly}
 
 -- what the rule asks of the parts of a view, for one source and one target class: whether a part is of the target class; whether
 -- the source lies in it, and as a public base of it; whether the source is a public base of the view, and whether a part is
@@ -10,11 +11,6 @@ pub record Parts (P : Type 0) : Type 1 where
   pub is_seen : Type 0
   pub is_reached : P → Type 0
 
--- the one of which something holds
-pub record IsOnlyOne {P : Type 0} (Q : P → Type 0) (p : P) : Type 0 where
-  pub is : Q p
-  pub only : (other : P) → Q other → other ≡ p
-
 -- a part of the target class in which the source lies
 pub record IsOver {P : Type 0} (s : Parts P) (p : P) : Type 0 where
   pub target : s.is_target p
@@ -22,13 +18,13 @@ pub record IsOver {P : Type 0} (s : Parts P) (p : P) : Type 0 where
 
 -- down: exactly one part of the target class contains the source, and the source is a public base of it
 pub record IsDown {P : Type 0} (s : Parts P) (p : P) : Type 0 where
-  pub over : IsOnlyOne (IsOver s) p
+  pub over : IsOnly (IsOver s) p
   pub source : s.is_above p
 
 -- across: the source is a public base of the view, the view has exactly one part of the target class, and that is a public base too
 pub record IsAcross {P : Type 0} (s : Parts P) (p : P) : Type 0 where
   pub source : s.is_seen
-  pub target : IsOnlyOne s.is_target p
+  pub target : IsOnly s.is_target p
   pub reached : s.is_reached p
 
 -- the answer of a cast: where it leads down, else where it leads across, and none where it does neither

@@ -5,7 +5,8 @@ ghost use Rattle.byte_memory.specs.Store.{Store};
 ghost use Rattle.byte_code.specs.Images.{word_at};
 ghost use Rattle.byte_code.specs.Readers.{image_of, visits_of, raised};
 ghost use Rattle.byte_code.specs.Records.{IsTableWord};
-ghost use Rattle.abi_dyncast.specs.Graph.{graph_of, word_in, pointer_at, moved_address, info_at, has_virtual_flag, is_public, offset_word, distance_word, vbase_at, edge_by};
+ghost use Rattle.abi_dyncast.specs.Graph.{moved};
+ghost use Rattle.abi_dyncast.specs.Graph.{graph_of, word_in, pointer_at, info_at, has_virtual_flag, is_public, offset_word, distance_word, vbase_at, edge_by};
 ghost use Rattle.abi_dyncast.specs.Casts.{CanStep};
 
 use byte_code::{BaseReader, BaseRecord, ImageBytes, InfoRecord};
@@ -56,7 +57,7 @@ pub(crate) fn table_word(reader: &BaseReader<'_>, at: u64) -> u64
 
 /// An address moved by the word of a distance, as addresses wrap.
 pub(crate) fn moved(at: u64, word: u64) -> u64
-    ensures { result ≡ moved_address at word }
+    ensures { result ≡ moved at word }
 {
     at.wrapping_add(word)
 }

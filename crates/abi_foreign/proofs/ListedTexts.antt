@@ -18,9 +18,9 @@ use Rattle.cxx_subobject.specs.Preorder.{preorder, ListsSubobjects}
 use Rattle.cxx_subobject.proofs.TreeLemmas.{subobject_same, same_itself}
 use Rattle.abi_sound.specs.declared.class_layout.ClassLayout.{ClassLayout}
 use Rattle.abi_sound.specs.declared.class_layout.Bits.{Bits}
-use Rattle.abi_sound.specs.Places.{place_or_zero, nth_place, member_places_in, member_bits_in, first_bit_in, first_bit}
+use Rattle.abi_sound.specs.Places.{place_or_zero, nth_place, member_places_in, member_bits_in, first_bit_in, first_bit, member_place}
 use Rattle.abi_print.specs.Texts.{PlaceOf}
-use Rattle.abi_print.specs.LayoutTexts.{declared_class_name, subobject_text, primary_text, class_text, row_text, base_text, field_text, field_in, fields_text, proper, layout_text, printed_member_place}
+use Rattle.abi_print.specs.LayoutTexts.{declared_class_name, subobject_text, primary_text, class_text, row_text, base_text, field_text, field_in, fields_text, proper, layout_text}
 use Rattle.abi_foreign.specs.declared.said.MemberPlace.{MemberPlace}
 use Rattle.abi_foreign.specs.declared.said.ClassSaid.{ClassSaid}
 use Rattle.abi_foreign.specs.Lines.{most_number, class_by_number, IsWritable}
@@ -76,7 +76,7 @@ small_front (member ∷ members) (p ∷ places) (suc n) small = (small.0, small_
 
 -- the lines of the first members, by what is known of the place of each
 pub members_alike : (h : Classes) (rows : List ClassLayout) (c : ClassId) (ats : List MemberPlace) → AreSmallPlaces (members_of h c) ats →
-    ((m : ℕ) (at : MemberPlace) → slice_get ats m ≡ Some at → (printed_member_place rows c m ≡ at.place) × (first_bit rows c m ≡ at.first)) →
+    ((m : ℕ) (at : MemberPlace) → slice_get ats m ≡ Some at → (member_place rows c m ≡ at.place) × (first_bit rows c m ≡ at.first)) →
     (n : ℕ) → n ≤ length (members_of h c) → fields_text h rows c n ≡ members_text h (take n (members_of h c)) (take n ats)
 members_alike h rows c ats small known zero within = refl
 members_alike h rows c ats small known (suc n) within =
@@ -89,8 +89,8 @@ members_alike h rows c ats small known (suc n) within =
     ap (λ (k : ℕ). take k (members_of h c)) (sym step) ∙ take_next (members_of h c) n member.0 (omega arith) (sym (get_or_from_slice_get (members_of h c) n member.0 member.0 member.1)) in
     let places : take (suc n) ats ≡ take n ats ++ at.0 ∷ [] =
     ap (λ (k : ℕ). take k ats) (sym step) ∙ take_next ats n at.0 (omega arith) (sym (get_or_from_slice_get ats n at.0 at.0 at.1)) in
-    ap (λ (text : List ℕ). text ++ field_in h (printed_member_place rows c n) (first_bit rows c n) (slice_get (members_of h c) n)) (members_alike h rows c ats small known n (omega arith))
-    ∙ ap (λ (one : Option (Member ClassId)). members_text h (take n (members_of h c)) (take n ats) ++ field_in h (printed_member_place rows c n) (first_bit rows c n) one) member.1
+    ap (λ (text : List ℕ). text ++ field_in h (member_place rows c n) (first_bit rows c n) (slice_get (members_of h c) n)) (members_alike h rows c ats small known n (omega arith))
+    ∙ ap (λ (one : Option (Member ClassId)). members_text h (take n (members_of h c)) (take n ats) ++ field_in h (member_place rows c n) (first_bit rows c n) one) member.1
     ∙ ap (λ (k : ℕ). members_text h (take n (members_of h c)) (take n ats) ++ field_text h k (first_bit rows c n) member.0) both.0
     ∙ ap (λ (k : ℕ). members_text h (take n (members_of h c)) (take n ats) ++ field_text h at.0.place k member.0) both.1
     ∙ sym (members_more h (take n (members_of h c)) member.0 (take n ats) at.0 (small_front (members_of h c) ats n small))
@@ -99,7 +99,7 @@ members_alike h rows c ats small known (suc n) within =
 
 -- those of all members
 pub all_members : (h : Classes) (rows : List ClassLayout) (c : ClassId) (ats : List MemberPlace) → AreSmallPlaces (members_of h c) ats →
-    ((m : ℕ) (at : MemberPlace) → slice_get ats m ≡ Some at → (printed_member_place rows c m ≡ at.place) × (first_bit rows c m ≡ at.first)) →
+    ((m : ℕ) (at : MemberPlace) → slice_get ats m ≡ Some at → (member_place rows c m ≡ at.place) × (first_bit rows c m ≡ at.first)) →
     fields_text h rows c (length (members_of h c)) ≡ members_text h (members_of h c) ats
 all_members h rows c ats small known =
     let count = places_length (members_of h c) ats small in
@@ -109,7 +109,7 @@ all_members h rows c ats small known =
 
 -- the places of members in the row of a class that its lines say
 exact_known : (h : Classes) (saids : List ClassSaid) (rows : List ClassLayout) (c : ClassId) (said : ClassSaid) → slice_get rows c.0 ≡ Some (exact_row h saids (primaries_of saids) c said) → AreSmallPlaces (members_of h c) said.members →
-    (m : ℕ) (at : MemberPlace) → slice_get said.members m ≡ Some at → (printed_member_place rows c m ≡ at.place) × (first_bit rows c m ≡ at.first)
+    (m : ℕ) (at : MemberPlace) → slice_get said.members m ≡ Some at → (member_place rows c m ≡ at.place) × (first_bit rows c m ≡ at.first)
 exact_known h saids rows c said row small m at e = (
   ap (λ (one : Option ClassLayout). place_or_zero (slice_get (member_places_in one) m)) row ∙ ap place_or_zero (mapped_at (λ (p : MemberPlace). p.place) said.members m at e),
   ap (λ (one : Option ClassLayout). first_bit_in (slice_get (member_bits_in one) m)) row ∙ exact_first saids (members_of h c) said.members m at small e,

@@ -8,7 +8,7 @@ use Rattle.foundation.proofs.Chosen.{has_filter}
 use Rattle.foundation.proofs.Truth.{split}
 use Rattle.cxx_hierarchy.specs.declared.records.ClassId.{ClassId}
 use Rattle.cxx_hierarchy.specs.declared.records.ValueType.{ValueType}
-use Rattle.cxx_hierarchy.specs.Classes.{Classes, width_of_member}
+use Rattle.cxx_hierarchy.specs.Classes.{Classes, width_of_member, element_type}
 use Rattle.cxx_hierarchy.specs.Hierarchies.{IsHierarchy}
 use Rattle.abi_sound.specs.declared.class_layout.ClassLayout.{ClassLayout}
 use Rattle.abi_sound.specs.Places.{Places, places_of}
@@ -16,7 +16,7 @@ use Rattle.abi_sound.specs.Locations.{bits_of_value}
 use Rattle.abi_sound.specs.Sound.{IsSoundLayout}
 use Rattle.text_told.specs.declared.items.Item.{Item}
 use Rattle.text_told.specs.declared.pointers.TablePointer.{TablePointer}
-use Rattle.text_told.specs.Fields.{member_at, value_type}
+use Rattle.text_told.specs.Fields.{member_at}
 use Rattle.text_told.specs.Pointers.{pointers_of}
 use Rattle.text_told.specs.Dumps.{pointer_item}
 use Rattle.text_told.proofs.Leading.{few_touched}
@@ -74,7 +74,7 @@ slots_lie h rows keeps sound c known slot has = ⊎_elim from_pointer from_leaf 
     from_leaf at =
         let f = from_map (leaf_slot h) (leaf_rows h l c) slot at in
         let row = f.0 in
-        subst (LiesIn (l.size c)) f.2 (leaf_lies (l.size c) row (width_of_member h row.class row.number) (value_type (member_at h (Some row.class) row.number)) (row_inside h rows keeps sound (c.0 + 1) c row known f.1)
+        subst (LiesIn (l.size c)) f.2 (leaf_lies (l.size c) row (width_of_member h row.class row.number) (element_type (member_at h (Some row.class) row.number)) (row_inside h rows keeps sound (c.0 + 1) c row known f.1)
         (row_starts h rows sound (c.0 + 1) c row known f.1))
 
 pub from_by_place : (size : ℕ) (slots : List Slot) (slot : Slot) → Has (slots_by_place size slots) slot → Has slots slot

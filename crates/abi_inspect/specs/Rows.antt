@@ -4,11 +4,11 @@ use Rattle.std.specs.List.{flat_map, range_with_len}
 use Rattle.std.specs.Fmt.{decimal}
 use Rattle.cxx_hierarchy.specs.declared.records.ClassId.{ClassId}
 use Rattle.cxx_hierarchy.specs.declared.records.ValueType.{ValueType}
-use Rattle.cxx_hierarchy.specs.Classes.{Classes, width_of_member}
+use Rattle.cxx_hierarchy.specs.Classes.{Classes, width_of_member, element_type}
 use Rattle.abi_sound.specs.Places.{Places}
 use Rattle.abi_sound.specs.Locations.{bits_of_value}
 use Rattle.text_told.specs.declared.items.Item.{Item}
-use Rattle.text_told.specs.Fields.{member_at, value_type}
+use Rattle.text_told.specs.Fields.{member_at}
 use Rattle.text_told.specs.Pointers.{pointers_of}
 use Rattle.text_told.specs.Dumps.{bytes_touched, pointer_item}
 use Rattle.text_bytes.specs.declared.rows.LeafRow.{LeafRow}
@@ -34,7 +34,7 @@ typed_leaf_slot row width (Some type) = record {
 }
 
 abbrev pub leaf_slot : Classes → LeafRow → Slot
-leaf_slot h row = typed_leaf_slot row (width_of_member h row.class row.number) (value_type (member_at h (Some row.class) row.number))
+leaf_slot h row = typed_leaf_slot row (width_of_member h row.class row.number) (element_type (member_at h (Some row.class) row.number))
 
 -- the virtual pointers and leaves of an object of class c (Itanium C++ ABI 2.4, 2.5)
 abbrev pub slots_of : Classes → Places → ClassId → List Slot

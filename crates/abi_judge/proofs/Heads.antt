@@ -19,7 +19,7 @@ use Rattle.cxx_subobject.proofs.TreeLemmas.{has_preorder}
 use Rattle.abi_primary.specs.declared.Primary.{Primary}
 use Rattle.abi_primary.specs.declared.Primary.TheVariants.{None as NoPrimary, Direct, Virtual}
 use Rattle.abi_primary.specs.Kinds.{IsDynamic, shares, inherits}
-use Rattle.abi_primary.specs.PrimaryBase.{is_virtual_primary}
+use Rattle.abi_primary.specs.PrimaryBase.{is_virtual_primary, is_direct_primary}
 use Rattle.abi_sound.specs.Places.{Places}
 use Rattle.abi_sound.specs.Locations.{place_along_hops, element_class}
 use Rattle.abi_sound.specs.Chains.{primary_part, but_last, kept_above, IsInChain, itself, further, ShareChain, downwards, upwards, in_element, above}
@@ -31,7 +31,7 @@ use Rattle.std.proofs.lemmas.Bool.{eqb-true}
 use Rattle.foundation.proofs.Chosen.{find_passes}
 use Rattle.cxx_subobject.proofs.PathLemmas.{same_id}
 use Rattle.abi_judge.specs.Rules.{HasFirstHolders, KeepsPrimary, KeepsPlace}
-use Rattle.abi_judge.specs.invariants.Things.{is_direct_primary, is_none, is_top}
+use Rattle.abi_judge.specs.invariants.Things.{is_none, is_top}
 use Rattle.abi_judge.proofs.WayLemmas.{LeadsToObject, at_start, through}
 
 -- the first two rules are kept by all classes up to one

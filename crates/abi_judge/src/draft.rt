@@ -6,7 +6,8 @@ ghost use Rattle.std.specs.Option.{option_copied};
 ghost use Rattle.cxx_subobject.specs.Subobjects.{IsSubobject, class_of};
 ghost use Rattle.abi_sound.specs.Places.{direct_base_place, nth_holder, place_along, place_from, place_in_class, places_of, primary_in, root_place, virtual_place, member_place, first_bit};
 ghost use Rattle.abi_judge.specs.Rules.{HasFirstHolders};
-ghost use Rattle.abi_judge.specs.invariants.Things.{setting_of, align_of, is_direct_primary, is_top, part_thing};
+ghost use Rattle.abi_primary.specs.PrimaryBase.{is_direct_primary};
+ghost use Rattle.abi_judge.specs.invariants.Things.{setting_of, align_of, is_top, part_thing};
 ghost use Rattle.abi_judge.specs.invariants.Drafts.{AreDraftRows};
 
 use crate::things::PlacedPart;

@@ -1,14 +1,15 @@
 -- Which subobjects of a class hold its virtual bases (Itanium C++ ABI 2.4, II.1).
-use Rattle.std.specs.Prelude.{◌≡◌, ℕ, ◌<◌, Bool, false, nat_lt, if◌then◌else◌, ◌&&◌, Option, Some, None, List, length, get_or, slice_get, slice_set, position}
+use Rattle.std.specs.Prelude.{◌≡◌, ℕ, ◌<◌, Bool, nat_lt, if◌then◌else◌, ◌&&◌, Option, Some, None, List, length, get_or, slice_get, slice_set, position}
 use Rattle.std.specs.Option.{is_none}
 use Rattle.cxx_hierarchy.specs.declared.records.ClassId.{ClassId}
 use Rattle.cxx_hierarchy.specs.Classes.{Classes}
 use Rattle.cxx_subobject.specs.declared.Subobject.{Subobject}
-use Rattle.cxx_subobject.specs.Subobjects.{same_subobject, class_of}
+use Rattle.cxx_subobject.specs.Subobjects.{class_of}
 use Rattle.abi_primary.specs.declared.Primary.{Primary}
 use Rattle.abi_primary.specs.declared.Primary.TheVariants.{None as NoPrimary, Direct, Virtual}
 use Rattle.abi_primary.specs.PrimaryBase.{has_primary}
 use Rattle.abi_primary.specs.Holder.{holder_of}
+use Rattle.abi_sound.specs.Chains.{is_subobject_in}
 
 abbrev pub virtual_in : Option Primary → Option ClassId
 virtual_in None = None
@@ -20,13 +21,9 @@ virtual_in (Some (Virtual v)) = Some v
 abbrev pub virtual_primary_base : List Primary → ClassId → Option ClassId
 virtual_primary_base primaries d = virtual_in (slice_get primaries d.0)
 
-abbrev pub is_holder : Option Subobject → Subobject → Bool
-is_holder None s = false
-is_holder (Some t) s = same_subobject t s
-
 -- the subobject s of an object of class c holds the virtual base v
 abbrev pub holds_base : Classes → List Primary → ClassId → Subobject → ClassId → Bool
-holds_base h primaries c s v = is_holder (holder_of h primaries c v) s
+holds_base h primaries c s v = is_subobject_in (holder_of h primaries c v) s
 
 abbrev pub kept_if : (ClassId → Bool) → Option ClassId → Option ClassId
 kept_if test None = None

@@ -8,7 +8,7 @@ use Rattle.cxx_hierarchy.specs.declared.records.ValueType.{ValueType}
 use Rattle.cxx_hierarchy.specs.declared.records.ValueType.TheVariants.{Number as NumberType, Pointer as PointerType}
 use Rattle.cxx_hierarchy.specs.declared.records.FieldType.{FieldType}
 use Rattle.cxx_hierarchy.specs.declared.records.FieldType.TheVariants.{Value as ValueField, Object}
-use Rattle.cxx_hierarchy.specs.Classes.{Classes, members_of}
+use Rattle.cxx_hierarchy.specs.Classes.{Classes, members_of, element_value_type, element_type}
 use Rattle.cxx_hierarchy.specs.Declarations.{elements_of}
 use Rattle.cxx_hierarchy.specs.Hierarchies.{IsHierarchy}
 use Rattle.cxx_hierarchy.specs.Limits.{most_elements}
@@ -28,7 +28,7 @@ use Rattle.cxx_program.specs.declared.statement.TypedPlace.{TypedPlace}
 use Rattle.cxx_program.specs.Typed.{Scope, IsKnown, variable_type, HasType, of_variable, of_this, of_number, Converts, to_number, to_same, to_base, IsArgument, a_value, a_null, IsKept, whole, in_bits, width_within, place_width, IsPassed, IsPath, IsPlace}
 use Rattle.path_model.specs.Outs.{class_or_first}
 use Rattle.code_ops.specs.Operands.{pointed, pointed_in, operand_class}
-use Rattle.code_ops.specs.PlaceOps.{type_or_int, element_value_type, element_type, element_type_at}
+use Rattle.code_ops.specs.PlaceOps.{type_or_int, element_type_at}
 use Rattle.code_ops.proofs.BitFields.{width_fits}
 use Rattle.code_ops.specs.invariants.Fits.{most_local_registers, FitsVariable, FitsOperand, FitsConversion, FitsArgument, FitsPassed, FitsPath, FitsPlace}
 

@@ -18,7 +18,7 @@ use Rattle.cxx_hierarchy.specs.Classes.{Classes, functions_of}
 use Rattle.cxx_hierarchy.specs.Hierarchies.{IsHierarchy}
 use Rattle.cxx_subobject.specs.declared.Subobject.{Subobject}
 use Rattle.cxx_overrider.specs.declared.FunctionId.{FunctionId}
-use Rattle.cxx_overrider.specs.Functions.{return_at, return_of}
+use Rattle.cxx_overrider.specs.Functions.{return_at, return_of, pointee}
 use Rattle.cxx_overrider.specs.Virtuals.{own}
 use Rattle.cxx_search.proofs.Virtuals.{virtual_own, test_virtual}
 use Rattle.cxx_program.specs.declared.operand.Argument.{Argument}
@@ -32,7 +32,6 @@ use Rattle.cxx_program.specs.declared.statement.TypedKind.{TypedKind}
 use Rattle.cxx_program.specs.declared.statement.TypedKind.TheVariants.{Declare, Assign, Write, Copy, Call, Delete, If, While, Return, Print, PrintType, PrintView, Dump}
 use Rattle.cxx_program.specs.Typed.{Scope, IsKnown, IsWay, parameter_types, IsArgument, IsCall, Casts, cast_same, cast_up, cast_down, cast_dynamic, HasRight, an_operand, a_calculation, a_comparison, a_negation, a_read, an_address, a_result, an_object, a_cast, a_type_test, IsConverted, a_right, a_null_right, IsTyped, declares, begins, assigns, writes, copies, calls, deletes, branches, repeats, returns_value, prints, prints_type, prints_view, dumps, IsWithin}
 use Rattle.path_model.specs.Outs.{class_or_first}
-use Rattle.abi_slots.specs.Listing.{pointee}
 use Rattle.code_ops.specs.Operands.{pointed}
 use Rattle.code_ops.specs.invariants.Fits.{most_local_registers, FitsBase, FitsArgument}
 use Rattle.code_statements.specs.Rights.{cast_class, through_class}

@@ -6,11 +6,11 @@ use Rattle.cxx_hierarchy.specs.declared.records.ClassId.{ClassId}
 use Rattle.cxx_hierarchy.specs.declared.records.Function.{Function as FunctionRecord}
 use Rattle.cxx_hierarchy.specs.Classes.{Class, Classes, class_at, functions_in}
 use Rattle.cxx_subobject.specs.declared.Subobject.{Subobject}
-use Rattle.cxx_subobject.specs.Subobjects.{IsSubobject, whole, whole_of, join}
+use Rattle.cxx_subobject.specs.Subobjects.{whole, whole_of, join, IsSubobject}
 use Rattle.cxx_subobject.proofs.InsideLemmas.{whole_inside, whole_joined}
 use Rattle.cxx_overrider.specs.declared.FunctionId.{FunctionId}
 use Rattle.cxx_overrider.specs.declared.Overrider.{Overrider}
-use Rattle.cxx_overrider.specs.Functions.{named, signature_at, signature_in, signature_of, is_pure}
+use Rattle.cxx_overrider.specs.Functions.{named, signature_at, signature_in, is_pure, signature_of}
 use Rattle.cxx_overrider.specs.Overriding.{IsVirtual, IsFinalOverrider}
 use Rattle.cxx_overrider.specs.Virtuals.{is_virtual}
 use Rattle.cxx_search.specs.Searches.{final_in}
@@ -41,7 +41,8 @@ use Rattle.abi_memptr.specs.declared.calls.Applied.{Applied}
 use Rattle.abi_memptr.specs.declared.pointers.MemberPointer.TheVariants.{Function}
 use Rattle.abi_memptr.specs.Pointers.{IsFunctionIn}
 use Rattle.abi_memptr.specs.PointerBytes.{HasFunctionCode, even_word, code_word_of, function_word}
-use Rattle.abi_memptr.specs.PointerCalls.{Applies, IsCompleteAt, runs_overrider, runs_nothing, runs_itself, whole_object_view}
+use Rattle.abi_slots.specs.Views.{whole_view}
+use Rattle.abi_memptr.specs.PointerCalls.{Applies, IsCompleteAt, runs_overrider, runs_nothing, runs_itself}
 use Rattle.abi_memptr.specs.invariants.Targets.{entry_target}
 use Rattle.abi_memptr.proofs.Targeting.{entry_found, nothing_found}
 use Rattle.abi_memptr.proofs.Words.{plain_word, virtual_word}
@@ -87,7 +88,7 @@ module _ (h : Classes) (rows : List ClassLayout) (image : ImageBytes) (codes : L
       let some = some_found h keeps d (whole_of d) (whole [] tt) s f t.stands.faultless (whole_inside h d s value.valid) value.class real in
       let o = some.0 in
       let found : final_in h (whole_of d) (join (whole_of d) s) f ≡ Some o = ap (λ u. final_in h (whole_of d) u f) joined ∙ some.1 in
-      let runs = entry_runs h rows image memory d at (whole_of d) (whole_object_view d) t.placed t.stands s (first_key h f) o value.valid value.class (first_own h keeps f real) found in
+      let runs = entry_runs h rows image memory d at (whole_of d) (whole_view d) t.placed t.stands s (first_key h f) o value.valid value.class (first_own h keeps f real) found in
       let here : address_in_object l d at (whole_of d) s ≡ at + l.place d s = ap (λ u. at + l.place d u) joined in
       let word = subst (λ a. HasEntryWord h l image t.placed.codes memory (first_key h f) o a (at + l.place d o.at)) here runs in
       by_word o t.placed t.numbers t.stands.low real (found_in_whole h keeps d s f o some.1) word (is_pure h o.function) refl

@@ -1,5 +1,5 @@
 -- What a call through a pointer to a function runs (Itanium C++ ABI 2.3; ISO C++03 5.5 p4, 10.3).
-use Rattle.std.specs.Prelude.{◌≡◌, ℕ, ◌+◌, ◌<◌, ◌^◌, true, false, Option, Some, None, List, length, ℤ, pos}
+use Rattle.std.specs.Prelude.{◌≡◌, ℕ, ◌+◌, ◌<◌, ◌^◌, true, false, Option, Some, None, List, ℤ, pos, length}
 use Rattle.cxx_hierarchy.specs.declared.records.ClassId.{ClassId}
 use Rattle.cxx_hierarchy.specs.Classes.{Classes}
 use Rattle.cxx_hierarchy.specs.Hierarchies.{IsHierarchy}
@@ -16,7 +16,7 @@ use Rattle.abi_sound.specs.Sound.{IsSoundLayout}
 use Rattle.abi_slots.specs.declared.code_numbers.BlockKind.TheVariants.{Plain}
 use Rattle.abi_slots.specs.declared.code_numbers.CodeRow.{CodeRow}
 use Rattle.abi_slots.specs.CodeRows.{code_of}
-use Rattle.abi_slots.specs.Views.{View}
+use Rattle.abi_slots.specs.Views.{whole_view}
 use Rattle.abi_slots.specs.Seen.{PlacedTables}
 use Rattle.byte_memory.specs.Store.{Store}
 use Rattle.byte_code.specs.declared.code.ImageBytes.{ImageBytes}
@@ -26,15 +26,11 @@ use Rattle.abi_memptr.specs.declared.pointers.MemberPointer.TheVariants.{Functio
 use Rattle.abi_memptr.specs.Pointers.{IsFunctionIn}
 use Rattle.abi_memptr.specs.PointerBytes.{HasFunctionCode, function_word}
 
--- the whole of an object of class d, as a view
-abbrev pub whole_object_view : ClassId → View
-whole_object_view d = record { complete = d; at_sub = whole_of d; class = d }
-
 -- the virtual pointers of an object of class d lead to the tables of the whole object, in an image with these numbers of code
 pub record HasWholeTables (h : Classes) (rows : List ClassLayout) (image : ImageBytes) (codes : List CodeRow) (memory : Store) (d : ClassId) (at : ℕ) : Type 0 where
   pub placed : PlacedTables
   pub numbers : placed.codes ≡ codes
-  pub stands : IsViewAt h rows image memory d at (whole_of d) (whole_object_view d) placed
+  pub stands : IsViewAt h rows image memory d at (whole_of d) (whole_view d) placed
 
 -- a complete object of class d stands at an address, over a sound layout; where its class is dynamic it has its tables. The numbers of
 -- code have 32 bits

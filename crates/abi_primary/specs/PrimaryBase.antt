@@ -31,6 +31,11 @@ pub record IsFirstDynamic (h : Classes) (bases : List (Base ClassId)) (b : Class
   pub dynamic : IsDynamicBase h base
   pub before : (i : ℕ) (other : Base ClassId) → i < number → slice_get bases i ≡ Some other → IsDynamicBase h other → ⊥
 
+abbrev pub is_direct_primary : Primary → ClassId → Bool
+is_direct_primary NoPrimary b = false
+is_direct_primary (Direct d) b = nat_eq d.0 b.0
+is_direct_primary (Virtual v) b = false
+
 abbrev pub is_virtual_primary : Primary → ClassId → Bool
 is_virtual_primary NoPrimary v = false
 is_virtual_primary (Direct b) v = false

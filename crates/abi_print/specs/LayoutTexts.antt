@@ -19,7 +19,7 @@ use Rattle.cxx_subobject.specs.Preorder.{preorder}
 use Rattle.abi_primary.specs.declared.Primary.{Primary}
 use Rattle.abi_primary.specs.declared.Primary.TheVariants.{None as NoPrimary, Direct, Virtual}
 use Rattle.abi_sound.specs.declared.class_layout.ClassLayout.{ClassLayout}
-use Rattle.abi_sound.specs.Places.{place_or_zero, member_places_in, first_bit}
+use Rattle.abi_sound.specs.Places.{first_bit, member_place}
 
 abbrev pub name_in_class : Option Class → List ℕ
 name_in_class None = []
@@ -110,13 +110,10 @@ abbrev pub field_in : Classes → ℕ → ℕ → Option (Member ClassId) → Li
 field_in h place first None = []
 field_in h place first (Some member) = field_text h place first member
 
-abbrev pub printed_member_place : List ClassLayout → ClassId → ℕ → ℕ
-printed_member_place rows c n = place_or_zero (slice_get (member_places_in (slice_get rows c.0)) n)
-
 -- the first members, as many as are asked for
 abbrev pub fields_text : Classes → List ClassLayout → ClassId → ℕ → List ℕ
 fields_text h rows c zero = []
-fields_text h rows c (suc n) = fields_text h rows c n ++ field_in h (printed_member_place rows c n) (first_bit rows c n) (slice_get (members_of h c) n)
+fields_text h rows c (suc n) = fields_text h rows c n ++ field_in h (member_place rows c n) (first_bit rows c n) (slice_get (members_of h c) n)
 
 -- all but the whole, which stands first
 abbrev pub proper : List Subobject → List Subobject

@@ -9,7 +9,8 @@ use Rattle.cxx_subobject.specs.Preorder.{preorder, ListsSubobjects}
 use Rattle.cxx_subobject.proofs.PathLemmas.{class_low}
 use Rattle.foundation.proofs.Members.{Has, contains_from_has, from_map, from_flat_map}
 use Rattle.foundation.proofs.Chosen.{has_filter, from_filter_map}
-use Rattle.abi_rtti.specs.TypeInfos.{classes_in, named_virtual, is_virtual_base, direct_base_class}
+use Rattle.abi_slots.specs.Rows.{class_of_base}
+use Rattle.abi_rtti.specs.TypeInfos.{classes_in, named_virtual, is_virtual_base}
 
 has_get : {A : Type 0} (xs : List A) (k : ℕ) (d : A) → k < length xs → Has xs (get_or xs k d)
 has_get [] k d lt = absurd (omega arith)
@@ -40,7 +41,7 @@ known_edges h keeps classes known = all_from_has (λ (d : ClassId). d.0 < length
     each v has =
         let r = from_flat_map (named_virtual h) classes v has in
         let below : r.0.0 < length h = in_list classes known r.0 r.1 in
-        let named = from_map direct_base_class (filter is_virtual_base (bases_of h r.0)) v r.2 in
+        let named = from_map class_of_base (filter is_virtual_base (bases_of h r.0)) v r.2 in
         let base = has_filter is_virtual_base (bases_of h r.0) named.0 named.1 in
         let smaller : named.0.class.0 < r.0.0 = keeps.bases r.0 named.0 (contains_from_has (bases_of h r.0) named.0 base.0) in
         subst (λ (a : ClassId). a.0 < length h) named.2 (omega arith)

@@ -14,6 +14,7 @@ use Rattle.abi_slots.specs.declared.words.InfoBase.{InfoBase}
 use Rattle.abi_slots.specs.declared.words.TypeInfo.{TypeInfo}
 use Rattle.abi_slots.specs.declared.words.TypeInfo.TheVariants.{Plain, Single, Many}
 use Rattle.abi_rtti.specs.Repeats.{has_repeat}
+use Rattle.abi_slots.specs.Rows.{class_of_base}
 
 -- the classes of the subobjects of a class
 abbrev pub classes_in : Classes → ClassId → List ClassId
@@ -22,12 +23,9 @@ classes_in h c = filter_map class_of (preorder h c)
 abbrev pub is_virtual_base : Base ClassId → Bool
 is_virtual_base base = base.is_virtual
 
-abbrev pub direct_base_class : Base ClassId → ClassId
-direct_base_class base = base.class
-
 -- the virtual bases that the head of a class names
 abbrev pub named_virtual : Classes → ClassId → List ClassId
-named_virtual h d = map direct_base_class (filter is_virtual_base (bases_of h d))
+named_virtual h d = map class_of_base (filter is_virtual_base (bases_of h d))
 
 -- the ends of all edges to virtual bases, on a walk over all subobjects
 abbrev pub virtual_edges : Classes → ClassId → List ClassId

@@ -5,7 +5,8 @@ ghost use Rattle.std.specs.List.{filter_map, flat_map};
 ghost use Rattle.cxx_hierarchy.specs.declared.records.ClassId.{ClassId};
 ghost use Rattle.cxx_hierarchy.specs.declared.records.Base.{Base};
 ghost use Rattle.cxx_subobject.specs.Subobjects.{class_of};
-ghost use Rattle.abi_rtti.specs.TypeInfos.{classes_in, named_virtual, virtual_edges, is_virtual_base, direct_base_class};
+ghost use Rattle.abi_slots.specs.Rows.{class_of_base};
+ghost use Rattle.abi_rtti.specs.TypeInfos.{classes_in, named_virtual, virtual_edges, is_virtual_base};
 
 use cxx_hierarchy::{Base, ClassId, Hierarchy};
 use cxx_subobject::{Subobject, class_of, list_subobjects};
@@ -41,7 +42,7 @@ pub fn classes_in(alloc: Global, h: &Hierarchy, c: ClassId) -> Result<Vec<ClassI
 
 /// Puts the bases that are named virtual behind others.
 fn push_named(edges: &mut Vec<ClassId>, bases: &[Base<ClassId>]) -> Result<(), NoMemory>
-    ensures { OnOk result (edges.new.items ≡ edges.old.items ++ map direct_base_class (filter is_virtual_base bases.now)) }
+    ensures { OnOk result (edges.new.items ≡ edges.old.items ++ map class_of_base (filter is_virtual_base bases.now)) }
 {
     for base in bases {
         if base.is_virtual {

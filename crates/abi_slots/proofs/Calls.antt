@@ -19,7 +19,8 @@ use Rattle.abi_slots.specs.declared.words.Offset.{Offset}
 use Rattle.abi_slots.specs.declared.words.Offset.TheVariants.{ToBase, ToOverrider}
 use Rattle.cxx_overrider.specs.Virtuals.{same_name, own}
 use Rattle.cxx_subobject.specs.VirtualBases.{virtual_bases}
-use Rattle.abi_slots.specs.Listing.{vcall_number, is_offset_of_name, is_direct, is_nonvirtual_primary, is_secondary_base, below_bases, call, calls_in, calls, with_calls, push_all, primary_offsets, offsets_in, offsets}
+use Rattle.abi_primary.specs.PrimaryBase.{is_direct_primary}
+use Rattle.abi_slots.specs.Listing.{vcall_number, is_offset_of_name, is_nonvirtual_primary, is_secondary_base, below_bases, call, calls_in, calls, with_calls, push_all, primary_offsets, offsets_in, offsets}
 use Rattle.abi_slots.proofs.Lists.{Item, item_left, item_right, item_cases, item_map, from_map, item_flat, from_flat, item_filter, at_place}
 use Rattle.abi_slots.proofs.Names.{name_through}
 use Rattle.abi_slots.proofs.Bases.{item_contains, item_virtual}
@@ -79,13 +80,13 @@ call_below h l keeps (suc n) path c (b ∷ q) g lt leads i =
     let first = below_bases (calls_in h l n) path (filter (is_nonvirtual_primary (l.primary c)) (bases_of h c)) in
     let other = below_bases (calls_in h l n) path (filter (is_secondary_base (l.primary c)) (bases_of h c)) in
     let plain : not edge.base.is_virtual ≡ true = ap not edge.way in
-    split (is_direct (l.primary c) edge.base.class) (λ t. is_direct (l.primary c) edge.base.class ≡ t → Item (calls_in h l (suc n) path c) (ToOverrider (path ++ (b ∷ q)) g))
+    split (is_direct_primary (l.primary c) edge.base.class) (λ t. is_direct_primary (l.primary c) edge.base.class ≡ t → Item (calls_in h l (suc n) path c) (ToOverrider (path ++ (b ∷ q)) g))
     (λ t same.
     item_left (first ++ map (call path) (own h c)) other _ (item_left first (map (call path) (own h c)) _
-    (item_flat goes (filter (is_nonvirtual_primary (l.primary c)) (bases_of h c)) edge.base _ (item_filter (is_nonvirtual_primary (l.primary c)) (bases_of h c) edge.base listed (and_from (not edge.base.is_virtual) (is_direct (l.primary c) edge.base.class) plain same)) there)))
+    (item_flat goes (filter (is_nonvirtual_primary (l.primary c)) (bases_of h c)) edge.base _ (item_filter (is_nonvirtual_primary (l.primary c)) (bases_of h c) edge.base listed (and_from (not edge.base.is_virtual) (is_direct_primary (l.primary c) edge.base.class) plain same)) there)))
     (λ t same.
     item_right (first ++ map (call path) (own h c)) other _
-    (item_flat goes (filter (is_secondary_base (l.primary c)) (bases_of h c)) edge.base _ (item_filter (is_secondary_base (l.primary c)) (bases_of h c) edge.base listed (and_from (not edge.base.is_virtual) (not (is_direct (l.primary c) edge.base.class)) plain (ap not same))) there))
+    (item_flat goes (filter (is_secondary_base (l.primary c)) (bases_of h c)) edge.base _ (item_filter (is_secondary_base (l.primary c)) (bases_of h c) edge.base listed (and_from (not edge.base.is_virtual) (not (is_direct_primary (l.primary c) edge.base.class)) plain (ap not same))) there))
     refl
 
 -- at the number of a function's vcall word stands the offset of a function of its name

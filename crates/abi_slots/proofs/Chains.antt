@@ -19,7 +19,7 @@ use Rattle.abi_primary.specs.declared.Primary.TheVariants.{None as NoPrimary, Di
 use Rattle.abi_sound.specs.Places.{Places}
 use Rattle.abi_sound.specs.Chains.{primary_part, primary_of_class, primary_by, is_subobject_in}
 use Rattle.abi_slots.specs.Listing.{entries, offsets, primary_entries, primary_offsets}
-use Rattle.abi_slots.specs.Views.{View, IsView, seen, place, is_some, next_by, next_in, next, along_chain, first_in}
+use Rattle.abi_slots.specs.Views.{View, IsView, seen, place, next_by, next_in, next, along_chain, first_in}
 use Rattle.abi_slots.specs.Groups.{is_shared_base}
 use Rattle.abi_slots.proofs.Lists.{Keeps, keeps_itself, keeps_through}
 use Rattle.abi_slots.proofs.Listings.{ArePrimaries, entries_keep, offsets_keep}
@@ -51,7 +51,7 @@ not_shared_path (Shared v) [] d b e = cc
 not_shared_path (Shared v) (c ∷ []) d b e = refl
 not_shared_path (Shared v) (c ∷ f ∷ path) d b e = refl
 
-pub is_held : (o : Option Subobject) (s : Subobject) → is_some o s ≡ true → o ≡ Some s
+pub is_held : (o : Option Subobject) (s : Subobject) → is_subobject_in o s ≡ true → o ≡ Some s
 is_held None s e = cc
 is_held (Some t) s e = ap (λ a. Some a) (subobject_same t s e)
 
@@ -179,7 +179,7 @@ module _ (h : Classes) (l : Places) (x : View) (set : Setting h l x) where
   next_of : (s u : Subobject) (d : ClassId) → IsSubobject h x.class s → class_of s ≡ Some d → (p : Primary) → l.primary d ≡ p → next_by l x s p ≡ Some u → IsNextUnder s u
   next_of s u d valid e NoPrimary is f = cc
   next_of s u d valid e (Direct b) is f = subst (λ a. IsNextUnder s a) (same_some (subobject s.root (s.path ++ b ∷ [])) u f) (next_direct s d b valid e is)
-  next_of s u d valid e (Virtual v) is f = split (is_some (l.holder x.complete v) (seen x s)) (λ b. is_some (l.holder x.complete v) (seen x s) ≡ b → (if b then Some (shared_base v) else None) ≡ Some u → IsNextUnder s u)
+  next_of s u d valid e (Virtual v) is f = split (is_subobject_in (l.holder x.complete v) (seen x s)) (λ b. is_subobject_in (l.holder x.complete v) (seen x s) ≡ b → (if b then Some (shared_base v) else None) ≡ Some u → IsNextUnder s u)
       (λ t same g. subst (λ a. IsNextUnder s a) (same_some (shared_base v) u g) (next_shared s d v valid e is (is_held (l.holder x.complete v) (seen x s) same)))
       (λ t same g. cc)
       refl f

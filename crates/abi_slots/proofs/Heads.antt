@@ -9,7 +9,7 @@ use Rattle.cxx_hierarchy.specs.Hierarchies.{IsHierarchy}
 use Rattle.cxx_hierarchy.specs.VirtualBases.{IsDirectBase, direct}
 use Rattle.cxx_subobject.specs.declared.Root.TheVariants.{Whole, Shared}
 use Rattle.cxx_subobject.specs.declared.Subobject.{Subobject}
-use Rattle.cxx_subobject.specs.Subobjects.{IsSubobject, whole, shared, subobject, shared_base, whole_of, class_of, join, same_root}
+use Rattle.cxx_subobject.specs.Subobjects.{IsSubobject, whole, shared, subobject, shared_base, whole_of, class_of, join, same_root, is_shared_root}
 use Rattle.cxx_subobject.specs.Preorder.{preorder}
 use Rattle.cxx_subobject.proofs.InsideLemmas.{join_valid, join_class}
 use Rattle.cxx_subobject.proofs.TreeLemmas.{root_itself}
@@ -18,8 +18,9 @@ use Rattle.abi_sound.specs.Places.{Places}
 use Rattle.abi_slots.specs.declared.words.Table.{Table}
 use Rattle.abi_slots.specs.declared.words.Group.{Group}
 use Rattle.cxx_subobject.specs.VirtualBases.{virtual_bases}
-use Rattle.abi_slots.specs.Listing.{is_virtual_root}
-use Rattle.abi_slots.specs.Views.{View, is_some, next, declares_virtual_function, class_says, is_dynamic, is_dynamic_class, is_first, is_head, of_root, by_part, heads, along_chain, Serves}
+use Rattle.abi_sound.specs.Chains.{is_subobject_in}
+use Rattle.cxx_hierarchy.specs.Declarations.{has_virtual, declares_virtual}
+use Rattle.abi_slots.specs.Views.{View, next, is_dynamic, is_dynamic_class, is_first, is_head, of_root, by_part, heads, along_chain, Serves}
 use Rattle.abi_slots.specs.Groups.{IsTable, view_of_group, IsGroup}
 use Rattle.abi_slots.specs.Dispatch.{IsServedBy}
 use Rattle.abi_slots.proofs.Lists.{Item, item_left, item_right, item_flat, item_filter, any_item, item_any}
@@ -34,7 +35,7 @@ use Rattle.abi_primary.proofs.KindLemmas.{base_dynamic}
 -- a subobject for which a class is dynamic
 record IsDynamicPart (h : Classes) (c : ClassId) (s : Subobject) : Type 0 where
   valid : IsSubobject h c s
-  says : (is_virtual_root s.root || class_says h (class_of s)) ≡ true
+  says : (is_shared_root s.root || declares_virtual h (class_of s)) ≡ true
 
 in_base : (h : Classes) (c b : ClassId) → IsDirectBase h c false b → (s : Subobject) → IsDynamicPart h b s → IsDynamicPart h c (join (subobject Whole (c ∷ b ∷ [])) s)
 in_base h c b edge s part =
@@ -42,33 +43,33 @@ in_base h c b edge s part =
     let class = join_class h b (subobject Whole (c ∷ b ∷ [])) s refl part.valid in
     record { valid = join_valid h c b (subobject Whole (c ∷ b ∷ [])) s outer refl part.valid; says = by_valid s part.valid part.says class }
   where
-    by_valid : (s : Subobject) → IsSubobject h b s → (is_virtual_root s.root || class_says h (class_of s)) ≡ true → class_of (join (subobject Whole (c ∷ b ∷ [])) s) ≡ class_of s → (is_virtual_root (join (subobject Whole (c ∷ b ∷ [])) s).root || class_says h (class_of (join (subobject Whole (c ∷ b ∷ [])) s))) ≡ true
-    by_valid _ (whole path l) says class = subst (λ o. class_says h o ≡ true) (sym class) says
+    by_valid : (s : Subobject) → IsSubobject h b s → (is_shared_root s.root || declares_virtual h (class_of s)) ≡ true → class_of (join (subobject Whole (c ∷ b ∷ [])) s) ≡ class_of s → (is_shared_root (join (subobject Whole (c ∷ b ∷ [])) s).root || declares_virtual h (class_of (join (subobject Whole (c ∷ b ∷ [])) s))) ≡ true
+    by_valid _ (whole path l) says class = subst (λ o. declares_virtual h o ≡ true) (sym class) says
     by_valid _ (shared v path has l) says class = refl
 
 dynamic_part : (h : Classes) (c : ClassId) → IsDynamic h c → (s : Subobject) × IsDynamicPart h c s
-dynamic_part h _ (declares c class e says) = (whole_of c, record { valid = whole [] tt; says = subst (λ o. declares_virtual_function o ≡ true) (sym e) says })
+dynamic_part h _ (declares c class e says) = (whole_of c, record { valid = whole [] tt; says = subst (λ o. has_virtual o ≡ true) (sym e) says })
 dynamic_part h _ (shares c b edge) = (shared_base b, record { valid = shared b [] (direct c b edge) tt; says = refl })
 dynamic_part h _ (inherits c b true edge dyn) = (shared_base b, record { valid = shared b [] (direct c b edge) tt; says = refl })
 dynamic_part h _ (inherits c b false edge dyn) = let r = dynamic_part h b dyn in (join (subobject Whole (c ∷ b ∷ [])) r.0, in_base h c b edge r.0 r.1)
 
 pub dynamic_test : (h : Classes) → IsHierarchy h → (c : ClassId) → IsDynamic h c → is_dynamic h c ≡ true
-dynamic_test h keeps c dyn = let r = dynamic_part h c dyn in any_item (λ (s : Subobject). is_virtual_root s.root || class_says h (class_of s)) (preorder h c) r.0 (preorder_item h keeps c r.0 r.1.valid) r.1.says
+dynamic_test h keeps c dyn = let r = dynamic_part h c dyn in any_item (λ (s : Subobject). is_shared_root s.root || declares_virtual h (class_of s)) (preorder h c) r.0 (preorder_item h keeps c r.0 r.1.valid) r.1.says
 
-said_class : (h : Classes) (o : Option ClassId) → class_says h o ≡ true → (d : ClassId) × (o ≡ Some d) × IsDynamic h d
+said_class : (h : Classes) (o : Option ClassId) → declares_virtual h o ≡ true → (d : ClassId) × (o ≡ Some d) × IsDynamic h d
 said_class h None e = cc
 said_class h (Some d) e = (d, refl, by_class (class_at h d) refl e)
   where
-    by_class : (o : Option Class) → class_at h d ≡ o → declares_virtual_function o ≡ true → IsDynamic h d
+    by_class : (o : Option Class) → class_at h d ≡ o → has_virtual o ≡ true → IsDynamic h d
     by_class None is f = cc
     by_class (Some class) is f = declares d class is f
 
 pub test_dynamic : (h : Classes) → IsHierarchy h → (c : ClassId) → is_dynamic h c ≡ true → IsDynamic h c
 test_dynamic h keeps c e =
-    let r = item_any (λ (s : Subobject). is_virtual_root s.root || class_says h (class_of s)) (preorder h c) e in
+    let r = item_any (λ (s : Subobject). is_shared_root s.root || declares_virtual h (class_of s)) (preorder h c) e in
     by_valid r.0 (item_preorder h keeps c r.0 r.1) r.2
   where
-    by_valid : (s : Subobject) → IsSubobject h c s → (is_virtual_root s.root || class_says h (class_of s)) ≡ true → IsDynamic h c
+    by_valid : (s : Subobject) → IsSubobject h c s → (is_shared_root s.root || declares_virtual h (class_of s)) ≡ true → IsDynamic h c
     by_valid _ (whole path l) says = let d = said_class h (class_of (subobject Whole (c ∷ path))) says in dynamic_whole h c d.0 (subobject Whole (c ∷ path)) (whole path l) d.1 d.2
     by_valid _ (shared v path has l) says = base_dynamic h c v has
 
@@ -116,10 +117,10 @@ module _ (h : Classes) (l : Places) (x : View) (set : Setting h l x) where
     few : class.0 ≤ x.class.0
 
   step_up : (s : Subobject) (d : ClassId) → IsSubobject h x.class s → class_of s ≡ Some d → IsDynamic h d → IsAbove s d ⊎ (is_head h l x s ≡ true)
-  step_up s d valid e dyn = split (list_any (λ u. is_some (next l x u) s) (preorder h x.class))
-      (λ b. list_any (λ u. is_some (next l x u) s) (preorder h x.class) ≡ b → IsAbove s d ⊎ (is_head h l x s ≡ true))
+  step_up s d valid e dyn = split (list_any (λ u. is_subobject_in (next l x u) s) (preorder h x.class))
+      (λ b. list_any (λ u. is_subobject_in (next l x u) s) (preorder h x.class) ≡ b → IsAbove s d ⊎ (is_head h l x s ≡ true))
       (λ b found.
-      let r = item_any (λ u. is_some (next l x u) s) (preorder h x.class) found in
+      let r = item_any (λ u. is_subobject_in (next l x u) s) (preorder h x.class) found in
       let goes = is_held (next l x r.0) s r.2 in
       let there = item_preorder h set.keeps x.class r.0 r.1 in
       let up = next_under h l x set r.0 s there goes in

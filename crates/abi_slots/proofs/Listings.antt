@@ -21,7 +21,8 @@ use Rattle.abi_slots.specs.declared.words.Offset.{Offset}
 use Rattle.abi_slots.specs.declared.words.Offset.TheVariants.{ToBase, ToOverrider}
 use Rattle.cxx_overrider.specs.Virtuals.{same_name, own}
 use Rattle.cxx_subobject.specs.VirtualBases.{virtual_bases}
-use Rattle.abi_slots.specs.Listing.{same_kind, needs_return, keys_of, shares, same_entry_key, or_itself, listing, entry_number, vbase_number, is_base, same_offset, push_new, is_direct, primary_entries, new_entries, with_new_entries, entries_in, entries, is_nonvirtual_primary, is_secondary_base, below_bases, call, calls_in, calls, with_calls, push_all, primary_offsets, offsets_in, offsets}
+use Rattle.abi_primary.specs.PrimaryBase.{is_direct_primary}
+use Rattle.abi_slots.specs.Listing.{same_kind, needs_return, keys_of, shares, same_entry_key, or_itself, listing, entry_number, vbase_number, is_base, same_offset, push_new, primary_entries, new_entries, with_new_entries, entries_in, entries, is_nonvirtual_primary, is_secondary_base, below_bases, call, calls_in, calls, with_calls, push_all, primary_offsets, offsets_in, offsets}
 use Rattle.abi_slots.proofs.Lists.{Keeps, keeps_itself, keeps_through, keeps_front, Item, item_first, item_later, item_left, item_right, item_none, item_split, item_cases, item_map, item_filter, from_filter, any_item, item_any, any_right, at_place, found_passes, found_some, found_none, flat_same}
 use Rattle.abi_slots.proofs.Names.{kind_is, key_is, key_itself, base_is}
 use Rattle.abi_slots.proofs.Bases.{contains_item, virtual_item}
@@ -157,10 +158,10 @@ not_true true e = cc
 not_true false e = refl
 
 pub first_plain : (p : Primary) (base : Base ClassId) → is_nonvirtual_primary p base ≡ true → base.is_virtual ≡ false
-first_plain p base e = not_true base.is_virtual (and_parts (not base.is_virtual) (is_direct p base.class) e).0
+first_plain p base e = not_true base.is_virtual (and_parts (not base.is_virtual) (is_direct_primary p base.class) e).0
 
 pub other_plain : (p : Primary) (base : Base ClassId) → is_secondary_base p base ≡ true → base.is_virtual ≡ false
-other_plain p base e = not_true base.is_virtual (and_parts (not base.is_virtual) (not (is_direct p base.class)) e).0
+other_plain p base e = not_true base.is_virtual (and_parts (not base.is_virtual) (not (is_direct_primary p base.class)) e).0
 
 -- the entry of a function stands among the old ones or among the new ones
 listing_in : (h : Classes) (l : Places) (k : EntryKey) (old keys : List EntryKey) → Item keys k → Item (old ++ new_entries h l old keys) (or_itself k (find (shares h l k) old))

@@ -10,7 +10,8 @@ use Rattle.cxx_subobject.specs.Subobjects.{IsSubobject, subobject, class_of}
 use Rattle.cxx_subobject.specs.Preorder.{preorder, ListsSubobjects}
 use Rattle.abi_slots.proofs.Lists.{Item, found_passes}
 use Rattle.abi_slots.proofs.Bases.{contains_item}
-use Rattle.abi_slots.specs.Listing.{reaches_class, base_of_class}
+use Rattle.cxx_search.specs.Searches.{is_class}
+use Rattle.abi_slots.specs.Listing.{base_of_class}
 
 -- the item at the place, and the rest
 pub rest_is : {A : Type 0} (xs : List A) (i : ℕ) (x : A) → i < length xs → x ≡ get_or xs i x → drop i xs ≡ x ∷ drop (i + 1) xs
@@ -31,18 +32,18 @@ filter_opens p x xs true e = rw (← e) refl
 filter_opens p x xs false e = rw (← e) refl
 
 -- the first base of a class, found by its number and copied
-pub base_found : (h : Classes) (x y : ClassId) (list : List Subobject) (n : ℕ) (s t : Subobject) → list ≡ preorder h x → position (λ (a : Subobject). reaches_class y (class_of a)) list ≡ Some n → s ≡ get_or list n s → t ≡ subobject s.root (s.path ++ []) → Some t ≡ base_of_class h x y
+pub base_found : (h : Classes) (x y : ClassId) (list : List Subobject) (n : ℕ) (s t : Subobject) → list ≡ preorder h x → position (λ (a : Subobject). is_class y (class_of a)) list ≡ Some n → s ≡ get_or list n s → t ≡ subobject s.root (s.path ++ []) → Some t ≡ base_of_class h x y
 base_found h x y list n s t is at there copied =
-    let p = λ (a : Subobject). reaches_class y (class_of a) in
+    let p = λ (a : Subobject). is_class y (class_of a) in
     let same : t ≡ s = copied ∙ ap (λ q. subobject s.root q) (append-nil s.path) in
     ap (λ a. Some a) same ∙ sym (Rattle.abi_primary.proofs.PrimaryLemmas.found p list n s at there) ∙ ap (find p) is
 
-pub base_missing : (h : Classes) (x y : ClassId) (list : List Subobject) → list ≡ preorder h x → position (λ (a : Subobject). reaches_class y (class_of a)) list ≡ None → None ≡ base_of_class h x y
-base_missing h x y list is none = let p = λ (a : Subobject). reaches_class y (class_of a) in sym (Rattle.abi_primary.proofs.PrimaryLemmas.not_found p list none) ∙ ap (find p) is
+pub base_missing : (h : Classes) (x y : ClassId) (list : List Subobject) → list ≡ preorder h x → position (λ (a : Subobject). is_class y (class_of a)) list ≡ None → None ≡ base_of_class h x y
+base_missing h x y list is none = let p = λ (a : Subobject). is_class y (class_of a) in sym (Rattle.abi_primary.proofs.PrimaryLemmas.not_found p list none) ∙ ap (find p) is
 
-pub base_valid : (h : Classes) (x : ClassId) (list : List Subobject) (n : ℕ) (s t : Subobject) (all : List Subobject) (y : ClassId) → list ≡ all → ListsSubobjects h x all → position (λ (a : Subobject). reaches_class y (class_of a)) list ≡ Some n → s ≡ get_or list n s → t ≡ subobject s.root (s.path ++ []) → IsSubobject h x t
+pub base_valid : (h : Classes) (x : ClassId) (list : List Subobject) (n : ℕ) (s t : Subobject) (all : List Subobject) (y : ClassId) → list ≡ all → ListsSubobjects h x all → position (λ (a : Subobject). is_class y (class_of a)) list ≡ Some n → s ≡ get_or list n s → t ≡ subobject s.root (s.path ++ []) → IsSubobject h x t
 base_valid h x list n s t all y is lists at there copied =
-    let p = λ (a : Subobject). reaches_class y (class_of a) in
+    let p = λ (a : Subobject). is_class y (class_of a) in
     let same : t ≡ s = copied ∙ ap (λ q. subobject s.root q) (append-nil s.path) in
     let found = found_passes p list s (Rattle.abi_primary.proofs.PrimaryLemmas.found p list n s at there) in
     subst (λ a. IsSubobject h x a) (sym same) (lists.valid s (contains_item all s (subst (λ xs. Item xs s) is found.0)))

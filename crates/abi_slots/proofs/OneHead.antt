@@ -14,7 +14,8 @@ use Rattle.cxx_subobject.proofs.TreeLemmas.{same_itself}
 use Rattle.abi_primary.specs.declared.Primary.{Primary}
 use Rattle.abi_primary.specs.declared.Primary.TheVariants.{None as NoPrimary, Direct, Virtual}
 use Rattle.abi_sound.specs.Places.{Places}
-use Rattle.abi_slots.specs.Views.{View, seen, is_some, next_by, next_in, next, is_dynamic_class, is_first, is_head, along_chain, Serves}
+use Rattle.abi_sound.specs.Chains.{is_subobject_in}
+use Rattle.abi_slots.specs.Views.{View, seen, next_by, next_in, next, is_dynamic_class, is_first, is_head, along_chain, Serves}
 use Rattle.abi_slots.proofs.Lists.{any_item}
 use Rattle.abi_slots.proofs.Bases.{preorder_item}
 use Rattle.abi_slots.proofs.Chains.{Setting, is_held, same_some, walk_under}
@@ -29,8 +30,8 @@ pub record IsHeld (o : Option Subobject) (r s : Subobject) (v : ClassId) : Type 
   pub held : o ≡ Some r
   pub base : shared_base v ≡ s
 
-pub held_if : (o : Option Subobject) (r s : Subobject) (v : ClassId) → (if is_some o r then Some (shared_base v) else None) ≡ Some s → IsHeld o r s v
-held_if o r s v = split (is_some o r) (λ b. is_some o r ≡ b → (if b then Some (shared_base v) else None) ≡ Some s → IsHeld o r s v)
+pub held_if : (o : Option Subobject) (r s : Subobject) (v : ClassId) → (if is_subobject_in o r then Some (shared_base v) else None) ≡ Some s → IsHeld o r s v
+held_if o r s v = split (is_subobject_in o r) (λ b. is_subobject_in o r ≡ b → (if b then Some (shared_base v) else None) ≡ Some s → IsHeld o r s v)
     (λ t same e. record { held = is_held o r same; base = same_some (shared_base v) s e })
     (λ t same e. absurd (cc))
     refl
@@ -90,8 +91,8 @@ module _ (h : Classes) (l : Places) (x : View) (set : Setting h l x) where
   no_next : (t r : Subobject) → is_head h l x t ≡ true → IsSubobject h x.class r → next l x r ≡ Some t → ⊥
   no_next t r head valid goes =
       let first = (and_parts (is_dynamic_class h (class_of t)) (is_first h l x t) head).1 in
-      let test : is_some (next l x r) t ≡ true = ap (λ o. is_some o t) goes ∙ same_itself t in
-      let any = any_item (λ u. is_some (next l x u) t) (preorder h x.class) r (preorder_item h set.keeps x.class r valid) test in
+      let test : is_subobject_in (next l x r) t ≡ true = ap (λ o. is_subobject_in o t) goes ∙ same_itself t in
+      let any = any_item (λ u. is_subobject_in (next l x u) t) (preorder h x.class) r (preorder_item h set.keeps x.class r valid) test in
       let not_first : is_first h l x t ≡ false = ap not any in
       cc
 

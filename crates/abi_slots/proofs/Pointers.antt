@@ -19,16 +19,12 @@ use Rattle.abi_sound.specs.Chains.{primary_part, primary_of_class, primary_by, i
 use Rattle.abi_sound.specs.Places.{Places, places_of}
 use Rattle.abi_sound.specs.Sound.{IsSoundLayout}
 use Rattle.abi_slots.specs.Seen.{PlacedTables, IsPointOf, SharePointer}
-use Rattle.abi_slots.specs.Views.{View, IsView, seen, place, is_some, next_by, next_in, next, along_chain, Serves}
+use Rattle.abi_slots.specs.Views.{View, IsView, seen, place, next_by, next_in, next, along_chain, Serves}
 use Rattle.abi_slots.proofs.Chains.{Setting, same_some, seen_down, seen_valid, seen_class, next_under, walk_under}
 use Rattle.abi_slots.proofs.Heads.{some_head}
 use Rattle.abi_slots.proofs.OneHead.{one_head}
 use Rattle.abi_slots.proofs.Settings.{setting_of}
 use Rattle.foundation.proofs.Truth.{split}
-
-same_test : (o : Option Subobject) (s : Subobject) → is_subobject_in o s ≡ is_some o s
-same_test None s = refl
-same_test (Some t) s = refl
 
 -- two walks, one after the other
 walk_on : (go : Subobject → Option Subobject) (m n : ℕ) (u s t : Subobject) → along_chain go m (Some u) ≡ Some s → along_chain go n (Some s) ≡ Some t → along_chain go (m + n) (Some u) ≡ Some t
@@ -71,11 +67,11 @@ module _ (h : Classes) (l : Places) (x : View) (set : Setting h l x) where
         goes = goes_by d (Direct b) (subobject s.root (s.path ++ b ∷ [])) of is refl;
         is = seen_down h x x.class s b valid ∙ same_some (subobject (seen x s).root ((seen x s).path ++ b ∷ [])) q f;
       }
-      by_primary d of (Virtual v) is f = split (is_some (l.holder x.complete v) (seen x s))
-          (λ b. is_some (l.holder x.complete v) (seen x s) ≡ b → (if b then Some (shared_base v) else None) ≡ Some q → IsNextSeen s q)
+      by_primary d of (Virtual v) is f = split (is_subobject_in (l.holder x.complete v) (seen x s))
+          (λ b. is_subobject_in (l.holder x.complete v) (seen x s) ≡ b → (if b then Some (shared_base v) else None) ≡ Some q → IsNextSeen s q)
           (λ t held there. record { after = shared_base v; goes = goes_by d (Virtual v) (shared_base v) of is (rw held refl); is = same_some (shared_base v) q there })
           (λ t held there. absurd (cc))
-          refl (subst (λ b. (if b then Some (shared_base v) else None) ≡ Some q) (same_test (l.holder x.complete v) (seen x s)) f)
+          refl f
 
   record IsWalkSeen (s r : Subobject) : Type 0 where
     steps : ℕ

@@ -3,18 +3,13 @@ use Rattle.std.specs.Prelude.{ℕ, zero, suc, ◌+◌, Bool, true, false, not, n
 use Rattle.std.specs.List.{list_any, find, flat_map}
 use Rattle.cxx_hierarchy.specs.declared.records.ClassId.{ClassId}
 use Rattle.cxx_hierarchy.specs.declared.records.Base.{Base}
-use Rattle.cxx_hierarchy.specs.declared.records.ValueType.TheVariants.{Number, Pointer}
-use Rattle.cxx_hierarchy.specs.declared.records.ReturnType.{ReturnType}
-use Rattle.cxx_hierarchy.specs.declared.records.ReturnType.TheVariants.{Void, Value}
 use Rattle.cxx_hierarchy.specs.Classes.{Classes, bases_of}
-use Rattle.cxx_subobject.specs.declared.Root.{Root}
-use Rattle.cxx_subobject.specs.declared.Root.TheVariants.{Whole, Shared}
 use Rattle.cxx_subobject.specs.declared.Subobject.{Subobject}
-use Rattle.cxx_subobject.specs.Subobjects.{class_of}
+use Rattle.cxx_subobject.specs.Subobjects.{class_of, is_shared_root}
 use Rattle.cxx_subobject.specs.Preorder.{preorder}
 use Rattle.cxx_subobject.specs.VirtualBases.{virtual_bases}
 use Rattle.cxx_overrider.specs.declared.FunctionId.{FunctionId}
-use Rattle.cxx_overrider.specs.Functions.{Signature, named, destructor, signature_of, return_of}
+use Rattle.cxx_overrider.specs.Functions.{Signature, named, destructor, signature_of, return_of, same_function, pointee}
 use Rattle.abi_primary.specs.declared.Primary.{Primary}
 use Rattle.abi_primary.specs.declared.Primary.TheVariants.{None as NoPrimary, Direct, Virtual}
 use Rattle.abi_sound.specs.Places.{Places}
@@ -24,23 +19,15 @@ use Rattle.abi_slots.specs.declared.words.Conversion.{Conversion}
 use Rattle.abi_slots.specs.declared.words.EntryKey.{EntryKey}
 use Rattle.abi_slots.specs.declared.words.Offset.{Offset}
 use Rattle.abi_slots.specs.declared.words.Offset.TheVariants.{ToBase, ToOverrider}
+use Rattle.cxx_search.specs.Searches.{is_class}
 use Rattle.cxx_overrider.specs.Virtuals.{same_name, own}
+use Rattle.abi_primary.specs.PrimaryBase.{is_direct_primary}
 
 -- conversions of results
 
-abbrev pub reaches_class : ClassId → Option ClassId → Bool
-reaches_class d None = false
-reaches_class d (Some c) = nat_eq c.0 d.0
-
 -- the base of class y that an object of class x has
 abbrev pub base_of_class : Classes → ClassId → ClassId → Option Subobject
-base_of_class h x y = find (λ s. reaches_class y (class_of s)) (preorder h x)
-
-abbrev pub pointee : Option (ReturnType ClassId) → Option ClassId
-pointee None = None
-pointee (Some Void) = None
-pointee (Some (Value (Number t))) = None
-pointee (Some (Value (Pointer c))) = Some c
+base_of_class h x y = find (λ s. is_class y (class_of s)) (preorder h x)
 
 abbrev pub between_classes : Option ClassId → Option ClassId → Option Conversion
 between_classes None to = None
@@ -51,13 +38,9 @@ between_classes (Some x) (Some y) = if nat_eq x.0 y.0 then None else Some (recor
 abbrev pub conversion : Classes → FunctionId → FunctionId → Option Conversion
 conversion h f g = between_classes (pointee (return_of h f)) (pointee (return_of h g))
 
-abbrev pub is_virtual_root : Root → Bool
-is_virtual_root Whole = false
-is_virtual_root (Shared v) = true
-
 abbrev pub is_away : Places → ClassId → Option Subobject → Bool
 is_away l x None = false
-is_away l x (Some s) = is_virtual_root s.root || not (nat_eq (l.place x s) 0)
+is_away l x (Some s) = is_shared_root s.root || not (nat_eq (l.place x s) 0)
 
 abbrev pub needs_in : Classes → Places → Option Conversion → Bool
 needs_in h l None = false
@@ -79,11 +62,8 @@ same_kind j k = false
 abbrev pub entry_key : FunctionId → CodeKind → EntryKey
 entry_key f kind = record { function = f; kind = kind }
 
-abbrev pub same_function_id : FunctionId → FunctionId → Bool
-same_function_id f g = nat_eq f.class.0 g.class.0 && nat_eq f.index g.index
-
 abbrev pub same_entry_key : EntryKey → EntryKey → Bool
-same_entry_key a b = same_function_id a.function b.function && same_kind a.kind b.kind
+same_entry_key a b = same_function a.function b.function && same_kind a.kind b.kind
 
 abbrev pub kinds_in : Option Signature → List CodeKind
 kinds_in None = []
@@ -155,20 +135,15 @@ abbrev pub push_all : Classes → List Offset → List Offset → List Offset
 push_all h old [] = old
 push_all h old (x ∷ xs) = push_all h (push_new h old x) xs
 
-abbrev pub is_direct : Primary → ClassId → Bool
-is_direct NoPrimary b = false
-is_direct (Direct d) b = nat_eq d.0 b.0
-is_direct (Virtual v) b = false
-
 abbrev pub call : List ClassId → FunctionId → Offset
 call path f = ToOverrider path f
 
 -- the base of its class, where this is not virtual and the primary one, or where it is no such base
 abbrev pub is_nonvirtual_primary : Primary → Base ClassId → Bool
-is_nonvirtual_primary p base = not base.is_virtual && is_direct p base.class
+is_nonvirtual_primary p base = not base.is_virtual && is_direct_primary p base.class
 
 abbrev pub is_secondary_base : Primary → Base ClassId → Bool
-is_secondary_base p base = not base.is_virtual && not (is_direct p base.class)
+is_secondary_base p base = not base.is_virtual && not (is_direct_primary p base.class)
 
 abbrev pub below_bases : (List ClassId → ClassId → List Offset) → List ClassId → List (Base ClassId) → List Offset
 below_bases calls path bases = flat_map (λ (base : Base ClassId). calls (path ++ base.class ∷ []) base.class) bases

@@ -2,19 +2,19 @@
 use Rattle.std.specs.Prelude.{◌≡◌, ℕ, zero, suc, ◌<◌, Bool, true, false, not, ◌&&◌, ◌||◌, if◌then◌else◌, Option, Some, None, List, [], ◌∷◌, ◌++◌, filter, length}
 use Rattle.std.specs.List.{list_any, flat_map}
 use Rattle.cxx_hierarchy.specs.declared.records.ClassId.{ClassId}
-use Rattle.cxx_hierarchy.specs.Classes.{Class, Classes, class_at}
+use Rattle.cxx_hierarchy.specs.Classes.{Classes}
 use Rattle.cxx_subobject.specs.declared.Root.{Root}
 use Rattle.cxx_subobject.specs.declared.Root.TheVariants.{Whole, Shared}
 use Rattle.cxx_subobject.specs.declared.Subobject.{Subobject}
-use Rattle.cxx_subobject.specs.Subobjects.{IsSubobject, subobject, shared_base, same_root, same_subobject, class_of, join}
+use Rattle.cxx_subobject.specs.Subobjects.{IsSubobject, subobject, shared_base, same_root, class_of, join, whole_of, is_shared_root}
 use Rattle.cxx_subobject.specs.Preorder.{preorder}
 use Rattle.abi_primary.specs.declared.Primary.{Primary}
 use Rattle.abi_primary.specs.declared.Primary.TheVariants.{None as NoPrimary, Direct, Virtual}
 use Rattle.abi_primary.specs.Kinds.{IsDynamic}
-use Rattle.cxx_hierarchy.specs.Declarations.{has_virtual_function}
+use Rattle.cxx_hierarchy.specs.Declarations.{declares_virtual}
 use Rattle.abi_sound.specs.Places.{Places}
 use Rattle.cxx_subobject.specs.VirtualBases.{virtual_bases}
-use Rattle.abi_slots.specs.Listing.{is_virtual_root}
+use Rattle.abi_sound.specs.Chains.{is_subobject_in}
 
 -- a subobject of a complete object as the view of a group: its class, and where it is. The subobjects of the view are those
 -- of its class
@@ -22,6 +22,10 @@ pub record View : Type 0 where
   pub complete : ClassId
   pub at_sub : Subobject
   pub class : ClassId
+
+-- a complete object is its own view
+abbrev pub whole_view : ClassId → View
+whole_view c = record { complete = c; at_sub = whole_of c; class = c }
 
 pub record IsView (h : Classes) (x : View) : Type 0 where
   pub known : x.complete.0 < length h
@@ -37,14 +41,10 @@ seen x s = join x.at_sub s
 abbrev pub place : Places → View → Subobject → ℕ
 place l x s = l.place x.complete (seen x s)
 
-abbrev pub is_some : Option Subobject → Subobject → Bool
-is_some None s = false
-is_some (Some t) s = same_subobject t s
-
 abbrev pub next_by : Places → View → Subobject → Primary → Option Subobject
 next_by l x s NoPrimary = None
 next_by l x s (Direct b) = Some (subobject s.root (s.path ++ b ∷ []))
-next_by l x s (Virtual v) = if is_some (l.holder x.complete v) (seen x s) then Some (shared_base v) else None
+next_by l x s (Virtual v) = if is_subobject_in (l.holder x.complete v) (seen x s) then Some (shared_base v) else None
 
 abbrev pub next_in : Places → View → Subobject → Option ClassId → Option Subobject
 next_in l x s None = None
@@ -54,17 +54,9 @@ next_in l x s (Some c) = next_by l x s (l.primary c)
 abbrev pub next : Places → View → Subobject → Option Subobject
 next l x s = next_in l x s (class_of s)
 
-abbrev pub declares_virtual_function : Option Class → Bool
-declares_virtual_function None = false
-declares_virtual_function (Some class) = has_virtual_function class
-
-abbrev pub class_says : Classes → Option ClassId → Bool
-class_says h None = false
-class_says h (Some c) = declares_virtual_function (class_at h c)
-
 -- a class is dynamic where it has a virtual base, or it or a base declares a virtual function
 abbrev pub is_dynamic : Classes → ClassId → Bool
-is_dynamic h c = list_any (λ s. is_virtual_root s.root || class_says h (class_of s)) (preorder h c)
+is_dynamic h c = list_any (λ s. is_shared_root s.root || declares_virtual h (class_of s)) (preorder h c)
 
 abbrev pub is_dynamic_class : Classes → Option ClassId → Bool
 is_dynamic_class h None = false
@@ -72,7 +64,7 @@ is_dynamic_class h (Some c) = is_dynamic h c
 
 -- it is in the chain of no other subobject of the view
 abbrev pub is_first : Classes → Places → View → Subobject → Bool
-is_first h l x s = not (list_any (λ u. is_some (next l x u) s) (preorder h x.class))
+is_first h l x s = not (list_any (λ u. is_subobject_in (next l x u) s) (preorder h x.class))
 
 -- it has a table of its own: it is dynamic, and in no other's chain
 abbrev pub is_head : Classes → Places → View → Subobject → Bool

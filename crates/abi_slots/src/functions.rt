@@ -7,11 +7,12 @@ ghost use Rattle.cxx_hierarchy.specs.Classes.{Classes};
 ghost use Rattle.cxx_hierarchy.specs.declared.records.PartAt.{PartAt};
 ghost use Rattle.cxx_subobject.specs.declared.Subobject.{Subobject};
 ghost use Rattle.cxx_subobject.specs.Subobjects.{IsSubobject, class_of};
-ghost use Rattle.cxx_overrider.specs.Functions.{return_of};
+ghost use Rattle.cxx_overrider.specs.Functions.{return_of, pointee};
 ghost use Rattle.cxx_overrider.specs.invariants.Numbers.{IsNumbering};
 ghost use Rattle.cxx_overrider.specs.Overriders.{AreOverriders};
 ghost use Rattle.cxx_overrider.specs.Virtuals.{function_at, index_of, declared, same_name, is_virtual, own};
-ghost use Rattle.abi_slots.specs.Listing.{pointee, conversion, reaches_class, base_of_class};
+ghost use Rattle.cxx_search.specs.Searches.{is_class};
+ghost use Rattle.abi_slots.specs.Listing.{conversion, base_of_class};
 
 use crate::words::Conversion;
 use cxx_hierarchy::{
@@ -165,7 +166,7 @@ pub fn conversion(h: &Hierarchy, f: FunctionId, g: FunctionId) -> Option<Convers
 }
 
 fn is_of_class(s: &Subobject, d: ClassId) -> bool
-    ensures { result ≡ reaches_class d (class_of s.now) }
+    ensures { result ≡ is_class d (class_of s.now) }
 {
     match class_of(s) {
         Some(c) => c.0 == d.0,
@@ -175,7 +176,7 @@ fn is_of_class(s: &Subobject, d: ClassId) -> bool
 
 /// The number of the first subobject that is of a class.
 fn number_of_class(list: &[Subobject], d: ClassId) -> Option<usize>
-    ensures { result ≡ position (λ (s : Subobject). reaches_class d (class_of s)) list.now }
+    ensures { result ≡ position (λ (s : Subobject). is_class d (class_of s)) list.now }
 {
     list.iter().position(|s| is_of_class(s, d))
 }

@@ -4,11 +4,11 @@ ghost use Rattle.std.specs.Prelude.{◌≡◌, ◌<◌, ◌++◌, ◌∷◌, [],
 ghost use Rattle.std.specs.List.{flat_map, find};
 ghost use Rattle.cxx_hierarchy.specs.declared.records.ClassId.{ClassId};
 ghost use Rattle.cxx_overrider.specs.declared.FunctionId.{FunctionId};
-ghost use Rattle.cxx_overrider.specs.Functions.{signature_of};
+ghost use Rattle.cxx_overrider.specs.Functions.{signature_of, same_function};
 ghost use Rattle.cxx_overrider.specs.invariants.Numbers.{IsNumbering};
 ghost use Rattle.abi_sound.specs.Places.{places_of};
 ghost use Rattle.abi_slots.specs.declared.words.EntryKey.{EntryKey};
-ghost use Rattle.abi_slots.specs.Listing.{same_kind, same_function_id, same_entry_key, keys_of, needs_return, shares};
+ghost use Rattle.abi_slots.specs.Listing.{same_kind, same_entry_key, keys_of, needs_return, shares};
 
 use crate::functions::{base_of, conversion, is_same_name};
 use crate::words::{CodeKind, EntryKey};
@@ -43,7 +43,7 @@ fn is_same_kind(a: CodeKind, b: CodeKind) -> bool
 }
 
 fn is_same_function(f: FunctionId, g: FunctionId) -> bool
-    ensures { result ≡ same_function_id f g }
+    ensures { result ≡ same_function f g }
 {
     f.class.0 == g.class.0 && f.index == g.index
 }

@@ -10,7 +10,8 @@ ghost use Rattle.cxx_overrider.specs.invariants.Numbers.{IsNumbering};
 ghost use Rattle.abi_sound.specs.Places.{places_of};
 ghost use Rattle.abi_slots.specs.Limits.{most_offsets};
 ghost use Rattle.abi_slots.specs.invariants.OffsetWords.{name_number, AreWords};
-ghost use Rattle.abi_slots.specs.Listing.{is_direct, call, push_all, calls_in};
+ghost use Rattle.abi_primary.specs.PrimaryBase.{is_direct_primary};
+ghost use Rattle.abi_slots.specs.Listing.{call, push_all, calls_in};
 ghost use Rattle.abi_slots.specs.Rows.{is_chosen, class_of_base, AreOwn};
 
 use crate::offset_tables::OffsetTable;
@@ -28,7 +29,7 @@ use std::alloc::Global;
 pub type FunctionList = Sequence<FunctionId>;
 
 fn is_direct(primary: Primary, b: ClassId) -> bool
-    ensures { result ≡ is_direct primary b }
+    ensures { result ≡ is_direct_primary primary b }
 {
     match primary {
         Primary::None => false,

@@ -9,14 +9,13 @@ use Rattle.cxx_hierarchy.specs.declared.records.Base.{Base}
 use Rattle.cxx_hierarchy.specs.Classes.{Classes, bases_of}
 use Rattle.cxx_hierarchy.specs.Hierarchies.{IsHierarchy}
 use Rattle.cxx_subobject.specs.declared.Subobject.{Subobject}
-use Rattle.cxx_subobject.specs.Subobjects.{IsSubobject, whole, shared, shared_base, whole_of, class_of}
+use Rattle.cxx_subobject.specs.Subobjects.{IsSubobject, whole, shared, shared_base, whole_of, class_of, is_shared_root}
 use Rattle.cxx_subobject.specs.Preorder.{preorder}
 use Rattle.cxx_subobject.specs.VirtualBases.{virtual_bases}
 use Rattle.cxx_subobject.proofs.TestLemmas.{class_below}
 use Rattle.abi_primary.specs.Kinds.{IsDynamic}
 use Rattle.abi_primary.proofs.KindLemmas.{base_dynamic}
 use Rattle.abi_sound.specs.Places.{Places}
-use Rattle.abi_slots.specs.Listing.{is_virtual_root}
 use Rattle.abi_slots.specs.Views.{IsView, is_dynamic, is_dynamic_class}
 use Rattle.abi_slots.proofs.Lists.{Item, item_none, item_split, item_cases, from_map, from_filter, from_flat}
 use Rattle.abi_slots.proofs.Bases.{item_preorder, item_virtual}
@@ -113,8 +112,8 @@ dynamic_class h keeps (Some d) e = (d, refl, test_dynamic h keeps d e)
 served_part : (h : Classes) → IsHierarchy h → (l : Places) (d : ClassId) (s : Subobject) → Item (filter (needs_word h l) (preorder h d)) s → IsDynamicPart h d s
 served_part h keeps l d s i =
     let r = from_filter (needs_word h l) (preorder h d) s i in
-    let inner = and_parts (is_proper_at s.root s.path) (is_dynamic_class h (class_of s) && ((class_has_virtual h (class_of s) || is_virtual_root s.root) && not (ends_in_primary l s.path))) r.1 in
-    let dyn = and_parts (is_dynamic_class h (class_of s)) ((class_has_virtual h (class_of s) || is_virtual_root s.root) && not (ends_in_primary l s.path)) inner.1 in
+    let inner = and_parts (is_proper_at s.root s.path) (is_dynamic_class h (class_of s) && ((class_has_virtual h (class_of s) || is_shared_root s.root) && not (ends_in_primary l s.path))) r.1 in
+    let dyn = and_parts (is_dynamic_class h (class_of s)) ((class_has_virtual h (class_of s) || is_shared_root s.root) && not (ends_in_primary l s.path)) inner.1 in
     let k = dynamic_class h keeps (class_of s) dyn.0 in
     record { class = k.0; valid = item_preorder h keeps d s r.0; of_class = k.1; dynamic = k.2 }
 

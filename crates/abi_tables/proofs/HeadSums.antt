@@ -21,11 +21,11 @@ use Rattle.foundation.proofs.Truth.{is_false}
 use Rattle.foundation.proofs.Members.{has_at}
 use Rattle.abi_primary.specs.declared.Primary.{Primary}
 use Rattle.abi_primary.specs.declared.Primary.TheVariants.{None as NoPrimary, Direct, Virtual}
-use Rattle.abi_primary.specs.PrimaryBase.{is_virtual_primary}
+use Rattle.abi_primary.specs.PrimaryBase.{is_virtual_primary, is_direct_primary}
 use Rattle.abi_sound.specs.Places.{Places}
 use Rattle.abi_sound.specs.Sound.{IsSoundClass, is_primary_of}
-use Rattle.abi_slots.specs.Listing.{is_direct}
-use Rattle.abi_slots.specs.Views.{View, seen, is_some, next_by, next_in, next, is_dynamic, is_dynamic_class, is_first, is_head, by_part}
+use Rattle.abi_sound.specs.Chains.{is_subobject_in}
+use Rattle.abi_slots.specs.Views.{View, seen, next_by, next_in, next, is_dynamic, is_dynamic_class, is_first, is_head, by_part}
 use Rattle.abi_slots.specs.Groups.{is_shared_base}
 use Rattle.abi_slots.proofs.Lists.{any_item, item_any, found_passes}
 use Rattle.abi_slots.proofs.Bases.{preorder_item, item_preorder}
@@ -55,7 +55,7 @@ head_weight h l x t = if is_head h l x t then table_words h l x t else 0
 
 module _ (h : Classes) (l : Places) (x : View) (set : Setting h l x) where
   -- the one whose next is one class further down is the one that directly derives it
-  direct_from : (u t : Subobject) (j k b : ClassId) → IsSubobject h x.class u → IsSubobject h x.class t → class_of u ≡ Some j → class_of t ≡ Some k → (p : Primary) → l.primary j ≡ p → next_by l x u p ≡ Some (subobject t.root (t.path ++ b ∷ [])) → is_direct (l.primary k) b ≡ true
+  direct_from : (u t : Subobject) (j k b : ClassId) → IsSubobject h x.class u → IsSubobject h x.class t → class_of u ≡ Some j → class_of t ≡ Some k → (p : Primary) → l.primary j ≡ p → next_by l x u p ≡ Some (subobject t.root (t.path ++ b ∷ [])) → is_direct_primary (l.primary k) b ≡ true
   direct_from u t j k b of_u of_t class_u class_t NoPrimary is e = absurd (cc)
   direct_from u t j k b of_u of_t class_u class_t (Direct d) is e =
       let one : subobject u.root (u.path ++ d ∷ []) ≡ subobject t.root (t.path ++ b ∷ []) = same_some _ _ e in
@@ -64,24 +64,24 @@ module _ (h : Classes) (l : Places) (x : View) (set : Setting h l x) where
       let last : d ≡ b = same_some d b (sym (class_below u.path j d class_u) ∙ ap class_of_path paths ∙ class_below t.path k b class_t) in
       let above : j ≡ k = same_some j k (sym class_u ∙ ap class_of_path front ∙ class_t) in
       let primary : l.primary k ≡ Direct b = ap l.primary (sym above) ∙ is ∙ ap Direct last in
-      ap (λ p. is_direct p b) primary ∙ eq-eqb b.0 b.0 refl
+      ap (λ p. is_direct_primary p b) primary ∙ eq-eqb b.0 b.0 refl
   direct_from u t j k b of_u of_t class_u class_t (Virtual w) is e =
       let held = held_if (l.holder x.complete w) (seen x u) (subobject t.root (t.path ++ b ∷ [])) w e in
       let paths : w ∷ [] ≡ t.path ++ b ∷ [] = ap (λ (z : Subobject). z.path) held.base in
       absurd (some_path h x.class t of_t (sym ((same_from_push [] t.path w b paths).0)))
 
-  first_below : (t : Subobject) (k b : ClassId) → IsSubobject h x.class t → class_of t ≡ Some k → is_first h l x (subobject t.root (t.path ++ b ∷ [])) ≡ not (is_direct (l.primary k) b)
+  first_below : (t : Subobject) (k b : ClassId) → IsSubobject h x.class t → class_of t ≡ Some k → is_first h l x (subobject t.root (t.path ++ b ∷ [])) ≡ not (is_direct_primary (l.primary k) b)
   first_below t k b valid class =
       let s = subobject t.root (t.path ++ b ∷ []) in
-      ap not (same_bool (list_any (λ u. is_some (next l x u) s) (preorder h x.class)) (is_direct (l.primary k) b)
+      ap not (same_bool (list_any (λ u. is_subobject_in (next l x u) s) (preorder h x.class)) (is_direct_primary (l.primary k) b)
       (λ e.
-      let r = item_any (λ u. is_some (next l x u) s) (preorder h x.class) e in
+      let r = item_any (λ u. is_subobject_in (next l x u) s) (preorder h x.class) e in
       let there = item_preorder h set.keeps x.class r.0 r.1 in
       let j = class_there h x.class r.0 there in
       direct_from r.0 t j.0 k b there valid j.1 class (l.primary j.0) refl (subst (λ o. next_in l x r.0 o ≡ Some s) j.1 (is_held (next l x r.0) s r.2)))
       (λ e.
       let goes : next l x t ≡ Some s = ap (next_in l x t) class ∙ ap (next_by l x t) (direct_is (l.primary k) b e) in
-      any_item (λ u. is_some (next l x u) s) (preorder h x.class) t (preorder_item h set.keeps x.class t valid) (ap (λ o. is_some o s) goes ∙ same_itself s)))
+      any_item (λ u. is_subobject_in (next l x u) s) (preorder h x.class) t (preorder_item h set.keeps x.class t valid) (ap (λ o. is_subobject_in o s) goes ∙ same_itself s)))
 
   edge_weight : (root : Root) → WeighsEdges h l x.class root (head_weight h l x) (head_words h l)
   edge_weight root = record {
@@ -89,12 +89,12 @@ module _ (h : Classes) (l : Places) (x : View) (set : Setting h l x) where
         let b = base.class in
         let s = subobject t.root (t.path ++ b ∷ []) in
         let of_s : class_of s ≡ Some b = class_below t.path k b class in
-        let head : is_head h l x s ≡ (is_dynamic h b && not (is_direct (l.primary k) b)) = ap (λ o. is_dynamic_class h o && is_first h l x s) of_s ∙ ap (λ c. is_dynamic h b && c) (first_below t k b valid class) in
+        let head : is_head h l x s ≡ (is_dynamic h b && not (is_direct_primary (l.primary k) b)) = ap (λ o. is_dynamic_class h o && is_first h l x s) of_s ∙ ap (λ c. is_dynamic h b && c) (first_below t k b valid class) in
         let flat : is_shared_base (seen x s) ≡ false = by_seen t k b valid class in
         let words : table_words h l x s ≡ words_of_class h l false (Some b) = ap (words_of_class h l (is_shared_base (seen x s))) of_s ∙ ap (λ f. words_of_class h l f (Some b)) flat in
         ap (λ c. if c then table_words h l x s else 0) head
-        ∙ ap (λ n. if is_dynamic h b && not (is_direct (l.primary k) b) then n else 0) words
-        ∙ side_flags (is_dynamic h b) (is_direct (l.primary k) b) base.is_virtual (words_of_class h l false (Some b)) way;
+        ∙ ap (λ n. if is_dynamic h b && not (is_direct_primary (l.primary k) b) then n else 0) words
+        ∙ side_flags (is_dynamic h b) (is_direct_primary (l.primary k) b) base.is_virtual (words_of_class h l false (Some b)) way;
   }
     where
       class_seen : (t : Subobject) (k : ClassId) → IsSubobject h x.class t → class_of t ≡ Some k → (j : ClassId) × (class_of (seen x t) ≡ Some j)
@@ -105,8 +105,8 @@ module _ (h : Classes) (l : Places) (x : View) (set : Setting h l x) where
 
   -- the whole is in no other's chain
   whole_first : is_first h l x (whole_of x.class) ≡ true
-  whole_first = ap not (is_false (list_any (λ u. is_some (next l x u) (whole_of x.class)) (preorder h x.class)) (λ e.
-      let r = item_any (λ u. is_some (next l x u) (whole_of x.class)) (preorder h x.class) e in
+  whole_first = ap not (is_false (list_any (λ u. is_subobject_in (next l x u) (whole_of x.class)) (preorder h x.class)) (λ e.
+      let r = item_any (λ u. is_subobject_in (next l x u) (whole_of x.class)) (preorder h x.class) e in
       let there = item_preorder h set.keeps x.class r.0 r.1 in
       let j = class_there h x.class r.0 there in
       by_primary r.0 there (l.primary j.0) (subst (λ o. next_in l x r.0 o ≡ Some (whole_of x.class)) j.1 (is_held (next l x r.0) (whole_of x.class) r.2))))
@@ -139,9 +139,9 @@ group_sum h l x set =
 -- a virtual base has a table of its own where no subobject of the view holds it
 pub first_shared : (h : Classes) (l : Places) (x : View) → Setting h l x → IsSoundClass h l x.complete → (v : ClassId) → HasVirtualBase h x.class v → (b : Bool) → IsTrue b ↔ IsHeldIn h l x.complete x.at_sub v → is_first h l x (shared_base v) ≡ not b
 first_shared h l x set laws v has b test =
-    ap not (same_bool (list_any (λ u. is_some (next l x u) (shared_base v)) (preorder h x.class)) b
+    ap not (same_bool (list_any (λ u. is_subobject_in (next l x u) (shared_base v)) (preorder h x.class)) b
     (λ e.
-    let r = item_any (λ u. is_some (next l x u) (shared_base v)) (preorder h x.class) e in
+    let r = item_any (λ u. is_subobject_in (next l x u) (shared_base v)) (preorder h x.class) e in
     let there = item_preorder h set.keeps x.class r.0 r.1 in
     let j = class_there h x.class r.0 there in
     as_true b (test.1 (by_primary r.0 there (l.primary j.0) (subst (λ o. next_in l x r.0 o ≡ Some (shared_base v)) j.1 (is_held (next l x r.0) (shared_base v) r.2)))))
@@ -156,8 +156,8 @@ first_shared h l x set laws v has b test =
     let class : class_of held.holder ≡ Some j.0 = ap class_of k.joined ∙ seen_class h l x set k.part j.0 valid j.1 in
     let primary : l.primary j.0 ≡ Virtual v = virtual_is (l.primary j.0) v (sym (ap (is_primary_of l v) class) ∙ found.1) in
     let there : l.holder x.complete v ≡ Some (seen x k.part) = held.is ∙ ap (λ s. Some s) k.joined in
-    let goes : next l x k.part ≡ Some (shared_base v) = ap (next_in l x k.part) j.1 ∙ ap (next_by l x k.part) primary ∙ ap (λ o. if is_some o (seen x k.part) then Some (shared_base v) else None) there ∙ ap (λ c. if c then Some (shared_base v) else None) (same_itself (seen x k.part)) in
-    any_item (λ u. is_some (next l x u) (shared_base v)) (preorder h x.class) k.part (preorder_item h set.keeps x.class k.part valid) (ap (λ o. is_some o (shared_base v)) goes ∙ same_itself (shared_base v))))
+    let goes : next l x k.part ≡ Some (shared_base v) = ap (next_in l x k.part) j.1 ∙ ap (next_by l x k.part) primary ∙ ap (λ o. if is_subobject_in o (seen x k.part) then Some (shared_base v) else None) there ∙ ap (λ c. if c then Some (shared_base v) else None) (same_itself (seen x k.part)) in
+    any_item (λ u. is_subobject_in (next l x u) (shared_base v)) (preorder h x.class) k.part (preorder_item h set.keeps x.class k.part valid) (ap (λ o. is_subobject_in o (shared_base v)) goes ∙ same_itself (shared_base v))))
   where
     as_true : (b : Bool) → IsTrue b → b ≡ true
     as_true true t = refl

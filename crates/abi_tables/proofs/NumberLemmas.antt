@@ -18,7 +18,7 @@ use Rattle.cxx_subobject.proofs.VirtualBaseLemmas.{listed_below}
 use Rattle.foundation.proofs.Truth.{split}
 use Rattle.foundation.proofs.Members.{Has, contains_from_has}
 use Rattle.abi_sound.specs.Places.{Places}
-use Rattle.abi_slots.specs.Listing.{is_direct}
+use Rattle.abi_primary.specs.PrimaryBase.{is_direct_primary}
 use Rattle.abi_tables.specs.Counts.{vtt_words, AreVttLengths}
 use Rattle.abi_vtt.specs.Vtts.{is_filled, has_vtt}
 use Rattle.abi_tables.specs.invariants.Weights.{side, sides, AreNumbersTo, AreNumbers, number_by_class, cut, base_words, sub_words}
@@ -74,7 +74,7 @@ side_cut h keeps l f heads k bases are known is =
     ∙ cut_same (side l (number_by_class heads) k) (side l f k) (bases_of h k) (λ base has.
     let less = keeps.bases k base (contains_from_has (bases_of h k) base has) in
     let here : number_by_class heads base.class ≡ cut (f base.class) = are.each base.class (omega arith) in
-    split (base.is_virtual || is_direct (l.primary k) base.class) (λ b. cut (if b then 0 else number_by_class heads base.class) ≡ cut (if b then 0 else f base.class)) (λ e. refl) (λ e. omega arith))
+    split (base.is_virtual || is_direct_primary (l.primary k) base.class) (λ b. cut (if b then 0 else number_by_class heads base.class) ≡ cut (if b then 0 else f base.class)) (λ e. refl) (λ e. omega arith))
 
 pub own_cut : (h : Classes) → IsHierarchy h → (f : ClassId → ℕ) (weights sums : List ℕ) (c : ClassId) (bases : List (Base ClassId)) (below value : ℕ) → AreNumbers h f weights → AreNumbersTo c.0 (own_of f h) sums → c.0 < length h → bases ≡ bases_of h c →
     below ≡ cut (own_bases (number_by_class sums) bases) → value ≡ cut (number_by_class weights c + below) → value ≡ cut (own_of f h c)

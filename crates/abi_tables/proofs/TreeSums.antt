@@ -20,7 +20,7 @@ use Rattle.cxx_subobject.proofs.VirtualBaseLemmas.{virtual_listed, listed_virtua
 use Rattle.foundation.proofs.Truth.{split}
 use Rattle.foundation.proofs.Members.{Has, EachOnce, contains_from_has}
 use Rattle.abi_sound.specs.Places.{Places}
-use Rattle.abi_slots.specs.Listing.{is_direct}
+use Rattle.abi_primary.specs.PrimaryBase.{is_direct_primary}
 use Rattle.abi_slots.proofs.Chains.{down_valid}
 use Rattle.abi_tables.specs.invariants.Weights.{side, sides, sides_of}
 use Rattle.cxx_subobject.proofs.OwnTrees.{own_tree, own_below, by_roots, roots_have, have_roots, roots_once}
@@ -63,14 +63,14 @@ module _ (h : Classes) (keeps : IsHierarchy h) (l : Places) (top : ClassId) (roo
       ∙ ap (λ k. f s + k) (sum_flat f (own_below h n s) (bases_of h c) ∙ sum_same _ (λ (base : Base ClassId). side l w c base + (if base.is_virtual then 0 else own_within (sides h l w) h n base.class)) (bases_of h c) (λ base has.
       let listed = contains_from_has (bases_of h c) base has in
       let less = keeps.bases c base listed in
-      split base.is_virtual (λ b. base.is_virtual ≡ b → sum_by f (if b then [] else own_tree h n base.class (base_subobject s base)) ≡ (if b || is_direct (l.primary c) base.class then 0 else w base.class) + (if b then 0 else own_within (sides h l w) h n base.class))
+      split base.is_virtual (λ b. base.is_virtual ≡ b → sum_by f (if b then [] else own_tree h n base.class (base_subobject s base)) ≡ (if b || is_direct_primary (l.primary c) base.class then 0 else w base.class) + (if b then 0 else own_within (sides h l w) h n base.class))
       (λ e same. refl)
       (λ e same.
       let down = base_down s base same in
       let here : f (base_subobject s base) ≡ side l w c base = ap f down ∙ weighs.each s c base at valid class same in
       let there : IsSubobject h top (base_subobject s base) = subst (λ t. IsSubobject h top t) (sym down) (down_valid h top c base.class s valid class (edge h c base false listed same)) in
       down_sum n base.class (base_subobject s base) (omega arith) (ap (λ (t : Subobject). t.root) down ∙ at) there (base_class s c base class)
-      ∙ ap (λ k. k + own_within (sides h l w) h n base.class) (here ∙ ap (λ b. if b || is_direct (l.primary c) base.class then 0 else w base.class) same))
+      ∙ ap (λ k. k + own_within (sides h l w) h n base.class) (here ∙ ap (λ b. if b || is_direct_primary (l.primary c) base.class then 0 else w base.class) same))
       refl)
       ∙ sum_two (side l w c) (λ (base : Base ClassId). if base.is_virtual then 0 else own_within (sides h l w) h n base.class) (bases_of h c))
 

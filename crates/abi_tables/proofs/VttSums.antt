@@ -13,7 +13,7 @@ use Rattle.cxx_hierarchy.specs.VirtualBases.{further}
 use Rattle.cxx_subobject.specs.declared.Root.{Root}
 use Rattle.cxx_subobject.specs.declared.Root.TheVariants.{Whole, Shared}
 use Rattle.cxx_subobject.specs.declared.Subobject.{Subobject}
-use Rattle.cxx_subobject.specs.Subobjects.{subobject, shared_base, whole_of, class_of, class_of_path}
+use Rattle.cxx_subobject.specs.Subobjects.{subobject, shared_base, whole_of, class_of, class_of_path, is_shared_root}
 use Rattle.cxx_subobject.specs.Preorder.{preorder}
 use Rattle.cxx_subobject.specs.VirtualBases.{virtual_bases}
 use Rattle.cxx_subobject.specs.invariants.Counts.{own_bases, own_within}
@@ -24,7 +24,7 @@ use Rattle.cxx_subobject.proofs.VirtualBaseLemmas.{has_virtual as virtual_there,
 use Rattle.foundation.proofs.Truth.{split, is_false}
 use Rattle.foundation.proofs.Members.{Has, contains_from_has}
 use Rattle.abi_sound.specs.Places.{Places}
-use Rattle.abi_slots.specs.Listing.{is_direct, is_virtual_root}
+use Rattle.abi_primary.specs.PrimaryBase.{is_direct_primary}
 use Rattle.abi_slots.specs.Views.{is_dynamic, is_dynamic_class}
 use Rattle.abi_vtt.specs.Vtts.{item, is_filled, has_vtt, class_has_virtual, is_built_base, is_proper_at, ends_in_primary, needs_word, words_of_bases, extended_by, sub_items, shared_items, vtt_items}
 use Rattle.abi_tables.specs.Counts.{vtt_words}
@@ -33,10 +33,10 @@ use Rattle.abi_tables.proofs.TreeSums.{WeighsEdges, all_sum, sum_filter}
 
 -- the words of a sub-VTT for the bases of its view
 
-ends_below : (l : Places) (path : List ClassId) (k b : ClassId) → class_of_path path ≡ Some k → ends_in_primary l (path ++ b ∷ []) ≡ is_direct (l.primary k) b
+ends_below : (l : Places) (path : List ClassId) (k b : ClassId) → class_of_path path ≡ Some k → ends_in_primary l (path ++ b ∷ []) ≡ is_direct_primary (l.primary k) b
 ends_below l [] k b e = cc
-ends_below l (c ∷ []) k b e = let same : c ≡ k = cc in ap (λ d. is_direct (l.primary d) b) same
-ends_below l (c ∷ d ∷ []) k b e = let same : d ≡ k = cc in ap (λ f. is_direct (l.primary f) b) same
+ends_below l (c ∷ []) k b e = let same : c ≡ k = cc in ap (λ d. is_direct_primary (l.primary d) b) same
+ends_below l (c ∷ d ∷ []) k b e = let same : d ≡ k = cc in ap (λ f. is_direct_primary (l.primary f) b) same
 ends_below l (c ∷ d ∷ f ∷ path) k b e = ends_below l (d ∷ f ∷ path) k b e
 
 proper_below : (r : Root) (path : List ClassId) (k b : ClassId) → class_of_path path ≡ Some k → is_proper_at r (path ++ b ∷ []) ≡ true
@@ -72,28 +72,28 @@ top_flags true false = refl
 abbrev word_weight : Classes → Places → Subobject → ℕ
 word_weight h l t = one_if (needs_word h l t)
 
-needs_below : (h : Classes) (l : Places) (t : Subobject) (k b : ClassId) → class_of t ≡ Some k → needs_word h l (subobject t.root (t.path ++ b ∷ [])) ≡ (is_dynamic h b && ((has_vtt h b || is_virtual_root t.root) && not (is_direct (l.primary k) b)))
+needs_below : (h : Classes) (l : Places) (t : Subobject) (k b : ClassId) → class_of t ≡ Some k → needs_word h l (subobject t.root (t.path ++ b ∷ [])) ≡ (is_dynamic h b && ((has_vtt h b || is_shared_root t.root) && not (is_direct_primary (l.primary k) b)))
 needs_below h l t k b class =
     let path = t.path ++ b ∷ [] in
     let of_s : class_of_path path ≡ Some b = class_below t.path k b class in
-    ap (λ p. p && (is_dynamic_class h (class_of_path path) && ((class_has_virtual h (class_of_path path) || is_virtual_root t.root) && not (ends_in_primary l path)))) (proper_below t.root t.path k b class)
-    ∙ ap (λ o. is_dynamic_class h o && ((class_has_virtual h o || is_virtual_root t.root) && not (ends_in_primary l path))) of_s
-    ∙ ap (λ e. is_dynamic h b && ((has_vtt h b || is_virtual_root t.root) && not e)) (ends_below l t.path k b class)
+    ap (λ p. p && (is_dynamic_class h (class_of_path path) && ((class_has_virtual h (class_of_path path) || is_shared_root t.root) && not (ends_in_primary l path)))) (proper_below t.root t.path k b class)
+    ∙ ap (λ o. is_dynamic_class h o && ((class_has_virtual h o || is_shared_root t.root) && not (ends_in_primary l path))) of_s
+    ∙ ap (λ e. is_dynamic h b && ((has_vtt h b || is_shared_root t.root) && not e)) (ends_below l t.path k b class)
 
 whole_edges : (h : Classes) (l : Places) (c : ClassId) → WeighsEdges h l c Whole (word_weight h l) (virtual_word h)
 whole_edges h l c = record {
   each = λ t k base at valid class way.
       let b = base.class in
-      ap one_if (needs_below h l t k b class ∙ ap (λ r. is_dynamic h b && ((has_vtt h b || is_virtual_root r) && not (is_direct (l.primary k) b))) at)
-      ∙ whole_flags (is_dynamic h b) (has_vtt h b) (is_direct (l.primary k) b) base.is_virtual way;
+      ap one_if (needs_below h l t k b class ∙ ap (λ r. is_dynamic h b && ((has_vtt h b || is_shared_root r) && not (is_direct_primary (l.primary k) b))) at)
+      ∙ whole_flags (is_dynamic h b) (has_vtt h b) (is_direct_primary (l.primary k) b) base.is_virtual way;
 }
 
 shared_edges : (h : Classes) (l : Places) (c v : ClassId) → WeighsEdges h l c (Shared v) (word_weight h l) (dynamic_word h)
 shared_edges h l c v = record {
   each = λ t k base at valid class way.
       let b = base.class in
-      ap one_if (needs_below h l t k b class ∙ ap (λ r. is_dynamic h b && ((has_vtt h b || is_virtual_root r) && not (is_direct (l.primary k) b))) at)
-      ∙ shared_flags (is_dynamic h b) (has_vtt h b) (is_direct (l.primary k) b) base.is_virtual way;
+      ap one_if (needs_below h l t k b class ∙ ap (λ r. is_dynamic h b && ((has_vtt h b || is_shared_root r) && not (is_direct_primary (l.primary k) b))) at)
+      ∙ shared_flags (is_dynamic h b) (has_vtt h b) (is_direct_primary (l.primary k) b) base.is_virtual way;
 }
 
 bases_length : (h : Classes) → IsHierarchy h → (l : Places) (x : Subobject) (c : ClassId) → length (words_of_bases h l x c) ≡ base_words h l c

@@ -7,7 +7,7 @@ ghost use Rattle.cxx_hierarchy.specs.Classes.{Classes};
 ghost use Rattle.cxx_subobject.specs.VirtualBases.{virtual_bases};
 ghost use Rattle.cxx_subobject.specs.invariants.Counts.{own_bases, own_of};
 ghost use Rattle.abi_sound.specs.Places.{places_of};
-ghost use Rattle.abi_slots.specs.Listing.{is_direct};
+ghost use Rattle.abi_primary.specs.PrimaryBase.{is_direct_primary};
 ghost use Rattle.abi_tables.specs.Counts.{most_words};
 ghost use Rattle.abi_tables.specs.invariants.Weights.{AreNumbers, cut, number_by_class, side, sides, sides_of};
 
@@ -41,7 +41,7 @@ pub(crate) fn number_of(numbers: &[u32], c: ClassId) -> u32
 
 /// Whether the primary base is this one, and not virtual.
 fn is_direct(primary: Primary, b: ClassId) -> bool
-    ensures { result ≡ is_direct primary b }
+    ensures { result ≡ is_direct_primary primary b }
 {
     match primary {
         Primary::None => false,

@@ -21,7 +21,8 @@ use Rattle.abi_slots.specs.declared.words.EntryKey.{EntryKey}
 use Rattle.cxx_overrider.specs.Virtuals.{same_name, own}
 use Rattle.abi_slots.specs.Listing.{entry_key, same_entry_key, kinds_in, keys_of, own_keys, shares, primary_entries, new_entries, entries_in, entries, or_itself, listing}
 use Rattle.abi_slots.specs.Slots.{declared_at}
-use Rattle.abi_slots.specs.Views.{View, is_some, next_by, next_in, next, along_chain, first_in}
+use Rattle.abi_sound.specs.Chains.{is_subobject_in}
+use Rattle.abi_slots.specs.Views.{View, next_by, next_in, next, along_chain, first_in}
 use Rattle.abi_slots.specs.Groups.{declares_in, declares_at}
 use Rattle.abi_slots.proofs.Bases.{contains_item}
 use Rattle.abi_slots.proofs.Chains.{Setting, same_some, known, next_under, walk_under}
@@ -116,7 +117,7 @@ module _ (h : Classes) (l : Places) (x : View) (set : Setting h l x) where
       by_primary (Direct b) f =
           let same : subobject s.root (s.path ++ b ∷ []) ≡ u = same_some _ u f in
           ap (entries h l) (same_some b d (sym (class_below s.path c b e) ∙ ap class_of same ∙ of_u))
-      by_primary (Virtual v) f = split (is_some (l.holder x.complete v) (Rattle.abi_slots.specs.Views.seen x s)) (λ b. (if b then Some (shared_base v) else None) ≡ Some u → entries h l v ≡ entries h l d)
+      by_primary (Virtual v) f = split (is_subobject_in (l.holder x.complete v) (Rattle.abi_slots.specs.Views.seen x s)) (λ b. (if b then Some (shared_base v) else None) ≡ Some u → entries h l v ≡ entries h l d)
           (λ t g. let same : shared_base v ≡ u = same_some _ u g in ap (entries h l) (same_some v d (ap class_of same ∙ of_u)))
           (λ t g. cc) f
 

@@ -15,7 +15,8 @@ use Rattle.cxx_subobject.specs.Preorder.{preorder}
 use Rattle.cxx_subobject.specs.VirtualBases.{shared_class, virtual_bases}
 use Rattle.cxx_subobject.proofs.TreeLemmas.{preorder_lists, subobject_same, same_itself}
 use Rattle.abi_sound.specs.Places.{Places}
-use Rattle.abi_slots.specs.Views.{View, is_some, next, is_dynamic, is_dynamic_class, is_first, is_head, of_root, heads}
+use Rattle.abi_sound.specs.Chains.{is_subobject_in}
+use Rattle.abi_slots.specs.Views.{View, next, is_dynamic, is_dynamic_class, is_first, is_head, of_root, heads}
 use Rattle.abi_slots.proofs.Chains.{same_some}
 use Rattle.abi_slots.proofs.Complete.{same_bool}
 use Rattle.abi_slots.proofs.Heads.{dynamic_test, test_dynamic}
@@ -27,7 +28,7 @@ use Rattle.abi_vtable.proofs.Lists.{map_more}
 use Rattle.cxx_hierarchy.proofs.Listed.{get_map}
 
 -- the number of the next one says which that is
-number_test : (list : List Subobject) → ((i j : ℕ) (s : Subobject) → slice_get list i ≡ Some s → slice_get list j ≡ Some s → i ≡ j) → (n : ℕ) (s : Subobject) → slice_get list n ≡ Some s → (o : Option ℕ) (p : Option Subobject) → NumbersSubobject list o p → is_some p s ≡ leads_to n o
+number_test : (list : List Subobject) → ((i j : ℕ) (s : Subobject) → slice_get list i ≡ Some s → slice_get list j ≡ Some s → i ≡ j) → (n : ℕ) (s : Subobject) → slice_get list n ≡ Some s → (o : Option ℕ) (p : Option Subobject) → NumbersSubobject list o p → is_subobject_in p s ≡ leads_to n o
 number_test list once n s at _ _ nothing = refl
 number_test list once n s at _ _ (number m t there) = same_bool (same_subobject t s) (nat_eq m n)
     (λ e. eq-eqb m n (once m n s (there ∙ ap (λ a. Some a) (subobject_same t s e)) at))
@@ -49,7 +50,7 @@ module _ (h : Classes) (l : Places) (v : ViewParts) (kept : AreKeptParts h l v) 
 
   first_test : (n : ℕ) (part : Part) → slice_get v.parts n ≡ Some part → is_first h l (view_of_parts v) part.at ≡ not (list_any (λ (other : Part). leads_to n other.next) v.parts)
   first_test n part e =
-      let test = λ (u : Subobject). is_some (next l (view_of_parts v) u) part.at in
+      let test = λ (u : Subobject). is_subobject_in (next l (view_of_parts v) u) part.at in
       let once = (preorder_lists h v.class kept.keeps).once in
       ap (λ xs. not (list_any test xs)) (sym kept.view.parts.subobjects)
       ∙ ap not (any_alike at_of test (λ (other : Part). leads_to n other.next) v.parts

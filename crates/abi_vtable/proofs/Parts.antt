@@ -15,7 +15,8 @@ use Rattle.abi_primary.specs.declared.Primary.TheVariants.{None as NoPrimary, Di
 use Rattle.abi_sound.specs.declared.class_layout.ClassLayout.{ClassLayout}
 use Rattle.abi_sound.specs.Places.{Places, places_of}
 use Rattle.abi_sound.specs.Sound.{IsSoundLayout}
-use Rattle.abi_slots.specs.Views.{View, IsView, seen, is_some, next_by, next_in, next}
+use Rattle.abi_sound.specs.Chains.{is_subobject_in}
+use Rattle.abi_slots.specs.Views.{View, IsView, seen, next_by, next_in, next}
 use Rattle.abi_slots.proofs.Chains.{same_some, next_under}
 use Rattle.abi_slots.proofs.Loops.{pushed_more, pushed_all}
 use Rattle.abi_slots.proofs.Settings.{setting_of}
@@ -46,13 +47,13 @@ no_next l x s d e is = ap (next_in l x s) e ∙ ap (next_by l x s) is
 pub direct_next : (l : Places) (x : View) (s : Subobject) (d b : ClassId) → class_of s ≡ Some d → l.primary d ≡ Direct b → next l x s ≡ Some (subobject s.root (s.path ++ b ∷ []))
 direct_next l x s d b e is = ap (next_in l x s) e ∙ ap (next_by l x s) is
 
-by_holder : (l : Places) (x : View) (s t : Subobject) (d v : ClassId) (held : Bool) → class_of s ≡ Some d → l.primary d ≡ Virtual v → t ≡ seen x s → is_some (l.holder x.complete v) t ≡ held → next l x s ≡ (if held then Some (shared_base v) else None)
-by_holder l x s t d v held e is same test = ap (next_in l x s) e ∙ ap (next_by l x s) is ∙ ap (λ a. if is_some (l.holder x.complete v) a then Some (shared_base v) else None) (sym same) ∙ ap (λ b. if b then Some (shared_base v) else None) test
+by_holder : (l : Places) (x : View) (s t : Subobject) (d v : ClassId) (held : Bool) → class_of s ≡ Some d → l.primary d ≡ Virtual v → t ≡ seen x s → is_subobject_in (l.holder x.complete v) t ≡ held → next l x s ≡ (if held then Some (shared_base v) else None)
+by_holder l x s t d v held e is same test = ap (next_in l x s) e ∙ ap (next_by l x s) is ∙ ap (λ a. if is_subobject_in (l.holder x.complete v) a then Some (shared_base v) else None) (sym same) ∙ ap (λ b. if b then Some (shared_base v) else None) test
 
-pub held_next : (l : Places) (x : View) (s t : Subobject) (d v : ClassId) → class_of s ≡ Some d → l.primary d ≡ Virtual v → t ≡ seen x s → is_some (l.holder x.complete v) t ≡ true → next l x s ≡ Some (shared_base v)
+pub held_next : (l : Places) (x : View) (s t : Subobject) (d v : ClassId) → class_of s ≡ Some d → l.primary d ≡ Virtual v → t ≡ seen x s → is_subobject_in (l.holder x.complete v) t ≡ true → next l x s ≡ Some (shared_base v)
 held_next l x s t d v e is same test = by_holder l x s t d v true e is same test
 
-pub elsewhere_next : (l : Places) (x : View) (s t : Subobject) (d v : ClassId) → class_of s ≡ Some d → l.primary d ≡ Virtual v → t ≡ seen x s → is_some (l.holder x.complete v) t ≡ false → next l x s ≡ None
+pub elsewhere_next : (l : Places) (x : View) (s t : Subobject) (d v : ClassId) → class_of s ≡ Some d → l.primary d ≡ Virtual v → t ≡ seen x s → is_subobject_in (l.holder x.complete v) t ≡ false → next l x s ≡ None
 elsewhere_next l x s t d v e is same test = by_holder l x s t d v false e is same test
 
 pub no_number : (list : List Subobject) (o : Option Subobject) → o ≡ None → NumbersSubobject list None o

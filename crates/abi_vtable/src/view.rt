@@ -8,7 +8,8 @@ ghost use Rattle.cxx_subobject.specs.Subobjects.{IsSubobject, subobject, same_pa
 ghost use Rattle.cxx_subobject.specs.Preorder.{preorder};
 ghost use Rattle.abi_primary.specs.Kinds.{IsDynamic};
 ghost use Rattle.abi_sound.specs.Places.{places_of};
-ghost use Rattle.abi_slots.specs.Views.{IsView, seen, is_some, next};
+ghost use Rattle.abi_sound.specs.Chains.{is_subobject_in};
+ghost use Rattle.abi_slots.specs.Views.{IsView, seen, next};
 ghost use Rattle.abi_vtable.specs.invariants.Parts.{NumbersSubobject, IsViewPart, AreParts, AreStarts, IsViewParts, view_of_parts};
 
 use abi_primary::{Primary, is_dynamic};
@@ -152,7 +153,7 @@ fn is_holder<L: SoundLayout>(
 ) -> bool
     requires layout { L.lays_out layout.now h.now }
     requires known { c.0 < length h.now }
-    ensures { result ≡ is_some ((places_of h.now (L.rows layout.now)).holder c v) s.now }
+    ensures { result ≡ is_subobject_in ((places_of h.now (L.rows layout.now)).holder c v) s.now }
 {
     match layout.holder(c, v) {
         Some(holder) => is_same(holder, s),

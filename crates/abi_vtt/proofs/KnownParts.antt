@@ -8,12 +8,11 @@ use Rattle.cxx_hierarchy.specs.Classes.{Classes}
 use Rattle.cxx_hierarchy.specs.Hierarchies.{IsHierarchy}
 use Rattle.cxx_hierarchy.specs.VirtualBases.{HasVirtualBase}
 use Rattle.cxx_subobject.specs.declared.Subobject.{Subobject}
-use Rattle.cxx_subobject.specs.Subobjects.{IsSubobject, Leads, whole, shared, whole_of, class_of}
+use Rattle.cxx_subobject.specs.Subobjects.{IsSubobject, Leads, whole, shared, whole_of, class_of, is_shared_root}
 use Rattle.cxx_subobject.specs.Preorder.{preorder}
 use Rattle.cxx_subobject.proofs.PathLemmas.{base_before, virtual_below}
 use Rattle.abi_primary.specs.Kinds.{IsDynamic}
 use Rattle.abi_sound.specs.Places.{Places}
-use Rattle.abi_slots.specs.Listing.{is_virtual_root}
 use Rattle.abi_slots.specs.Views.{View, IsView, is_dynamic, is_dynamic_class}
 use Rattle.abi_slots.proofs.Chains.{same_some}
 use Rattle.abi_slots.proofs.Complete.{same_bool}
@@ -57,8 +56,8 @@ subobject_there h l v view parts n part same lt is = ap (λ xs. slice_get xs n) 
 pub word_noted : (h : Classes) → IsHierarchy h → (l : Places) (v : ViewParts) (tables : List (Option ℕ)) → IsViewParts h l v → AreServing h l (view_of_parts v) tables → (parts : List Part) (n : ℕ) (part : Part) → parts ≡ v.parts → n < length parts → part ≡ get_or parts n part → needs_word h l part.at ≡ true → HasNote tables n
 word_noted h keeps l v tables view serving parts n part same lt is needs =
     let of = view.parts.each n part (part_there h l v view parts n part same lt is) in
-    let rest = (and_parts (is_proper_at part.at.root part.at.path) (is_dynamic_class h (class_of part.at) && ((class_has_virtual h (class_of part.at) || is_virtual_root part.at.root) && not (ends_in_primary l part.at.path))) needs).1 in
-    let test = (and_parts (is_dynamic_class h (class_of part.at)) ((class_has_virtual h (class_of part.at) || is_virtual_root part.at.root) && not (ends_in_primary l part.at.path)) rest).0 in
+    let rest = (and_parts (is_proper_at part.at.root part.at.path) (is_dynamic_class h (class_of part.at) && ((class_has_virtual h (class_of part.at) || is_shared_root part.at.root) && not (ends_in_primary l part.at.path))) needs).1 in
+    let test = (and_parts (is_dynamic_class h (class_of part.at)) ((class_has_virtual h (class_of part.at) || is_shared_root part.at.root) && not (ends_in_primary l part.at.path)) rest).0 in
     serving.noted n part.at part.class (subobject_there h l v view parts n part same lt is) of.class (test_dynamic h keeps part.class (subst (λ o. is_dynamic_class h o ≡ true) of.class test))
 
 -- the whole comes first

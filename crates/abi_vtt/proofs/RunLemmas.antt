@@ -22,8 +22,9 @@ use Rattle.foundation.proofs.Truth.{split, not_both, is_false}
 use Rattle.abi_primary.specs.declared.Primary.{Primary}
 use Rattle.abi_primary.specs.declared.Primary.TheVariants.{None as NoPrimary, Direct, Virtual}
 use Rattle.abi_sound.specs.Places.{Places}
-use Rattle.abi_slots.specs.Listing.{is_direct}
-use Rattle.abi_slots.specs.Views.{View, seen, is_some, next_by, next_in, next, is_dynamic_class, is_first, is_head, of_root, heads}
+use Rattle.abi_primary.specs.PrimaryBase.{is_direct_primary}
+use Rattle.abi_sound.specs.Chains.{is_subobject_in}
+use Rattle.abi_slots.specs.Views.{View, seen, next_by, next_in, next, is_dynamic_class, is_first, is_head, of_root, heads}
 use Rattle.abi_slots.proofs.Lists.{Item, item_filter, from_filter, from_flat, any_item, item_any}
 use Rattle.abi_slots.proofs.Bases.{preorder_item}
 use Rattle.abi_slots.proofs.Chains.{is_held, same_some}
@@ -32,7 +33,7 @@ use Rattle.abi_vtt.specs.Vtts.{ends_in_primary, needs_word, class_has_virtual}
 use Rattle.abi_vtt.specs.Blocks.{is_front_head, table_run, IsFirstRun, IsFoundByClass, in_run, by_word}
 use Rattle.abi_vtt.proofs.BlockLemmas.{word_stands}
 
-pub direct_is : (p : Primary) (b : ClassId) → is_direct p b ≡ true → p ≡ Direct b
+pub direct_is : (p : Primary) (b : ClassId) → is_direct_primary p b ≡ true → p ≡ Direct b
 direct_is NoPrimary b e = cc
 direct_is (Direct d) b e = ap (λ a. Direct a) (same_id d b (eqb-true d.0 b.0 e))
 direct_is (Virtual v) b e = cc
@@ -57,8 +58,8 @@ primary_end l (c ∷ d ∷ f ∷ path) e =
     record { first = c; rest = r.first ∷ r.rest; base = r.base; is = ap (λ p. c ∷ p) r.is; primary = r.primary }
 
 end_primary : (l : Places) (c b : ClassId) (rest : List ClassId) → l.primary (last_of c rest) ≡ Direct b → ends_in_primary l ((c ∷ rest) ++ b ∷ []) ≡ true
-end_primary l c b [] e = ap (λ p. is_direct p b) e ∙ id_itself b
-end_primary l c b (d ∷ []) e = ap (λ p. is_direct p b) e ∙ id_itself b
+end_primary l c b [] e = ap (λ p. is_direct_primary p b) e ∙ id_itself b
+end_primary l c b (d ∷ []) e = ap (λ p. is_direct_primary p b) e ∙ id_itself b
 end_primary l c b (d ∷ f ∷ rest) e = end_primary l d b (f ∷ rest) e
 
 -- the subobject that directly derives it
@@ -100,7 +101,7 @@ next_ends l x u s e root = by_path u.path refl
     by_primary c rest is (Direct b) f g =
         let same : (c ∷ rest) ++ b ∷ [] ≡ s.path = ap (λ q. q ++ b ∷ []) (sym is) ∙ ap (λ (t : Subobject). t.path) (same_some (subobject u.root (u.path ++ b ∷ [])) s g) in
         subst (λ q. ends_in_primary l q ≡ true) same (end_primary l c b rest f)
-    by_primary c rest is (Virtual v) f g = split (is_some (l.holder x.complete v) (seen x u))
+    by_primary c rest is (Virtual v) f g = split (is_subobject_in (l.holder x.complete v) (seen x u))
         (λ b. (if b then Some (shared_base v) else None) ≡ Some s → ends_in_primary l s.path ≡ true)
         (λ t there. absurd (let r : Shared v ≡ s.root = ap (λ (t : Subobject). t.root) (same_some (shared_base v) s there) in let q = root in cc))
         (λ t there. absurd (cc))
@@ -112,14 +113,14 @@ next_ends l x u s e root = by_path u.path refl
 
 module _ (h : Classes) (keeps : IsHierarchy h) (l : Places) where
   -- a primary base is in the chain of its deriver
-  not_first : (x : View) (s : Subobject) → IsSubobject h x.class s → ends_in_primary l s.path ≡ true → list_any (λ u. is_some (next l x u) s) (preorder h x.class) ≡ true
+  not_first : (x : View) (s : Subobject) → IsSubobject h x.class s → ends_in_primary l s.path ≡ true → list_any (λ u. is_subobject_in (next l x u) s) (preorder h x.class) ≡ true
   not_first x s valid e =
       let d = derived h l x s valid e in
-      any_item (λ u. is_some (next l x u) s) (preorder h x.class) d.deriver (preorder_item h keeps x.class d.deriver d.valid) (ap (λ o. is_some o s) d.goes ∙ same_itself s)
+      any_item (λ u. is_subobject_in (next l x u) s) (preorder h x.class) d.deriver (preorder_item h keeps x.class d.deriver d.valid) (ap (λ o. is_subobject_in o s) d.goes ∙ same_itself s)
 
   first_by_path : (x : View) (s : Subobject) → IsSubobject h x.class s → s.root ≡ Whole → is_first h l x s ≡ not (ends_in_primary l s.path)
-  first_by_path x s valid root = ap not (same_bool (list_any (λ u. is_some (next l x u) s) (preorder h x.class)) (ends_in_primary l s.path)
-      (λ any. let r = item_any (λ u. is_some (next l x u) s) (preorder h x.class) any in next_ends l x r.0 s (is_held (next l x r.0) s r.2) root)
+  first_by_path x s valid root = ap not (same_bool (list_any (λ u. is_subobject_in (next l x u) s) (preorder h x.class)) (ends_in_primary l s.path)
+      (λ any. let r = item_any (λ u. is_subobject_in (next l x u) s) (preorder h x.class) any in next_ends l x r.0 s (is_held (next l x r.0) s r.2) root)
       (not_first x s valid))
 
   head_by_class : (x : View) (s : Subobject) → Has (of_root Whole (preorder h x.class)) s → is_head h l x s ≡ is_front_head h l s

@@ -7,12 +7,12 @@ use Rattle.cxx_hierarchy.specs.Classes.{Classes, bases_of}
 use Rattle.cxx_subobject.specs.declared.Root.{Root}
 use Rattle.cxx_subobject.specs.declared.Root.TheVariants.{Whole, Shared}
 use Rattle.cxx_subobject.specs.declared.Subobject.{Subobject}
-use Rattle.cxx_subobject.specs.Subobjects.{subobject, shared_base, whole_of, class_of}
+use Rattle.cxx_subobject.specs.Subobjects.{subobject, shared_base, whole_of, class_of, is_shared_root}
 use Rattle.cxx_subobject.specs.Preorder.{preorder}
 use Rattle.cxx_subobject.specs.VirtualBases.{virtual_bases}
 use Rattle.abi_primary.specs.Kinds.{IsDynamic}
 use Rattle.abi_sound.specs.Places.{Places}
-use Rattle.abi_slots.specs.Listing.{is_direct, is_virtual_root}
+use Rattle.abi_primary.specs.PrimaryBase.{is_direct_primary}
 use Rattle.abi_slots.specs.Views.{is_dynamic_class, heads, Serves}
 use Rattle.abi_slots.specs.Groups.{GoAlong}
 use Rattle.abi_slots.specs.declared.words.VttWord.{VttWord}
@@ -54,14 +54,14 @@ is_proper_at Whole (c ∷ d ∷ path) = true
 abbrev pub ends_in_primary : Places → List ClassId → Bool
 ends_in_primary l [] = false
 ends_in_primary l (c ∷ []) = false
-ends_in_primary l (c ∷ d ∷ []) = is_direct (l.primary c) d
+ends_in_primary l (c ∷ d ∷ []) = is_direct_primary (l.primary c) d
 ends_in_primary l (c ∷ d ∷ e ∷ path) = ends_in_primary l (d ∷ e ∷ path)
 
 -- a dynamic base that has virtual bases or lies below one (it is morally virtual), and is not the non-virtual primary base of
 -- the subobject that directly derives it
 abbrev pub needs_word : Classes → Places → Subobject → Bool
 needs_word h l s =
-    is_proper_at s.root s.path && (is_dynamic_class h (class_of s) && ((class_has_virtual h (class_of s) || is_virtual_root s.root) && not (ends_in_primary l s.path)))
+    is_proper_at s.root s.path && (is_dynamic_class h (class_of s) && ((class_has_virtual h (class_of s) || is_shared_root s.root) && not (ends_in_primary l s.path)))
 
 abbrev pub words_of_bases : Classes → Places → Subobject → ClassId → List VttEntry
 words_of_bases h l x c = map (item x) (filter (needs_word h l) (preorder h c))

@@ -3,7 +3,8 @@
 ghost use Rattle.std.specs.Prelude.{◌≡◌, ◌<◌, All, length};
 ghost use Rattle.cxx_hierarchy.specs.declared.records.ClassId.{ClassId};
 ghost use Rattle.abi_sound.specs.Places.{places_of};
-ghost use Rattle.abi_slots.specs.Listing.{is_direct, is_virtual_root};
+ghost use Rattle.abi_primary.specs.PrimaryBase.{is_direct_primary};
+ghost use Rattle.cxx_subobject.specs.Subobjects.{is_shared_root};
 ghost use Rattle.abi_vtt.specs.Vtts.{ends_in_primary, is_proper_at};
 
 use abi_primary::Primary;
@@ -13,7 +14,7 @@ use cxx_subobject::{Root, Subobject};
 
 /// Whether the primary base is this one, and not virtual.
 pub fn is_direct(primary: Primary, b: ClassId) -> bool
-    ensures { result ≡ is_direct primary b }
+    ensures { result ≡ is_direct_primary primary b }
 {
     match primary {
         Primary::None => false,
@@ -47,7 +48,7 @@ pub fn is_proper(s: &Subobject) -> bool
 
 /// Whether a root is that of a virtual base.
 pub fn is_shared(root: Root) -> bool
-    ensures { result ≡ is_virtual_root root }
+    ensures { result ≡ is_shared_root root }
 {
     match root {
         Root::Whole => false,

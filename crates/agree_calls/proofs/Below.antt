@@ -2,14 +2,13 @@
 use Rattle.std.proofs.Common.{◌≡◌, ℕ, true, Option, Some, None, List, ◌∷◌, ap, subst, ◌∙◌}
 use Rattle.code_ops.specs.Setups.{FunctionCode}
 use Rattle.agree_parts.specs.Heaps.{Heap}
-use Rattle.abi_slots.specs.Listing.{pointee}
 use Rattle.agree_relation.specs.Frames.{BodyStandsOver, HasVariables, IsBodyFrame, KeepsCall, PlaceNumbers, StandOver, body_below, call_kept, owner_result}
 use Rattle.agree_relation.specs.Goings.{Going}
 use Rattle.agree_relation.specs.Worlds.{World, world_classes}
 use Rattle.agree_statements.proofs.Tops.{body_on_top}
 use Rattle.agree_statements.specs.Registers.{body_on, frame_on}
 use Rattle.byte_machine.specs.Frames.{MachineFrame, Kept}
-use Rattle.cxx_overrider.specs.Functions.{return_of}
+use Rattle.cxx_overrider.specs.Functions.{return_of, pointee}
 use Rattle.cxx_overrider.specs.declared.FunctionId.{FunctionId}
 use Rattle.cxx_program.specs.declared.program.Owner.{Owner}
 use Rattle.cxx_program.specs.declared.program.Owner.TheVariants.{Function}

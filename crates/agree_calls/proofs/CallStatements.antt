@@ -4,7 +4,6 @@ use Rattle.agree_calls.proofs.Calling.{Calling}
 use Rattle.agree_calls.proofs.StatementMoves.{move_called}
 use Rattle.agree_calls.proofs.Kept.{taken_kept, unused_kept}
 use Rattle.code_blocks.specs.Blocks.{statement_ops}
-use Rattle.abi_slots.specs.Listing.{pointee}
 use Rattle.agree_relation.specs.Agrees.{Agrees}
 use Rattle.agree_relation.specs.Worlds.{world_classes, fixed}
 use Rattle.code_statements.specs.Rights.{result_class, result_taken, unused}
@@ -20,7 +19,7 @@ use Rattle.cxx_hierarchy.specs.declared.records.ClassId.{ClassId}
 use Rattle.cxx_hierarchy.specs.declared.records.Function.{Function as FunctionRecord}
 use Rattle.cxx_hierarchy.specs.declared.records.ValueType.{ValueType}
 use Rattle.cxx_hierarchy.specs.declared.records.ValueType.TheVariants.{Pointer as PointerType}
-use Rattle.cxx_overrider.specs.Functions.{return_of}
+use Rattle.cxx_overrider.specs.Functions.{return_of, pointee}
 use Rattle.cxx_program.specs.Typed.{IsCall, IsConverted, IsTyped, Scope, a_result, a_right, assigns, begins, calls}
 use Rattle.cxx_program.specs.declared.operand.Conversion.{Conversion}
 use Rattle.cxx_program.specs.declared.operand.Variable.{Variable}

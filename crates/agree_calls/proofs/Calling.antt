@@ -13,7 +13,6 @@ use Rattle.code_ops.specs.Setups.{FunctionCode}
 use Rattle.agree_parts.specs.Addresses.{address}
 use Rattle.abi_slots.specs.Groups.{return_for}
 use Rattle.abi_slots.specs.Images.{return_constant, return_vbase}
-use Rattle.abi_slots.specs.Listing.{pointee}
 use Rattle.agree_relation.specs.Agrees.{Agrees, ReadAs, StandsNow}
 use Rattle.agree_relation.specs.Frames.{HasVariables, PlaceNumbers, call_kept}
 use Rattle.agree_relation.specs.Stands.{StateStands}
@@ -41,7 +40,7 @@ use Rattle.byte_machine.specs.declared.turn.RawOut.TheVariants.{Call as RawCall}
 use Rattle.cxx_hierarchy.specs.declared.records.ClassId.{ClassId}
 use Rattle.cxx_hierarchy.specs.declared.records.Function.{Function as FunctionRecord}
 use Rattle.cxx_hierarchy.specs.declared.stop.LimitNo.TheVariants.{L10}
-use Rattle.cxx_overrider.specs.Functions.{return_of}
+use Rattle.cxx_overrider.specs.Functions.{return_of, pointee}
 use Rattle.cxx_overrider.specs.declared.FunctionId.{FunctionId}
 use Rattle.cxx_program.specs.Typed.{IsCall}
 use Rattle.cxx_program.specs.declared.program.Owner.TheVariants.{Function}

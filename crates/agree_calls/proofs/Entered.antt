@@ -4,7 +4,6 @@ use Rattle.code_blocks.specs.Blocks.{AtStatement}
 use Rattle.code_ops.specs.Setups.{FunctionCode}
 use Rattle.agree_parts.specs.Addresses.{address}
 use Rattle.agree_parts.specs.Heaps.{Heap}
-use Rattle.abi_slots.specs.Listing.{pointee}
 use Rattle.agree_relation.specs.Frames.{BodyStandsOver, HasVariables, KeepsCall, PlaceNumbers, StandOver, body_below, call_kept, owner_result}
 use Rattle.agree_relation.specs.Goings.{Going}
 use Rattle.agree_relation.specs.Words.{register_word}
@@ -13,7 +12,7 @@ use Rattle.byte_machine.proofs.Registers.{entered_argument, entered_this, entere
 use Rattle.byte_machine.specs.Calls.{frame_at}
 use Rattle.byte_machine.specs.Frames.{MachineFrame, Kept, entry_registers, register_of, register_in}
 use Rattle.cxx_hierarchy.proofs.Listed.{get_map}
-use Rattle.cxx_overrider.specs.Functions.{return_of}
+use Rattle.cxx_overrider.specs.Functions.{return_of, pointee}
 use Rattle.cxx_overrider.specs.declared.FunctionId.{FunctionId}
 use Rattle.cxx_program.specs.declared.operand.Conversion.{Conversion}
 use Rattle.cxx_program.specs.declared.program.Owner.{Owner}

@@ -13,7 +13,6 @@ use Rattle.code_ops.specs.Arguments.{block_in, free}
 use Rattle.code_ops.specs.Operands.{pointed}
 use Rattle.code_ops.specs.Setups.{FunctionCode}
 use Rattle.code_ops.specs.Uses.{check_ops}
-use Rattle.abi_slots.specs.Listing.{pointee}
 use Rattle.agree_relation.specs.Agrees.{Agrees}
 use Rattle.agree_relation.specs.Frames.{call_kept}
 use Rattle.agree_relation.specs.Words.{register_word}
@@ -36,7 +35,7 @@ use Rattle.cxx_hierarchy.specs.declared.records.ClassId.{ClassId}
 use Rattle.cxx_hierarchy.specs.declared.records.ReturnType.TheVariants.{Value as ValueReturn}
 use Rattle.cxx_hierarchy.specs.declared.records.ValueType.{ValueType}
 use Rattle.cxx_hierarchy.specs.declared.records.ValueType.TheVariants.{Number as NumberType, Pointer as PointerType}
-use Rattle.cxx_overrider.specs.Functions.{return_of}
+use Rattle.cxx_overrider.specs.Functions.{return_of, pointee}
 use Rattle.cxx_overrider.specs.declared.FunctionId.{FunctionId}
 use Rattle.cxx_program.specs.Typed.{Converts, IsArgument, returns_of}
 use Rattle.cxx_program.specs.declared.operand.Argument.{Argument}

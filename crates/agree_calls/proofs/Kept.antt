@@ -10,7 +10,7 @@ use Rattle.code_statements.specs.Rights.{object_taken, result_class, result_take
 use Rattle.code_statements.specs.Statements.{class_number}
 use Rattle.abi_slots.specs.Groups.{adjust_by, adjust_to, return_adjust, return_for, vbase_bytes}
 use Rattle.abi_slots.specs.Images.{return_constant, return_vbase}
-use Rattle.abi_slots.specs.Listing.{between_classes, reaches_class as slot_class, pointee}
+use Rattle.abi_slots.specs.Listing.{between_classes}
 use Rattle.abi_slots.specs.declared.words.ReturnAdjust.{ReturnAdjust}
 use Rattle.agree_relation.specs.Frames.{call_kept, constant_added, found_class, object_kept, vbase_added}
 use Rattle.agree_relation.specs.Worlds.{IsProgramWorld, World, world_classes, places_in}
@@ -23,13 +23,13 @@ use Rattle.cxx_hierarchy.specs.declared.records.ReturnType.{ReturnType}
 use Rattle.cxx_hierarchy.specs.declared.records.ReturnType.TheVariants.{Value as ValueReturn, Void}
 use Rattle.cxx_hierarchy.specs.declared.records.ValueType.TheVariants.{Number as NumberType, Pointer as PointerType}
 use Rattle.cxx_overrider.specs.Covariance.{IsOnlyBase}
-use Rattle.cxx_overrider.specs.Functions.{return_at, return_of}
+use Rattle.cxx_overrider.specs.Functions.{return_at, return_of, pointee}
 use Rattle.cxx_overrider.specs.declared.FunctionId.{FunctionId}
 use Rattle.cxx_program.specs.declared.operand.Conversion.{Conversion}
 use Rattle.cxx_program.specs.declared.operand.Conversion.TheVariants.{Base as ToBase, Same as ToSame}
 use Rattle.cxx_program.specs.declared.operand.Variable.{Variable}
 use Rattle.cxx_program.specs.declared.program.TypedBody.{TypedBody}
-use Rattle.cxx_search.specs.Searches.{destructor_of, is_class as search_class, is_of_class}
+use Rattle.cxx_search.specs.Searches.{destructor_of, is_class, is_of_class}
 use Rattle.cxx_subobject.specs.Preorder.{preorder}
 use Rattle.cxx_subobject.specs.Subobjects.{class_of}
 use Rattle.cxx_subobject.specs.declared.Subobject.{Subobject}
@@ -47,14 +47,6 @@ same_find p q same_test (i ∷ is) = by_test (p i) (same_test i) (same_find p q 
     by_test : (x : Bool) → x ≡ q i → find p is ≡ find q is → (if x then Some i else find p is) ≡ (if q i then Some i else find q is)
     by_test true e rest = rw (← e) refl
     by_test false e rest = rw (← e) rest
-
-class_test : (d : ClassId) (o : Option ClassId) → search_class d o ≡ slot_class d o
-class_test d None = refl
-class_test d (Some c) = by_test (nat_eq d.0 c.0) refl
-  where
-    by_test : (x : Bool) → nat_eq d.0 c.0 ≡ x → nat_eq d.0 c.0 ≡ nat_eq c.0 d.0
-    by_test true e = e ∙ sym (eq-eqb c.0 d.0 (sym (eqb-true d.0 c.0 e)))
-    by_test false e = e ∙ sym (is_false (nat_eq c.0 d.0) (λ t. let f = eq-eqb d.0 c.0 (sym (eqb-true c.0 d.0 t)) in cc))
 
 -- the conversion of a result is that of the classes to which the results point
 abbrev by_classes : Classes → Option ClassId → Option ClassId → Conversion
@@ -85,7 +77,7 @@ module _ (w : World) (world : IsProgramWorld w) where
   to_base_class x y i differ only =
       let apart : nat_eq x.0 y.0 ≡ false = is_false (nat_eq x.0 y.0) (λ e. differ (same_id x y (eqb-true x.0 y.0 e))) in
       ap (λ t. if t then ToSame else base_conversion (find (is_of_class y) (preorder (world_classes w) x))) apart
-      ∙ ap base_conversion (same_find (is_of_class y) (λ s. slot_class y (class_of s)) (λ s. class_test y (class_of s)) (preorder (world_classes w) x) ∙ base_is_only (world_classes w) world.hierarchy x y i only)
+      ∙ ap base_conversion (same_find (is_of_class y) (λ s. is_class y (class_of s)) (λ s. refl) (preorder (world_classes w) x) ∙ base_is_only (world_classes w) world.hierarchy x y i only)
 
   same_by : (own found : Option ClassId) → PointeesFit (world_classes w) own found → AreSame w own found (by_classes (world_classes w) own found)
   same_by _ _ no_class = record { class = refl; vbase = refl; constant = refl }

@@ -2,7 +2,6 @@
 use Rattle.agree_calls.proofs.Left.{nothing_left}
 use Rattle.agree_calls.proofs.Waiting.{IsCalled}
 use Rattle.agree_calls.proofs.Endings.{leads_nothing}
-use Rattle.abi_slots.specs.Listing.{pointee}
 use Rattle.agree_relation.specs.Agrees.{Agrees}
 use Rattle.agree_relation.specs.Frames.{PlaceNumbers, call_kept}
 use Rattle.agree_relation.specs.Worlds.{World, world_classes, fixed}
@@ -15,7 +14,7 @@ use Rattle.byte_machine.specs.Frames.{Kept}
 use Rattle.byte_machine.specs.Leads.{HoldsOfAnswer, OpsLead}
 use Rattle.byte_machine.specs.Running.{Returned, Running}
 use Rattle.byte_machine.specs.declared.turn.MachineTurn.TheVariants.{Went}
-use Rattle.cxx_overrider.specs.Functions.{return_of}
+use Rattle.cxx_overrider.specs.Functions.{return_of, pointee}
 use Rattle.cxx_overrider.specs.declared.FunctionId.{FunctionId}
 use Rattle.path_model.specs.Runs.{Move, Moves}
 use Rattle.path_model.specs.States.{Frame as PathFrame, RunningBody as Body, ProgramState, with_frames}

@@ -5,7 +5,6 @@ use Rattle.code_ops.specs.Arguments.{block_in, free}
 use Rattle.code_ops.specs.Setups.{body_of_routine}
 use Rattle.agree_parts.proofs.Inside.{known_class}
 use Rattle.agree_parts.specs.Heaps.{Heap}
-use Rattle.abi_slots.specs.Listing.{pointee}
 use Rattle.agree_relation.proofs.Objects.{objects_laid}
 use Rattle.agree_relation.specs.Frames.{HasVariables, KeepsCall, PlaceNumbers, StandOver, body_below, call_kept}
 use Rattle.agree_relation.specs.Goings.{AreGoing, Going}
@@ -18,7 +17,7 @@ use Rattle.byte_machine.specs.Calls.{left_calls}
 use Rattle.byte_machine.specs.Frames.{MachineFrame}
 use Rattle.byte_machine.specs.Running.{Running}
 use Rattle.cxx_hierarchy.specs.declared.records.ClassId.{ClassId}
-use Rattle.cxx_overrider.specs.Functions.{return_of}
+use Rattle.cxx_overrider.specs.Functions.{return_of, pointee}
 use Rattle.cxx_overrider.specs.declared.FunctionId.{FunctionId}
 use Rattle.cxx_program.specs.declared.program.Owner.{Owner}
 use Rattle.cxx_program.specs.declared.program.Owner.TheVariants.{Function}

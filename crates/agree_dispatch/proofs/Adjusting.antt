@@ -8,7 +8,7 @@ use Rattle.cxx_hierarchy.specs.Hierarchies.{IsHierarchy}
 use Rattle.cxx_subobject.specs.declared.Root.{Root}
 use Rattle.cxx_subobject.specs.declared.Root.TheVariants.{Whole, Shared}
 use Rattle.cxx_subobject.specs.declared.Subobject.{Subobject}
-use Rattle.cxx_subobject.specs.Subobjects.{IsSubobject, whole, shared, class_of, join, shared_base, whole_of}
+use Rattle.cxx_subobject.specs.Subobjects.{IsSubobject, whole, shared, class_of, join, shared_base, whole_of, is_shared_root}
 use Rattle.cxx_subobject.proofs.PathLemmas.{smaller, same_id}
 use Rattle.cxx_subobject.proofs.InsideLemmas.{join_class, join_valid}
 use Rattle.cxx_overrider.specs.Covariance.{IsOnlyBase}
@@ -17,7 +17,7 @@ use Rattle.abi_sound.specs.Places.{Places, places_of}
 use Rattle.abi_sound.proofs.PlaceLemmas.{joined}
 use Rattle.abi_slots.specs.declared.words.ReturnAdjust.{ReturnAdjust}
 use Rattle.abi_slots.specs.Groups.{offset_bytes, root_base, return_constant, return_adjust, vbase_bytes, adjust_to, adjust_by}
-use Rattle.abi_slots.specs.Listing.{between_classes, is_virtual_root, is_away, needs_in, vbase_number}
+use Rattle.abi_slots.specs.Listing.{between_classes, is_away, needs_in, vbase_number}
 use Rattle.agree_dispatch.proofs.ResultClasses.{PointeesFit, no_class, same, derived, base_is_only}
 
 pub between_same : (x : ClassId) → between_classes (Some x) (Some x) ≡ None
@@ -42,7 +42,7 @@ adjust_is h l e i (Shared v) is =
     ap (λ r. return_adjust l e i (vbase_bytes h l e r)) is ∙ ap (λ r. make (pos (l.place e i) -ℤ pos (l.place e (root_base r i)))) is
 
 -- what is not away is at the place of its class
-near : (root : Root) (place : ℕ) → (is_virtual_root root || not (nat_eq place 0)) ≡ false → (root ≡ Whole) × (place ≡ 0)
+near : (root : Root) (place : ℕ) → (is_shared_root root || not (nat_eq place 0)) ≡ false → (root ≡ Whole) × (place ≡ 0)
 near Whole place e = (refl, by_test (nat_eq place 0) refl e)
   where
     by_test : (b : Bool) → nat_eq place 0 ≡ b → not b ≡ false → place ≡ 0

@@ -5,7 +5,7 @@ use Rattle.std.specs.Int.{int_div_euclid}
 use Rattle.std.proofs.lemmas.Int.{ints}
 use Rattle.std.proofs.Math.Nat.{mod-eq_of_lt}
 use Rattle.byte_code.specs.Numbers.{word_of, IsInBytes}
-use Rattle.abi_dyncast.specs.Graph.{moved_address}
+use Rattle.abi_dyncast.specs.Graph.{moved}
 
 -- how a number of flags and an offset is read
 pub record IsFlagged (z : ℤ) (flags : ℕ) (offset : ℤ) : Type 0 where
@@ -41,5 +41,5 @@ flagged_down flags n few small =
     subst (λ z. IsFlagged z flags (negsuc n)) (sym is) read
 
 -- an address moved back to a word before it
-pub moved_back : (point at k : ℕ) → at + (k + 1) ≡ point → at < 2 ^ 64 → moved_address point (word_of (negsuc k)) ≡ at
+pub moved_back : (point at k : ℕ) → at + (k + 1) ≡ point → at < 2 ^ 64 → moved point (word_of (negsuc k)) ≡ at
 moved_back point at k e low = omega arith

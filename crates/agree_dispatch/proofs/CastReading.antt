@@ -37,7 +37,8 @@ use Rattle.abi_slots.proofs.Listings.{ArePrimaries}
 use Rattle.abi_rtti.specs.TypeInfos.{type_info, info_base, offset_flags, place_of_base}
 use Rattle.abi_dyncast.specs.declared.parts.Part.{Part}
 use Rattle.abi_dyncast.specs.declared.parts.Edge.{Edge}
-use Rattle.abi_dyncast.specs.Graph.{Graph, graph_of, moved_address, info_at, has_virtual_flag, is_public, vbase_at, distance_word, edge_by, record_at, base_record}
+use Rattle.abi_dyncast.specs.Graph.{moved}
+use Rattle.abi_dyncast.specs.Graph.{Graph, graph_of, info_at, has_virtual_flag, is_public, vbase_at, distance_word, edge_by, record_at, base_record}
 use Rattle.abi_dyncast.specs.Casts.{CanStep}
 use Rattle.abi_dyncast.proofs.Keeping.{info_read, base_read}
 use Rattle.abi_dyncast.proofs.Distances.{moved_between, moved_along}
@@ -227,7 +228,7 @@ module _ (h : Classes) (rows : List ClassLayout) (x : View) (placed : PlacedTabl
           let r = plain_read h l c (placed.info base.class) base v (place_low c base (known u c k e) listed v) in
           let sum : pos ((part u).at) +ℤ pos n ≡ pos (part (base_subobject u base)).at = omega (arith, ints) in
           far_plain placed.image memory (part u).at (part (base_subobject u base)).at (written c base) r.virtual_is
-          (ap (moved_address (part u).at) r.offset_is ∙ moved_along (part u).at (part (base_subobject u base)).at (pos n) sum (omega arith) (omega arith))
+          (ap (moved (part u).at) r.offset_is ∙ moved_along (part u).at (part (base_subobject u base)).at (pos n) sum (omega arith) (omega arith))
 
       across : base.is_virtual ≡ true → IsInside h x.at_sub (base_subobject u base) → IsFar placed.image memory (part u).at (part (base_subobject u base)).at (written c base)
       across v inside =
@@ -238,13 +239,13 @@ module _ (h : Classes) (rows : List ClassLayout) (x : View) (placed : PlacedTabl
           let r = virtual_read h l stands.keeps primaries c (known u c k e) (placed.info base.class) base v in
           let lowest = stands.typed.low d.at (word_of d.distance) d.there in
           let back = d.before in
-          let spot : moved_address p.point (word_of (negsuc (8 * n + 23))) ≡ d.at = moved_back p.point d.at (8 * n + 23) (omega arith) lowest in
+          let spot : moved p.point (word_of (negsuc (8 * n + 23))) ≡ d.at = moved_back p.point d.at (8 * n + 23) (omega arith) lowest in
           let a = low u (valid u k) in
           let b = low (base_subobject u base) (valid (base_subobject u base) inside) in
           let there : l.place x.complete (base_subobject u base) ≡ l.place x.complete (shared_base base.class) = ap (l.place x.complete) (base_across u base v) in
           let from : l.place x.complete u ≡ place l x p.of.here = ap (l.place x.complete) p.of.is in
           let leads : pos (l.place x.complete u) +ℤ d.distance ≡ pos (l.place x.complete (base_subobject u base)) = ap (λ m. pos m +ℤ d.distance) from ∙ (d.leads ∙ ap pos (sym there)) in
-          far_virtual placed.image memory (part u).at (part (base_subobject u base)).at p.point d.at (word_of d.distance) (written c base) r.virtual_is p.load (ap (moved_address p.point) r.offset_is ∙ spot) d.there
+          far_virtual placed.image memory (part u).at (part (base_subobject u base)).at p.point d.at (word_of d.distance) (written c base) r.virtual_is p.load (ap (moved p.point) r.offset_is ∙ spot) d.there
           (moved_between start (l.place x.complete u) (l.place x.complete (base_subobject u base)) d.distance leads a b)
           (let highest = stands.below p.of.here p.point p.is_point in table_word d.at (omega arith))
 
@@ -292,7 +293,7 @@ module _ (h : Classes) (rows : List ClassLayout) (x : View) (placed : PlacedTabl
       (λ t v. (virtual_read h l stands.keeps primaries c (known u c k e) (placed.info base.class) base v).public_is)
       (λ t v. (plain_read h l c (placed.info base.class) base v (place_low c base (known u c k e) listed v)).public_is)
       refl in
-      let same : make (moved_address (part u).at (distance_word placed.image memory (part u).at (written c base))) (placed.info base.class) (is_public (written c base)) ≡ make (part to).at (record_for placed.info (class_of to)) base.is_public =
+      let same : make (moved (part u).at (distance_word placed.image memory (part u).at (written c base))) (placed.info base.class) (is_public (written c base)) ≡ make (part to).at (record_for placed.info (class_of to)) base.is_public =
       ap (λ n. make n (placed.info base.class) (is_public (written c base))) f.there ∙ (ap (λ m. make (part to).at m (is_public (written c base))) info ∙ ap (make (part to).at (record_for placed.info (class_of to))) public) in
       ap (λ b. edge_by placed.image memory (part u).at b) (base_is u c i base k e at) ∙ same
 

@@ -16,17 +16,17 @@ use Rattle.cxx_subobject.specs.Subobjects.{IsSubobject, whole, shared, subobject
 use Rattle.cxx_subobject.proofs.PathLemmas.{smaller}
 use Rattle.cxx_subobject.proofs.InsideLemmas.{join_valid}
 use Rattle.cxx_overrider.specs.declared.FunctionId.{FunctionId}
-use Rattle.cxx_overrider.specs.Functions.{declaration_of, return_at, return_of}
+use Rattle.cxx_overrider.specs.Functions.{declaration_of, return_at, return_of, pointee}
 use Rattle.cxx_overrider.specs.Faults.{HasNoFault}
 use Rattle.abi_sound.specs.declared.class_layout.ClassLayout.{ClassLayout}
 use Rattle.abi_sound.specs.Places.{Places, places_of}
 use Rattle.abi_sound.specs.Sound.{IsSoundLayout}
 use Rattle.abi_sound.proofs.Depth.{below}
 use Rattle.abi_sound.proofs.PlaceLemmas.{joined}
-use Rattle.abi_slots.specs.Groups.{adjust_by, offset_bytes, return_for}
+use Rattle.abi_slots.specs.Groups.{adjust_by, return_for, offset_bytes}
 use Rattle.abi_slots.specs.Groups as groups
 use Rattle.abi_slots.specs.Images.{return_vbase, return_constant}
-use Rattle.abi_slots.specs.Listing.{between_classes, pointee, vbase_number}
+use Rattle.abi_slots.specs.Listing.{between_classes, vbase_number}
 use Rattle.abi_slots.specs.Slots.{word_number}
 use Rattle.abi_slots.specs.Views.{View}
 use Rattle.abi_slots.specs.Seen.{PlacedTables}

@@ -14,12 +14,13 @@ use Rattle.cxx_subobject.specs.declared.Subobject.{Subobject}
 use Rattle.cxx_subobject.specs.Subobjects.{class_of}
 use Rattle.cxx_subobject.specs.Preorder.{preorder}
 use Rattle.cxx_overrider.specs.declared.FunctionId.{FunctionId}
-use Rattle.cxx_overrider.specs.Functions.{Signature, named, destructor, signature_at, signature_in, signature_of, return_at, return_of}
+use Rattle.cxx_overrider.specs.Functions.{Signature, named, destructor, signature_at, signature_in, signature_of, return_at, return_of, pointee}
 use Rattle.cxx_overrider.specs.Covariance.{Overrides, IsOnlyBase, PointsToDerived, FitsReturn}
 use Rattle.cxx_overrider.specs.Faults.{HasNoFault}
 use Rattle.cxx_overrider.proofs.ReturnLaws.{fits}
 use Rattle.cxx_subobject.proofs.PathLemmas.{same_id}
-use Rattle.abi_slots.specs.Listing.{reaches_class, base_of_class, pointee}
+use Rattle.cxx_search.specs.Searches.{is_class}
+use Rattle.abi_slots.specs.Listing.{base_of_class}
 use Rattle.abi_slots.proofs.Lists.{any_item, found_passes, found_some}
 use Rattle.abi_slots.proofs.Bases.{preorder_item, item_preorder}
 
@@ -79,12 +80,12 @@ pointees_fit h keeps fine f g k = by_returns (return_of h f) (return_of h g) ref
 
 pub base_is_only : (h : Classes) → IsHierarchy h → (x y : ClassId) (i : Subobject) → IsOnlyBase h x y i → base_of_class h x y ≡ Some i
 base_is_only h keeps x y i k =
-    let test = λ (s : Subobject). reaches_class y (class_of s) in
-    let passes : reaches_class y (class_of i) ≡ true = ap (reaches_class y) k.class ∙ eq-eqb y.0 y.0 refl in
+    let test = λ (s : Subobject). is_class y (class_of s) in
+    let passes : is_class y (class_of i) ≡ true = ap (is_class y) k.class ∙ eq-eqb y.0 y.0 refl in
     let r = found_some test (preorder h x) (any_item test (preorder h x) i (preorder_item h keeps x i k.valid) passes) in
     let there = found_passes test (preorder h x) r.0 r.1 in
     r.1 ∙ ap (λ a. Some a) (k.only r.0 (item_preorder h keeps x r.0 there.0) (told (class_of r.0) there.1))
   where
-    told : (o : Option ClassId) → reaches_class y o ≡ true → o ≡ Some y
+    told : (o : Option ClassId) → is_class y o ≡ true → o ≡ Some y
     told None e = cc
-    told (Some c) e = ap (λ a. Some a) (same_id c y (eqb-true c.0 y.0 e))
+    told (Some c) e = ap (λ a. Some a) (same_id c y (sym (eqb-true y.0 c.0 e)))

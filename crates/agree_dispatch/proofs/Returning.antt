@@ -12,7 +12,7 @@ use Rattle.cxx_subobject.proofs.InsideLemmas.{join_class}
 use Rattle.cxx_subobject.proofs.PathLemmas.{same_id}
 use Rattle.cxx_overrider.specs.declared.FunctionId.{FunctionId}
 use Rattle.cxx_overrider.specs.declared.Overrider.{Overrider}
-use Rattle.cxx_overrider.specs.Functions.{Signature, signature_of, return_of}
+use Rattle.cxx_overrider.specs.Functions.{Signature, signature_of, return_of, pointee}
 use Rattle.cxx_overrider.specs.Overriding.{HasPart, IsVirtual}
 use Rattle.cxx_overrider.specs.Covariance.{Overrides}
 use Rattle.cxx_overrider.specs.Faults.{HasNoFault}
@@ -25,7 +25,7 @@ use Rattle.abi_sound.specs.Places.{Places, places_of}
 use Rattle.abi_sound.specs.Sound.{IsSoundLayout}
 use Rattle.abi_slots.specs.declared.words.EntryKey.{EntryKey}
 use Rattle.abi_slots.specs.Groups.{return_for}
-use Rattle.abi_slots.specs.Listing.{listing, own_keys, pointee}
+use Rattle.abi_slots.specs.Listing.{listing, own_keys}
 use Rattle.abi_slots.proofs.Bases.{item_contains}
 use Rattle.abi_slots.proofs.Bounds.{function_bounds}
 use Rattle.abi_slots.proofs.Owns.{own_virtual}

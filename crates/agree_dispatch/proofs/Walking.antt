@@ -24,7 +24,8 @@ use Rattle.abi_slots.specs.Views.{View, seen, place}
 use Rattle.abi_slots.specs.Seen.{PlacedTables}
 use Rattle.abi_dyncast.specs.declared.parts.Part.{Part}
 use Rattle.abi_dyncast.specs.declared.parts.Edge.{Edge}
-use Rattle.abi_dyncast.specs.Graph.{Graph, graph_of, word_in, loaded_or_zero, pointer_at, moved_address, info_at}
+use Rattle.abi_dyncast.specs.Graph.{moved}
+use Rattle.abi_dyncast.specs.Graph.{Graph, graph_of, word_in, loaded_or_zero, pointer_at, info_at}
 use Rattle.abi_dyncast.specs.Casts.{CanReadParts, AreClosedParts, CanStep, CanWalk, view_at_address, CanCast}
 use Rattle.abi_dyncast.proofs.Distances.{moved_between}
 use Rattle.agree_dispatch.specs.CastStanding.{StandsInMemory}
@@ -143,8 +144,8 @@ module _ (h : Classes) (rows : List ClassLayout) (x : View) (placed : PlacedTabl
       let a = low h rows x placed memory start stands u (inside_valid h x.complete x.at_sub u stands.view.valid k) in
       let b = low h rows x placed memory start stands x.at_sub stands.view.valid in
       let make : ℕ → ℕ → Part = λ i j. record { at = i; info = j } in
-      let same : make (moved_address (part u).at (word_in (placed.image (pointer_at memory (part u).at - 16)))) (word_in (placed.image (pointer_at memory (part u).at - 8))) ≡ make (part x.at_sub).at (part x.at_sub).info =
-      ap (λ o. make (moved_address (part u).at (word_in o)) (word_in (placed.image (pointer_at memory (part u).at - 8)))) top_is
+      let same : make (moved (part u).at (word_in (placed.image (pointer_at memory (part u).at - 16)))) (word_in (placed.image (pointer_at memory (part u).at - 8))) ≡ make (part x.at_sub).at (part x.at_sub).info =
+      ap (λ o. make (moved (part u).at (word_in o)) (word_in (placed.image (pointer_at memory (part u).at - 8)))) top_is
       ∙ (ap (λ n. make n (word_in (placed.image (pointer_at memory (part u).at - 8)))) (moved_between start (l.place x.complete u) (l.place x.complete x.at_sub) top.distance leads a b)
       ∙ (ap (λ o. make (part x.at_sub).at (word_in o)) info_is ∙ ap (make (part x.at_sub).at) (sym (ap (record_for placed.info) stands.view.of_class)))) in
       record {

@@ -6,11 +6,10 @@ use Rattle.cxx_subobject.specs.declared.Subobject.{Subobject}
 use Rattle.cxx_subobject.specs.Subobjects.{IsSubobject, class_of}
 use Rattle.cxx_overrider.specs.declared.FunctionId.{FunctionId}
 use Rattle.cxx_overrider.specs.Covariance.{Overrides}
-use Rattle.cxx_overrider.specs.Functions.{return_of}
+use Rattle.cxx_overrider.specs.Functions.{return_of, pointee}
 use Rattle.abi_sound.specs.Places.{Places}
 use Rattle.abi_slots.specs.Groups.{return_for}
 use Rattle.abi_slots.specs.Images.{return_constant, return_vbase}
-use Rattle.abi_slots.specs.Listing.{pointee}
 use Rattle.byte_memory.specs.Store.{Store}
 use Rattle.byte_code.specs.declared.code.ImageBytes.{ImageBytes}
 use Rattle.byte_code.specs.Numbers.{word_of}

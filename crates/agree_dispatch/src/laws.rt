@@ -10,7 +10,7 @@ ghost use Rattle.cxx_subobject.specs.Subobjects.{IsSubobject, class_of, whole_of
 ghost use Rattle.cxx_subobject.specs.VirtualBases.{virtual_bases};
 ghost use Rattle.cxx_overrider.specs.declared.FunctionId.{FunctionId};
 ghost use Rattle.cxx_overrider.specs.declared.Overrider.{Overrider};
-ghost use Rattle.cxx_overrider.specs.Functions.{named, signature_of, return_of};
+ghost use Rattle.cxx_overrider.specs.Functions.{named, signature_of, return_of, pointee};
 ghost use Rattle.cxx_overrider.specs.Overriding.{IsVirtual};
 ghost use Rattle.cxx_search.specs.Searches.{final_in, destructor_of};
 ghost use Rattle.abi_sound.specs.declared.class_layout.ClassLayout.{ClassLayout};
@@ -21,7 +21,7 @@ ghost use Rattle.abi_slots.specs.declared.words.CodeKind.TheVariants.{Deleting};
 ghost use Rattle.abi_slots.specs.declared.words.Group.{Group};
 ghost use Rattle.abi_slots.specs.CodeRows.{block_kind};
 ghost use Rattle.abi_slots.specs.Groups.{return_for};
-ghost use Rattle.abi_slots.specs.Listing.{entry_key, own_keys, pointee};
+ghost use Rattle.abi_slots.specs.Listing.{entry_key, own_keys};
 ghost use Rattle.abi_slots.specs.Slots.{first_key};
 ghost use Rattle.abi_slots.specs.Views.{View};
 ghost use Rattle.abi_slots.specs.Seen.{PlacedTables};

@@ -1,8 +1,9 @@
 -- What a typed state tells in a dump fits: numbers are of their types or widths, and pointers name places of its few objects.
-use Rattle.std.proofs.Common.{◌≡◌, ◌∙◌, ℕ, ◌+◌, ◌<◌, ◌≤◌, arith, ⊎_elim, Option, Some, None, List, [], ◌∷◌, map, length, ap, subst, sym}
-use Rattle.std.specs.List.{AllZip, slice_get}
+use Rattle.std.proofs.Common.{◌≡◌, ◌∙◌, ℕ, ◌+◌, ◌<◌, ◌≤◌, arith, Option, Some, None, List, [], ◌∷◌, map, length, ap, subst, sym}
+use Rattle.std.specs.List.{slice_get}
 use Rattle.std.proofs.lemmas.Option.{slice_get_within}
 use Rattle.foundation.proofs.Members.{Has, contains_from_has, from_map, has_from_contains, has_map}
+use Rattle.foundation.proofs.Zips.{zip_has}
 use Rattle.cxx_hierarchy.specs.declared.records.ClassId.{ClassId}
 use Rattle.cxx_hierarchy.specs.declared.records.ValueType.{ValueType}
 use Rattle.cxx_hierarchy.specs.declared.records.ValueType.TheVariants.{Number as NumberType, Pointer as PointerType}
@@ -27,12 +28,6 @@ use Rattle.text_bytes.proofs.RowsOfLeaves.{IsRowOf, rows_are}
 use Rattle.abi_inspect.specs.Values.{IsHeapPlace, IsValueOf, most_dumped_number}
 use Rattle.agree_dumps.specs.SeenDumps.{ValuesFit, ValueFits, seen_value}
 use Rattle.agree_dumps.proofs.Told.{fits_of}
-
--- what goes along with an item
-zip_has : {A B : Type 0} (R : A → B → Type 0) (xs : List A) (ys : List B) (x : A) → AllZip R xs ys → Has xs x → (y : B) × R x y
-zip_has R [] ys x z has = absurd has
-zip_has R (a ∷ xs) [] x z has = absurd z
-zip_has {A} {B} R (a ∷ xs) (y ∷ ys) x z has = ⊎_elim (λ same. (y, subst (λ (b : A). R b y) same z.0)) (λ more. zip_has R xs ys x z.1 more) has
 
 module _ (h : Classes) (rows : List ClassLayout) (sound : IsSoundLayout h rows) (s : Objects) (few : length s.classes ≤ most_dumped_number) where
   place_fits : (p : ObjectPart) (c : ClassId) → IsPartMade h s.classes p c → NamesPart h (location_of s p) → IsHeapPlace (p.object + 1) (location_place h (places_of h rows) (location_of s p))

@@ -16,7 +16,8 @@ use Rattle.path_model.specs.Values.{inner_part}
 use Rattle.abi_primary.specs.Kinds.{IsDynamic}
 use Rattle.abi_slots.specs.declared.words.Group.{Group}
 use Rattle.abi_slots.specs.Seen.{IsPointOf, IsSeen, SharePointer}
-use Rattle.abi_slots.specs.Views.{View, IsView, place, next, is_some, is_dynamic_class, is_first, is_head}
+use Rattle.abi_sound.specs.Chains.{is_subobject_in}
+use Rattle.abi_slots.specs.Views.{View, IsView, place, next, is_dynamic_class, is_first, is_head}
 use Rattle.abi_slots.proofs.Chains.{walk_under}
 use Rattle.abi_slots.proofs.Heads.{test_dynamic}
 use Rattle.abi_slots.proofs.Pointers.{same_point, pointers_apart}
@@ -180,8 +181,8 @@ module _ (w : World) (world : IsProgramWorld w) (g : Heap) (x : View) (p : Objec
         dynamic = both.0;
         first = is_false (ends_in_primary l t.path) (λ ends.
             let before = derived h l x t valid ends in
-            let test : is_some (next l x before.deriver) t ≡ true = ap (λ o. is_some o t) before.goes ∙ same_itself t in
-            let any = has_any (λ u. is_some (next l x u) t) (preorder h x.class) before.deriver (preorder_has h x.class world.hierarchy before.deriver before.valid) test in
+            let test : is_subobject_in (next l x before.deriver) t ≡ true = ap (λ o. is_subobject_in o t) before.goes ∙ same_itself t in
+            let any = has_any (λ u. is_subobject_in (next l x u) t) (preorder h x.class) before.deriver (preorder_has h x.class world.hierarchy before.deriver before.valid) test in
             let off : is_first h l x t ≡ false = ap not any in
             not_both both.1 off);
       }

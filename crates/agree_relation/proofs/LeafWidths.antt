@@ -7,7 +7,7 @@ use Rattle.cxx_hierarchy.specs.declared.records.FieldType.TheVariants.{Value as 
 use Rattle.cxx_hierarchy.specs.declared.records.Member.{Member}
 use Rattle.cxx_hierarchy.specs.declared.records.ValueType.{ValueType}
 use Rattle.cxx_hierarchy.specs.declared.records.ValueType.TheVariants.{Number as NumberType, Pointer as PointerType}
-use Rattle.cxx_hierarchy.specs.Classes.{Classes, width_in, width_of_member}
+use Rattle.cxx_hierarchy.specs.Classes.{Classes, width_in, width_of_member, element_value_type, element_type}
 use Rattle.cxx_hierarchy.specs.Hierarchies.{IsHierarchy}
 use Rattle.cxx_subobject.specs.Locations.{IsElement}
 use Rattle.cxx_program.specs.Typed.{width_within}
@@ -32,7 +32,7 @@ use Rattle.byte_machine.proofs.ValueLeads.{leads_load, leads_store, leads_copy, 
 use Rattle.code_ops.specs.declared.widths.LeafWidth.{LeafWidth}
 use Rattle.code_ops.specs.declared.widths.LeafWidth.TheVariants.{Bytes as InBytes, Bits as InBits}
 use Rattle.code_ops.specs.Leaves.{filled_width, leaf_width, set_check, load_op, store_op, copy_op}
-use Rattle.code_ops.specs.PlaceOps.{type_or_int, element_type, element_value_type, element_type_at}
+use Rattle.code_ops.specs.PlaceOps.{type_or_int, element_type_at}
 use Rattle.code_ops.specs.Setups.{Setup, places, value_width}
 use Rattle.agree_parts.specs.Heaps.{Heap}
 use Rattle.agree_parts.specs.Addresses.{leaf_address, span, leaf_bits}

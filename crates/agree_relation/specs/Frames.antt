@@ -4,7 +4,7 @@ use Rattle.cxx_hierarchy.specs.declared.records.ClassId.{ClassId}
 use Rattle.cxx_subobject.specs.declared.Subobject.{Subobject}
 use Rattle.cxx_subobject.specs.Subobjects.{class_of, whole_of}
 use Rattle.cxx_subobject.specs.Locations.{ObjectPart}
-use Rattle.cxx_overrider.specs.Functions.{return_of}
+use Rattle.cxx_overrider.specs.Functions.{return_of, pointee}
 use Rattle.cxx_program.specs.declared.operand.Conversion.{Conversion}
 use Rattle.cxx_program.specs.declared.operand.Conversion.TheVariants.{Base as ToBase}
 use Rattle.cxx_program.specs.declared.program.Owner.{Owner}
@@ -17,7 +17,6 @@ use Rattle.path_plan.specs.Whole.{whole_part}
 use Rattle.path_model.specs.Values.{Value}
 use Rattle.path_model.specs.States.{RunningBody, Planned, Target, Frame as PathFrame, InBody, InPlan, owned_body}
 use Rattle.path_model.specs.TypedStates.{IsPartMade}
-use Rattle.abi_slots.specs.Listing.{pointee}
 use Rattle.abi_slots.specs.Groups.{return_adjust, vbase_bytes}
 use Rattle.abi_slots.specs.Images.{return_vbase, return_constant}
 use Rattle.abi_vtt.specs.Vtts.{has_vtt}

@@ -6,7 +6,7 @@ use Rattle.std.proofs.lemmas.List.{append-nil}
 use Rattle.cxx_hierarchy.specs.declared.records.ClassId.{ClassId}
 use Rattle.cxx_hierarchy.specs.declared.records.Member.{Member}
 use Rattle.cxx_hierarchy.specs.declared.records.FieldType.{FieldType}
-use Rattle.cxx_hierarchy.specs.Classes.{members_of}
+use Rattle.cxx_hierarchy.specs.Classes.{members_of, element_value_type, element_type}
 use Rattle.cxx_program.specs.Typed.{IsPath}
 use Rattle.agree_relation.specs.Words.{register_word}
 use Rattle.std.proofs.Common.{false}
@@ -35,7 +35,7 @@ use Rattle.byte_machine.specs.Leads.{OpsLead}
 use Rattle.byte_machine.proofs.ValueLeads.{leads_move}
 use Rattle.code_ops.specs.Operands.{ops_of}
 use Rattle.code_ops.specs.Leaves.{leaf_width, place_leaf}
-use Rattle.code_ops.specs.PlaceOps.{place_ops, place_type, type_or_int, element_type, element_value_type}
+use Rattle.code_ops.specs.PlaceOps.{place_ops, place_type, type_or_int}
 use Rattle.path_model.specs.Outs.{class_or_first}
 use Rattle.agree_parts.specs.Addresses.{address, leaf_address}
 use Rattle.agree_parts.proofs.Inside.{leaf_bytes}

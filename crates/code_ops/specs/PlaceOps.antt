@@ -4,10 +4,7 @@ use Rattle.cxx_hierarchy.specs.declared.records.ClassId.{ClassId}
 use Rattle.cxx_hierarchy.specs.declared.records.ValueType.{ValueType}
 use Rattle.cxx_hierarchy.specs.declared.records.ValueType.TheVariants.{Number as NumberType}
 use Rattle.cxx_hierarchy.specs.declared.records.Scalar.TheVariants.{Int}
-use Rattle.cxx_hierarchy.specs.declared.records.FieldType.{FieldType}
-use Rattle.cxx_hierarchy.specs.declared.records.FieldType.TheVariants.{Value as ValueField, Object}
-use Rattle.cxx_hierarchy.specs.declared.records.Member.{Member}
-use Rattle.cxx_hierarchy.specs.Classes.{Classes, members_of}
+use Rattle.cxx_hierarchy.specs.Classes.{Classes, members_of, element_type}
 use Rattle.cxx_subobject.specs.declared.Subobject.{Subobject}
 use Rattle.cxx_subobject.specs.Subobjects.{class_of}
 use Rattle.cxx_program.specs.declared.statement.PassedMember.{PassedMember}
@@ -59,15 +56,6 @@ place_used x e place r =
 abbrev pub type_or_int : Option (ValueType ClassId) → ValueType ClassId
 type_or_int None = NumberType Int
 type_or_int (Some type) = type
-
--- the type of the elements of a member, where they are numbers or pointers
-abbrev pub element_value_type : FieldType ClassId → Option (ValueType ClassId)
-element_value_type (ValueField type) = Some type
-element_value_type (Object c) = None
-
-abbrev pub element_type : Option (Member ClassId) → Option (ValueType ClassId)
-element_type None = None
-element_type (Some member) = element_value_type member.ty
 
 abbrev pub element_type_at : Classes → ClassId → ℕ → Option (ValueType ClassId)
 element_type_at h c m = element_type (slice_get (members_of h c) m)

@@ -13,11 +13,11 @@ use Rattle.cxx_hierarchy.specs.declared.records.ClassId.{ClassId}
 use Rattle.cxx_hierarchy.specs.Classes.{Classes}
 use Rattle.cxx_subobject.specs.declared.Root.TheVariants.{Whole}
 use Rattle.cxx_subobject.specs.declared.Subobject.{Subobject}
-use Rattle.cxx_subobject.specs.Subobjects.{same_subobject, same_root, class_of}
+use Rattle.cxx_subobject.specs.Subobjects.{same_subobject, same_root, class_of, is_shared_root}
 use Rattle.cxx_subobject.specs.Preorder.{preorder}
 use Rattle.cxx_subobject.proofs.TreeLemmas.{preorder_once, same_itself, subobject_same, root_same}
 use Rattle.abi_sound.specs.Places.{Places}
-use Rattle.abi_slots.specs.Listing.{first_position, is_virtual_root}
+use Rattle.abi_slots.specs.Listing.{first_position}
 use Rattle.abi_slots.specs.Views.{is_dynamic_class, of_root}
 use Rattle.abi_slots.proofs.EntryPlaces.{place_none}
 use Rattle.abi_vtt.specs.Vtts.{ends_in_primary, needs_word}
@@ -140,18 +140,18 @@ module _ (x : Setup) (c : ClassId) (passed : List Subobject) (s : Subobject) (re
 
   -- of a subobject behind a virtual base
 
-  outside : is_virtual_root s.root ≡ true → is_in_run x c s ≡ false
+  outside : is_shared_root s.root ≡ true → is_in_run x c s ≡ false
   outside shared = not_below (run_number x c s) (length (table_run x.h (places x) c)) (place_none (same_subobject s) (table_run x.h (places x) c) other)
     where
       other : (y : Subobject) → Has (table_run x.h (places x) c) y → same_subobject s y ≡ false
       other y has = is_false (same_subobject s y) (λ same.
           let whole : s.root ≡ Whole = ap (λ (t : Subobject). t.root) (subobject_same s y same) ∙ (first_listed x.h (places x) (preorder x.h c) y has).1 in
-          let bad : false ≡ true = sym (ap is_virtual_root whole) ∙ shared in cc)
+          let bad : false ≡ true = sym (ap is_shared_root whole) ∙ shared in cc)
 
-  pub distance_outside : is_virtual_root s.root ≡ true → point_distance x c s ≡ 0
+  pub distance_outside : is_shared_root s.root ≡ true → point_distance x c s ≡ 0
   distance_outside shared = ap (λ b. if b then 8 * run_distance x.h (places x) c (run_number x c s) else 0) (outside shared)
 
-  pub number_outside : is_virtual_root s.root ≡ true → needs_word x.h (places x) s ≡ true → vtt_word_number x c s ≡ next_item x.h (places x) c passed
+  pub number_outside : is_shared_root s.root ≡ true → needs_word x.h (places x) s ≡ true → vtt_word_number x c s ≡ next_item x.h (places x) c passed
   number_outside shared needs =
       let p = needs_word x.h (places x) in
       let there : first_position (same_subobject s) (filter p (preorder x.h c)) ≡ length (filter p passed) =

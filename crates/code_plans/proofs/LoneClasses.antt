@@ -24,7 +24,7 @@ use Rattle.abi_primary.specs.declared.Primary.{Primary}
 use Rattle.abi_primary.specs.Kinds.{TellDynamic}
 use Rattle.abi_primary.proofs.KindLemmas.{base_dynamic}
 use Rattle.abi_sound.specs.Places.{Places}
-use Rattle.abi_slots.specs.Listing.{is_direct}
+use Rattle.abi_primary.specs.PrimaryBase.{is_direct_primary}
 use Rattle.abi_slots.specs.Views.{is_dynamic}
 use Rattle.abi_slots.proofs.Dynamics.{dynamic_whole}
 use Rattle.abi_slots.proofs.Heads.{dynamic_test, test_dynamic}
@@ -40,7 +40,7 @@ use Rattle.code_plans.specs.invariants.Walks.{IsAtPart, IsPast}
 -- what the flags of the direct bases of a class say
 
 record AllJoin (h : Classes) (l : Places) (c : ClassId) : Type 0 where
-  each : (b : ClassId) (way : Bool) → IsDirectBase h c way b → (way ≡ false) × (is_dynamic h b ≡ true → (is_direct (l.primary c) b ≡ true) × IsLone h l b)
+  each : (b : ClassId) (way : Bool) → IsDirectBase h c way b → (way ≡ false) × (is_dynamic h b ≡ true → (is_direct_primary (l.primary c) b ≡ true) × IsLone h l b)
 
 none_virtual : (h : Classes) (l : Places) → IsHierarchy h → (c v : ClassId) → HasVirtualBase h c v → AllJoin h l c → ⊥
 none_virtual h l keeps _ _ (direct c v edge) all = let way : true ≡ false = (all.each v true edge).0 in cc
@@ -86,14 +86,14 @@ pub lone_by : (h : Classes) (l : Places) → IsHierarchy h → (c : ClassId) (pr
 lone_by h l keeps c primary dynamic lone bases known listed at tell_dynamic tell_lone e =
     record { none_virtual = λ v has. none_virtual h l keeps c v has all; all_primary = all_primary h l keeps c all }
   where
-    by_base : (base : Base ClassId) → Contains (bases_of h c) base → base.class.0 < length h → (base.is_virtual ≡ false) × (is_dynamic h base.class ≡ true → (is_direct (l.primary c) base.class ≡ true) × IsLone h l base.class)
+    by_base : (base : Base ClassId) → Contains (bases_of h c) base → base.class.0 < length h → (base.is_virtual ≡ false) × (is_dynamic h base.class ≡ true → (is_direct_primary (l.primary c) base.class ≡ true) × IsLone h l base.class)
     by_base base has low =
         let passes = all_pass (λ (o : Base ClassId). joins primary dynamic lone o) bases e base (subst (λ (xs : List (Base ClassId)). Has xs base) (sym listed) (has_from_contains (bases_of h c) base has)) in
-        let parts = test_parts base.is_virtual (get_or dynamic base.class.0 false) (is_direct primary base.class) (get_or lone base.class.0 false) passes in (
+        let parts = test_parts base.is_virtual (get_or dynamic base.class.0 false) (is_direct_primary primary base.class) (get_or lone base.class.0 false) passes in (
           parts.0,
           λ dyn.
               let both = parts.1 (flag_dynamic h keeps dynamic base.class tell_dynamic low dyn) in
-              (ap (λ (p : Primary). is_direct p base.class) (sym at) ∙ both.0, tell_lone.each base.class.0 (flag_set lone base.class.0 both.1)),
+              (ap (λ (p : Primary). is_direct_primary p base.class) (sym at) ∙ both.0, tell_lone.each base.class.0 (flag_set lone base.class.0 both.1)),
         )
 
     all : AllJoin h l c
@@ -103,7 +103,7 @@ lone_by h l keeps c primary dynamic lone bases known listed at tell_dynamic tell
           let class = edge.class in
           let low : edge.base.class.0 < length h = (let same : edge.base.class.0 ≡ b.0 = ap (λ (d : ClassId). d.0) class in omega arith) in
           let r = by_base edge.base edge.listed low in
-          (sym edge.way ∙ r.0, subst (λ (d : ClassId). is_dynamic h d ≡ true → (is_direct (l.primary c) d ≡ true) × IsLone h l d) class r.1);
+          (sym edge.way ∙ r.0, subst (λ (d : ClassId). is_dynamic h d ≡ true → (is_direct_primary (l.primary c) d ≡ true) × IsLone h l d) class r.1);
     }
 
 -- flags, one class after the other

@@ -9,8 +9,7 @@ use Rattle.cxx_subobject.specs.declared.Root.{Root}
 use Rattle.cxx_subobject.specs.declared.Root.TheVariants.{Whole, Shared}
 use Rattle.cxx_subobject.specs.Preorder.{preorder}
 use Rattle.cxx_subobject.specs.declared.Subobject.{Subobject}
-use Rattle.cxx_subobject.specs.Subobjects.{class_of}
-use Rattle.abi_slots.specs.Listing.{is_virtual_root}
+use Rattle.cxx_subobject.specs.Subobjects.{class_of, is_shared_root}
 use Rattle.abi_slots.specs.Views.{is_dynamic_class}
 use Rattle.abi_vtt.specs.Vtts.{has_vtt, class_has_virtual, is_proper_at, ends_in_primary, needs_word}
 use Rattle.abi_vtt.specs.Blocks.{is_front_head, before_by_class}
@@ -31,8 +30,8 @@ a_word false true q true e = refl
 a_word true true false true e = refl
 a_word true true true true e = refl
 
-apart_needs : (x : Setup) (s : Subobject) → is_set_apart x s ≡ true → needs_word x.h (places x) s ≡ (is_proper_at s.root s.path && (class_has_virtual x.h (class_of s) || is_virtual_root s.root))
-apart_needs x s apart = a_word (is_proper_at s.root s.path) (is_dynamic_class x.h (class_of s)) (class_has_virtual x.h (class_of s) || is_virtual_root s.root) (not (ends_in_primary (places x) s.path)) (sym (apart_front x s) ∙ apart)
+apart_needs : (x : Setup) (s : Subobject) → is_set_apart x s ≡ true → needs_word x.h (places x) s ≡ (is_proper_at s.root s.path && (class_has_virtual x.h (class_of s) || is_shared_root s.root))
+apart_needs x s apart = a_word (is_proper_at s.root s.path) (is_dynamic_class x.h (class_of s)) (class_has_virtual x.h (class_of s) || is_shared_root s.root) (not (ends_in_primary (places x) s.path)) (sym (apart_front x s) ∙ apart)
 
 -- of a subobject that is set apart
 module _ (x : Setup) (keeps : IsHierarchy x.h) (c : ClassId) (known : c.0 < length x.h) (few : words_of_all_classes x.h (places x) ≤ most_words) (s : Subobject) (walk : Walk) (at : IsAtPart x.h (places x) c s walk) (apart : is_set_apart x s ≡ true) where
@@ -53,10 +52,10 @@ module _ (x : Setup) (keeps : IsHierarchy x.h) (c : ClassId) (known : c.0 < leng
   pub whole_number : s.root ≡ Whole → 0 ≡ vtt_word_number x c s
   whole_number whole = sym (number_whole x c at.passed s at.rest at.is front whole)
 
-  pub shared_distance_none : is_virtual_root s.root ≡ true → 0 ≡ point_distance x c s
+  pub shared_distance_none : is_shared_root s.root ≡ true → 0 ≡ point_distance x c s
   shared_distance_none shared = sym (distance_outside x c at.passed s at.rest at.is shared)
 
-  pub shared_number : is_virtual_root s.root ≡ true → needs_word x.h (places x) s ≡ true → has_vtt x.h c ≡ true → walk.item ≡ vtt_word_number x c s
+  pub shared_number : is_shared_root s.root ≡ true → needs_word x.h (places x) s ≡ true → has_vtt x.h c ≡ true → walk.item ≡ vtt_word_number x c s
   shared_number shared needs has =
       let cut_item : walk.item ≡ capped_count (next_item x.h (places x) c at.passed) = at.past.item in
       let p = needs_word x.h (places x) in
@@ -69,10 +68,10 @@ module _ (x : Setup) (keeps : IsHierarchy x.h) (c : ClassId) (known : c.0 < leng
       exact ∙ sym (number_outside x c at.passed s at.rest at.is shared needs)
 
 -- what lies behind a virtual base and is set apart needs a word
-pub shared_needs : (x : Setup) (s : Subobject) → is_set_apart x s ≡ true → is_virtual_root s.root ≡ true → needs_word x.h (places x) s ≡ true
+pub shared_needs : (x : Setup) (s : Subobject) → is_set_apart x s ≡ true → is_shared_root s.root ≡ true → needs_word x.h (places x) s ≡ true
 shared_needs x s apart shared = apart_needs x s apart ∙ by_root s.root s.path (class_has_virtual x.h (class_of s)) shared
   where
-    by_root : (root : Root) (path : List ClassId) (b : Bool) → is_virtual_root root ≡ true → (is_proper_at root path && (b || is_virtual_root root)) ≡ true
+    by_root : (root : Root) (path : List ClassId) (b : Bool) → is_shared_root root ≡ true → (is_proper_at root path && (b || is_shared_root root)) ≡ true
     by_root Whole path b e = absurd (cc)
     by_root (Shared v) path true e = refl
     by_root (Shared v) path false e = refl

@@ -8,7 +8,7 @@ use Rattle.cxx_hierarchy.specs.declared.records.ClassId.{ClassId}
 use Rattle.cxx_hierarchy.specs.Classes.{Classes}
 use Rattle.cxx_hierarchy.specs.Hierarchies.{IsHierarchy}
 use Rattle.cxx_overrider.specs.declared.FunctionId.{FunctionId}
-use Rattle.cxx_overrider.specs.Functions.{Signature, named, destructor, signature_of}
+use Rattle.cxx_overrider.specs.Functions.{Signature, named, destructor, signature_of, same_function}
 use Rattle.cxx_overrider.specs.Virtuals.{same_name, own, is_virtual}
 use Rattle.cxx_search.specs.Searches.{destructor_of}
 use Rattle.cxx_search.proofs.Bases.{destructor_signature}
@@ -20,7 +20,7 @@ use Rattle.abi_sound.specs.Places.{Places, places_of}
 use Rattle.abi_sound.specs.Sound.{IsSoundLayout}
 use Rattle.abi_slots.specs.declared.words.CodeKind.TheVariants.{Plain, Complete, Deleting}
 use Rattle.abi_slots.specs.declared.words.EntryKey.{EntryKey}
-use Rattle.abi_slots.specs.Listing.{entry_key, kinds_in, keys_of, own_keys, needs_return, shares, same_function_id, same_entry_key, or_itself, listing, first_position, entry_number, primary_entries, new_entries, entries_in, entries}
+use Rattle.abi_slots.specs.Listing.{entry_key, kinds_in, keys_of, own_keys, needs_return, shares, same_entry_key, or_itself, listing, first_position, entry_number, primary_entries, new_entries, entries_in, entries}
 use Rattle.abi_slots.specs.Slots.{first_kind, first_key}
 use Rattle.abi_slots.proofs.Lists.{Item, item_flat, any_item}
 use Rattle.abi_slots.proofs.Names.{key_itself}
@@ -94,16 +94,16 @@ found_twins h l f old (end_block g rest b) =
 next_place : (g : FunctionId) (all : List EntryKey) → AreBlocks all → list_any (same_entry_key (entry_key g Complete)) all ≡ true → first_position (same_entry_key (entry_key g Deleting)) all ≡ first_position (same_entry_key (entry_key g Complete)) all + 1
 next_place g all no_block is = cc
 next_place g all (plain_block f rest b) is =
-    split (same_function_id g f) (λ t. list_any (same_entry_key (entry_key g Complete)) rest ≡ true → ((t && false) || list_any (same_entry_key (entry_key g Complete)) rest) ≡ true → (if (t && false) then 0 else suc (first_position (same_entry_key (entry_key g Deleting)) rest)) ≡ (if (t && false) then 0 else suc (first_position (same_entry_key (entry_key g Complete)) rest)) + 1)
+    split (same_function g f) (λ t. list_any (same_entry_key (entry_key g Complete)) rest ≡ true → ((t && false) || list_any (same_entry_key (entry_key g Complete)) rest) ≡ true → (if (t && false) then 0 else suc (first_position (same_entry_key (entry_key g Deleting)) rest)) ≡ (if (t && false) then 0 else suc (first_position (same_entry_key (entry_key g Complete)) rest)) + 1)
     (λ t there e. let i = next_place g rest b there in omega arith)
     (λ t there e. let i = next_place g rest b there in omega arith)
-    (later (same_function_id g f) (list_any (same_entry_key (entry_key g Complete)) rest) is) is
+    (later (same_function g f) (list_any (same_entry_key (entry_key g Complete)) rest) is) is
   where
     later : (s t : Bool) → ((s && false) || t) ≡ true → t ≡ true
     later true t e = e
     later false t e = e
 next_place g all (end_block f rest b) is =
-    split (same_function_id g f) (λ t. ((t && true) || ((t && false) || list_any (same_entry_key (entry_key g Complete)) rest)) ≡ true → (if (t && false) then 0 else suc (if (t && true) then 0 else suc (first_position (same_entry_key (entry_key g Deleting)) rest))) ≡ (if (t && true) then 0 else suc (if (t && false) then 0 else suc (first_position (same_entry_key (entry_key g Complete)) rest))) + 1)
+    split (same_function g f) (λ t. ((t && true) || ((t && false) || list_any (same_entry_key (entry_key g Complete)) rest)) ≡ true → (if (t && false) then 0 else suc (if (t && true) then 0 else suc (first_position (same_entry_key (entry_key g Deleting)) rest))) ≡ (if (t && true) then 0 else suc (if (t && false) then 0 else suc (first_position (same_entry_key (entry_key g Complete)) rest))) + 1)
     (λ t e. refl) (λ t e. let i = next_place g rest b e in omega arith) is
 
 module _ (h : Classes) (l : Places) (keeps : IsHierarchy h) (are : ArePrimaries h l) where

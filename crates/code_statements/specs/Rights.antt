@@ -5,7 +5,7 @@ use Rattle.cxx_hierarchy.specs.declared.records.ValueType.{ValueType}
 use Rattle.cxx_subobject.specs.declared.Subobject.{Subobject}
 use Rattle.cxx_subobject.specs.Subobjects.{class_of}
 use Rattle.cxx_overrider.specs.declared.FunctionId.{FunctionId}
-use Rattle.cxx_overrider.specs.Functions.{return_of}
+use Rattle.cxx_overrider.specs.Functions.{return_of, pointee}
 use Rattle.cxx_program.specs.declared.operand.TypedOperand.{TypedOperand}
 use Rattle.cxx_program.specs.declared.operand.Conversion.{Conversion}
 use Rattle.cxx_program.specs.declared.operand.Variable.{Variable}
@@ -19,7 +19,7 @@ use Rattle.cxx_program.specs.declared.statement.TypedRight.{TypedRight}
 use Rattle.cxx_program.specs.declared.statement.TypedRight.TheVariants.{Operand, Arithmetic, SamePointer, Not, Read, Address, Call, New, Cast, TypeEqual}
 use Rattle.path_model.specs.Uses.{is_shared, is_shared_way}
 use Rattle.path_model.specs.Outs.{class_or_first}
-use Rattle.abi_slots.specs.Listing.{pointee, entry_number}
+use Rattle.abi_slots.specs.Listing.{entry_number}
 use Rattle.abi_slots.specs.Slots.{first_key}
 use Rattle.byte_code.specs.declared.op.ArithKind.{ArithKind}
 use Rattle.byte_code.specs.declared.op.ArithKind.TheVariants.{Add as AddKind, Subtract as SubtractKind, Multiply as MultiplyKind, Less as LessKind, LessEqual as LessEqualKind, Equal as EqualKind, NotEqual as NotEqualKind}

@@ -4,7 +4,7 @@ use Rattle.cxx_hierarchy.specs.declared.records.ClassId.{ClassId}
 use Rattle.cxx_hierarchy.specs.declared.records.Scalar.TheVariants.{Int}
 use Rattle.cxx_hierarchy.specs.declared.records.ValueType.{ValueType}
 use Rattle.cxx_hierarchy.specs.declared.records.ValueType.TheVariants.{Number as NumberType, Pointer as PointerType}
-use Rattle.cxx_overrider.specs.Functions.{return_of}
+use Rattle.cxx_overrider.specs.Functions.{return_of, pointee}
 use Rattle.cxx_overrider.specs.Virtuals.{is_virtual}
 use Rattle.cxx_search.specs.Searches.{destructor_of}
 use Rattle.cxx_program.specs.declared.operand.Argument.{Argument}
@@ -17,7 +17,7 @@ use Rattle.cxx_program.specs.declared.operand.TypedOperand.TheVariants.{Variable
 use Rattle.cxx_program.specs.Typed.{Scope, variable_type}
 use Rattle.path_plan.specs.Plans.{InFull}
 use Rattle.path_model.specs.Effects.{block_at}
-use Rattle.abi_slots.specs.Listing.{pointee, entry_number, entry_key}
+use Rattle.abi_slots.specs.Listing.{entry_number, entry_key}
 use Rattle.abi_slots.specs.declared.words.CodeKind.TheVariants.{Deleting}
 use Rattle.byte_code.specs.declared.op.Finish.TheVariants.{Move}
 use Rattle.byte_code.specs.declared.op.Op.{Op}

@@ -2,10 +2,9 @@
 
 ghost use Rattle.std.specs.Prelude.{◌≡◌, ◌++◌, true, false, OnOk, IfOk, Contains, Some};
 ghost use Rattle.std.specs.Option.{option_copied};
-ghost use Rattle.cxx_overrider.specs.Functions.{declaration_of, return_of};
+ghost use Rattle.cxx_overrider.specs.Functions.{declaration_of, return_of, pointee};
 ghost use Rattle.cxx_overrider.specs.Virtuals.{own};
 ghost use Rattle.path_model.specs.Uses.{is_shared_way};
-ghost use Rattle.abi_slots.specs.Listing.{pointee};
 ghost use Rattle.code_ops.specs.Arguments.{arguments_registers};
 ghost use Rattle.code_statements.specs.Rights.{through_class, qualifier_distance, call_views, call_used, qualifier_ops, receiver_ops, result_class, call_entry, call_front, call_ops, unused, result_taken, object_taken};
 ghost use Rattle.code_ops.specs.invariants.Sites.{site_setup, site_scope, site_block, site_start, IsSiteAt, IsLaidSite};

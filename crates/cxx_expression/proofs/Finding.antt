@@ -32,7 +32,8 @@ use Rattle.cxx_lookup.proofs.NameFindings.{name_only}
 use Rattle.cxx_lookup.proofs.BaseFindings.{base_only}
 use Rattle.cxx_expression.specs.declared.look_up.Looked.TheVariants.{Missing, Ambiguous, Member, Function}
 use Rattle.cxx_expression.specs.declared.look_up.Based.TheVariants.{NotBase, TwoBases, Base as ABase}
-use Rattle.cxx_expression.specs.Lookups.{as_looked, as_based, looked_up, base_up, member_record, function_record, has_virtual, declares_virtual, is_polymorphic, class_numbered, find_class}
+use Rattle.cxx_hierarchy.specs.Declarations.{has_virtual, declares_virtual}
+use Rattle.cxx_expression.specs.Lookups.{as_looked, as_based, looked_up, base_up, member_record, function_record, is_polymorphic, class_numbered, find_class}
 
 pub member_is : (h : Classes) → IsHierarchy h → (c : ClassId) (name : Text) (s : Subobject) (n : ℕ) → IsNameFound h c name (AMember s n) → looked_up h c name ≡ Member s n
 unfolding looked_up

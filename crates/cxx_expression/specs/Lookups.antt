@@ -1,11 +1,11 @@
 -- What the names of classes and members mean.
-use Rattle.std.specs.Prelude.{ℕ, Bool, false, Option, Some, None, slice_get}
+use Rattle.std.specs.Prelude.{ℕ, Bool, Option, Some, None, slice_get}
 use Rattle.std.specs.List.{list_any}
 use Rattle.cxx_hierarchy.specs.declared.records.ClassId.{ClassId}
 use Rattle.cxx_hierarchy.specs.declared.records.Member.{Member as MemberRecord}
 use Rattle.cxx_hierarchy.specs.declared.records.Function.{Function as FunctionRecord}
-use Rattle.cxx_hierarchy.specs.Classes.{Class, Classes, class_at, class_names, members_of, functions_of}
-use Rattle.cxx_hierarchy.specs.Declarations.{has_virtual_function}
+use Rattle.cxx_hierarchy.specs.Classes.{Classes, class_names, members_of, functions_of}
+use Rattle.cxx_hierarchy.specs.Declarations.{declares_virtual}
 use Rattle.cxx_hierarchy.specs.NameTables.{Text, place_in}
 use Rattle.cxx_subobject.specs.declared.Subobject.{Subobject}
 use Rattle.cxx_subobject.specs.Subobjects.{class_of}
@@ -55,16 +55,6 @@ member_record h c number = slice_get (members_of h c) number
 -- the function of a number in a class
 unfoldable pub function_record : Classes → ClassId → ℕ → Option (FunctionRecord ClassId)
 function_record h c number = slice_get (functions_of h c) number
-
--- a class that is there declares a virtual function
-abbrev pub has_virtual : Option Class → Bool
-has_virtual None = false
-has_virtual (Some class) = has_virtual_function class
-
--- the class of a subobject declares a virtual function
-abbrev pub declares_virtual : Classes → Option ClassId → Bool
-declares_virtual h None = false
-declares_virtual h (Some c) = has_virtual (class_at h c)
 
 -- the class declares or inherits a virtual function; a virtual destructor is one (ISO C++03 10.3 p1)
 unfoldable pub is_polymorphic : Classes → ClassId → Bool

@@ -5,7 +5,8 @@ ghost use Rattle.std.specs.Option.{option_copied};
 ghost use Rattle.std.specs.List.{list_any};
 ghost use Rattle.cxx_hierarchy.specs.Classes.{width_of_member};
 ghost use Rattle.cxx_subobject.specs.Subobjects.{class_of};
-ghost use Rattle.cxx_expression.specs.Lookups.{looked_up, base_up, member_record, function_record, declares_virtual, is_polymorphic};
+ghost use Rattle.cxx_hierarchy.specs.Declarations.{declares_virtual};
+ghost use Rattle.cxx_expression.specs.Lookups.{looked_up, base_up, member_record, function_record, is_polymorphic};
 ghost use Rattle.cxx_expression.specs.invariants.Known.{Knows};
 
 use crate::copies::copy_subobject;

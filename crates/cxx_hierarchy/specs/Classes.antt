@@ -58,6 +58,15 @@ leaf_type_in (Some member) = value_type_in member.ty member.count
 abbrev pub leaf_type : Classes → ClassId → ℕ → Option (ValueType ClassId)
 leaf_type h c m = leaf_type_in (slice_get (members_of h c) m)
 
+abbrev pub element_value_type : FieldType ClassId → Option (ValueType ClassId)
+element_value_type (Value type) = Some type
+element_value_type (Object c) = None
+
+-- the type of the elements of a member that is a number or a pointer, or an array of them
+abbrev pub element_type : Option (Member ClassId) → Option (ValueType ClassId)
+element_type None = None
+element_type (Some member) = element_value_type member.ty
+
 abbrev pub width_in : Option (Member ClassId) → Option ℕ
 width_in None = None
 width_in (Some member) = member.width

@@ -6,7 +6,7 @@ use Rattle.cxx_hierarchy.specs.declared.records.Base.{Base}
 use Rattle.cxx_hierarchy.specs.declared.records.Function.{Function}
 use Rattle.cxx_hierarchy.specs.declared.records.Destructor.{Destructor}
 use Rattle.cxx_hierarchy.specs.declared.records.Destructor.TheVariants.{Implicit, Plain, Virtual}
-use Rattle.cxx_hierarchy.specs.Classes.{Class}
+use Rattle.cxx_hierarchy.specs.Classes.{Class, Classes, class_at}
 
 -- the class declares no destructor (ISO C++03 12.4)
 abbrev pub is_implicit : Destructor → Bool
@@ -23,6 +23,16 @@ is_virtual_destructor Virtual = true
 -- the class declares a virtual function, or its destructor so (ISO C++03 10.3)
 abbrev pub has_virtual_function : Class → Bool
 has_virtual_function class = list_any (λ (function : Function ClassId). function.is_virtual) class.functions || is_virtual_destructor class.destructor
+
+-- a class that is there declares a virtual function
+abbrev pub has_virtual : Option Class → Bool
+has_virtual None = false
+has_virtual (Some class) = has_virtual_function class
+
+-- the class of a subobject declares a virtual function
+abbrev pub declares_virtual : Classes → Option ClassId → Bool
+declares_virtual h None = false
+declares_virtual h (Some c) = has_virtual (class_at h c)
 
 -- a base that is not virtual
 abbrev pub is_plain_base : Base ClassId → Bool

@@ -14,12 +14,12 @@ use Rattle.cxx_subobject.specs.Preorder.{preorder}
 use Rattle.cxx_subobject.proofs.TreeLemmas.{preorder_has, has_preorder}
 use Rattle.cxx_subobject.proofs.DecidingLemmas.{decide_class, decide_class_of}
 use Rattle.cxx_overrider.specs.Functions.{Signature, named, destructor}
-use Rattle.cxx_overrider.specs.invariants.Keys.{scalar_code}
+use Rattle.cxx_overrider.specs.Virtuals.{scalar_number}
 use Rattle.cxx_overrider.specs.Overriding.{HasPart}
 use Rattle.cxx_overrider.proofs.KeyLemmas.{same_scalar}
 
 pub decide_type : (t u : ValueType ClassId) → Decided (t ≡ u)
-decide_type (Number s) (Number r) = ⊎_elim (λ e. inl (ap (λ x. Number x) (same_scalar s r e))) (λ apart. inr (λ e. apart (let f : s ≡ r = cc in ap scalar_code f))) (decide_number (scalar_code s) (scalar_code r))
+decide_type (Number s) (Number r) = ⊎_elim (λ e. inl (ap (λ x. Number x) (same_scalar s r e))) (λ apart. inr (λ e. apart (let f : s ≡ r = cc in ap scalar_number f))) (decide_number (scalar_number s) (scalar_number r))
 decide_type (Number s) (Pointer d) = inr (λ e. cc)
 decide_type (Pointer c) (Number r) = inr (λ e. cc)
 decide_type (Pointer c) (Pointer d) = ⊎_elim (λ e. inl (ap (λ x. Pointer x) e)) (λ apart. inr (λ e. apart (let f : c ≡ d = cc in f))) (decide_class c d)

@@ -12,7 +12,8 @@ use Rattle.cxx_hierarchy.specs.Classes.{Classes}
 use Rattle.cxx_subobject.proofs.PathLemmas.{same_id}
 use Rattle.cxx_overrider.specs.declared.FunctionId.{FunctionId}
 use Rattle.cxx_overrider.specs.Functions.{Signature, named, destructor, signature_of}
-use Rattle.cxx_overrider.specs.invariants.Keys.{scalar_code, first_code, second_code, type_codes, signature_key, AreKeyed}
+use Rattle.cxx_overrider.specs.Virtuals.{scalar_number}
+use Rattle.cxx_overrider.specs.invariants.Keys.{first_code, second_code, type_codes, signature_key, AreKeyed}
 use Rattle.cxx_overrider.specs.invariants.Numbers.{AreFirst, IsFirstOf}
 use Rattle.cxx_hierarchy.specs.NameTables.{Text, Numbers, number_in}
 use Rattle.cxx_hierarchy.proofs.Listed.{place_listed}
@@ -27,7 +28,7 @@ scalar_of n =
     if nat_eq n 0 then TheBool else (if nat_eq n 1 then Char else (if nat_eq n 2 then SChar else (if nat_eq n 3 then UChar else (if nat_eq n 4 then Short else (if nat_eq n 5 then UShort else
     (if nat_eq n 6 then Int else (if nat_eq n 7 then UInt else (if nat_eq n 8 then Long else (if nat_eq n 9 then ULong else (if nat_eq n 10 then LongLong else ULongLong))))))))))
 
-scalar_back : (s : Scalar) → scalar_of (scalar_code s) ≡ s
+scalar_back : (s : Scalar) → scalar_of (scalar_number s) ≡ s
 unfolding scalar_of
 scalar_back TheBool = refl
 scalar_back Char = refl
@@ -42,7 +43,7 @@ scalar_back ULong = refl
 scalar_back LongLong = refl
 scalar_back ULongLong = refl
 
-pub same_scalar : (s t : Scalar) → scalar_code s ≡ scalar_code t → s ≡ t
+pub same_scalar : (s t : Scalar) → scalar_number s ≡ scalar_number t → s ≡ t
 same_scalar s t e = sym (scalar_back s) ∙ ap scalar_of e ∙ scalar_back t
 
 same_type : (t u : ValueType ClassId) → first_code t ≡ first_code u → second_code t ≡ second_code u → t ≡ u

@@ -1,5 +1,5 @@
 -- The functions of a class, and what an overriding function shares with the overridden one (ISO C++03 10.3, 12.4).
-use Rattle.std.specs.Prelude.{ℕ, Bool, true, false, nat_eq, Option, Some, None, List, map, length, slice_get}
+use Rattle.std.specs.Prelude.{ℕ, Bool, true, false, nat_eq, Option, Some, None, List, map, length, slice_get, ◌&&◌}
 use Rattle.cxx_hierarchy.specs.declared.records.ClassId.{ClassId}
 use Rattle.cxx_hierarchy.specs.declared.records.Function.{Function}
 use Rattle.cxx_hierarchy.specs.declared.records.ValueType.{ValueType}
@@ -8,6 +8,8 @@ use Rattle.cxx_hierarchy.specs.declared.records.Destructor.{Destructor}
 use Rattle.cxx_hierarchy.specs.Declarations.{is_virtual_destructor}
 use Rattle.cxx_hierarchy.specs.Classes.{Class, Classes, class_at, functions_of}
 use Rattle.cxx_overrider.specs.declared.FunctionId.{FunctionId}
+use Rattle.cxx_hierarchy.specs.declared.records.ReturnType.TheVariants.{Void, Value}
+use Rattle.cxx_hierarchy.specs.declared.records.ValueType.TheVariants.{Number, Pointer}
 
 -- a name and the types of the parameters; all destructors count as one name
 pub data Signature : Type 0 where
@@ -59,3 +61,14 @@ return_at None = None
 -- what the function returns; a destructor has no return type
 abbrev pub return_of : Classes → FunctionId → Option (ReturnType ClassId)
 return_of h f = return_at (declaration_of h f)
+
+-- the test that two functions are one
+abbrev pub same_function : FunctionId → FunctionId → Bool
+same_function f g = nat_eq f.class.0 g.class.0 && nat_eq f.index g.index
+
+-- the class to which a function returns a pointer
+abbrev pub pointee : Option (ReturnType ClassId) → Option ClassId
+pointee None = None
+pointee (Some Void) = None
+pointee (Some (Value (Number t))) = None
+pointee (Some (Value (Pointer c))) = Some c

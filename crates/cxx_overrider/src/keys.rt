@@ -5,7 +5,8 @@ ghost use Rattle.cxx_hierarchy.specs.declared.records.ClassId.{ClassId};
 ghost use Rattle.cxx_hierarchy.specs.declared.records.Param.{Param};
 ghost use Rattle.cxx_hierarchy.specs.declared.records.ValueType.TheVariants.{Pointer};
 ghost use Rattle.cxx_overrider.specs.Functions.{Signature, signature_of};
-ghost use Rattle.cxx_overrider.specs.invariants.Keys.{scalar_code, first_code, second_code, type_codes, signature_key};
+ghost use Rattle.cxx_overrider.specs.Virtuals.{scalar_number};
+ghost use Rattle.cxx_overrider.specs.invariants.Keys.{first_code, second_code, type_codes, signature_key};
 
 use crate::FunctionId;
 use crate::signatures::declaration;
@@ -14,7 +15,7 @@ use foundation::NoMemory;
 use std::alloc::Global;
 
 fn scalar_code(scalar: Scalar) -> u8
-    ensures { result ≡ scalar_code scalar }
+    ensures { result ≡ scalar_number scalar }
 {
     match scalar {
         Scalar::Bool => 0,

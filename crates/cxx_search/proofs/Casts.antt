@@ -13,7 +13,8 @@ use Rattle.foundation.proofs.Truth.{split}
 use Rattle.foundation.proofs.Members.{Has, EachOnce}
 use Rattle.foundation.proofs.Chosen.{has_filter, filter_has, once_filter}
 use Rattle.cxx_search.specs.Searches.{subobjects_under, is_within, is_public_in, is_class, is_of_class, the_only, where_it, targets, cast_down, cast_across, or_else, cast_in}
-use Rattle.cxx_search.specs.Casts.{IsOnly, IsTarget, IsTargetOver, CastsDown, CastsAcross, IsCast, leads_down, leads_across, leads_nowhere}
+use Rattle.foundation.specs.Only.{IsOnly}
+use Rattle.cxx_search.specs.Casts.{IsTarget, IsTargetOver, CastsDown, CastsAcross, IsCast, leads_down, leads_across, leads_nowhere}
 use Rattle.cxx_search.proofs.Within.{parts_inside, inside_parts, parts_once, within_inside, inside_within}
 use Rattle.cxx_search.proofs.Walks.{public_walk, walk_public}
 

@@ -15,26 +15,10 @@ use Rattle.cxx_subobject.proofs.PathLemmas.{same_id}
 use Rattle.cxx_overrider.specs.declared.FunctionId.{FunctionId}
 use Rattle.cxx_overrider.specs.Functions.{Signature, named, destructor, signature_of}
 use Rattle.cxx_overrider.specs.Virtuals.{scalar_number, same_type, same_types, same_signature, same_signatures, same_name}
-use Rattle.cxx_overrider.specs.invariants.Keys.{scalar_code}
 use Rattle.cxx_overrider.proofs.KeyLemmas.{same_scalar}
 
--- the number of a scalar is its code in the key of a signature
-number_is_code : (s : Scalar) → scalar_code s ≡ scalar_number s
-number_is_code TheBool = refl
-number_is_code Char = refl
-number_is_code SChar = refl
-number_is_code UChar = refl
-number_is_code Short = refl
-number_is_code UShort = refl
-number_is_code Int = refl
-number_is_code UInt = refl
-number_is_code Long = refl
-number_is_code ULong = refl
-number_is_code LongLong = refl
-number_is_code ULongLong = refl
-
 scalar_is : (s t : Scalar) → nat_eq (scalar_number s) (scalar_number t) ≡ true → s ≡ t
-scalar_is s t e = same_scalar s t (number_is_code s ∙ eqb-true (scalar_number s) (scalar_number t) e ∙ sym (number_is_code t))
+scalar_is s t e = same_scalar s t (eqb-true (scalar_number s) (scalar_number t) e)
 
 type_is : (s t : ValueType ClassId) → same_type s t ≡ true → s ≡ t
 type_is (Number s) (Number t) e = ap (λ x. Number x) (scalar_is s t e)

@@ -6,11 +6,7 @@ use Rattle.cxx_hierarchy.specs.Classes.{Classes}
 use Rattle.cxx_subobject.specs.declared.Subobject.{Subobject}
 use Rattle.cxx_subobject.specs.Subobjects.{class_of}
 use Rattle.cxx_subobject.specs.Inside.{IsInside, IsPublicWalk}
-
--- the one of which something holds
-pub record IsOnly {X : Type 0} (P : X → Type 0) (x : X) : Type 0 where
-  pub is : P x
-  pub only : (other : X) → P other → other ≡ x
+use Rattle.foundation.specs.Only.{IsOnly}
 
 -- t is a subobject of class `target` in the view
 pub record IsTarget (h : Classes) (target : ClassId) (x t : Subobject) : Type 0 where

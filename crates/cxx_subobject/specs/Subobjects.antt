@@ -16,6 +16,11 @@ Leads h c (b ∷ path) = IsDirectBase h c false b × Leads h b path
 abbrev pub subobject : Root → List ClassId → Subobject
 subobject root path = record { root = root; path = path }
 
+-- the path begins at a virtual base
+abbrev pub is_shared_root : Root → Bool
+is_shared_root Whole = false
+is_shared_root (Shared v) = true
+
 -- the whole of an object of class c
 abbrev pub whole_of : ClassId → Subobject
 whole_of c = subobject Whole (c ∷ [])

@@ -33,7 +33,8 @@ use Rattle.cxx_expression.specs.declared.scene.Setting.{Setting}
 use Rattle.cxx_expression.specs.declared.typed.Pointer.{Pointer}
 use Rattle.cxx_expression.specs.declared.typed.RightValue.{RightValue}
 use Rattle.cxx_expression.specs.Checked.{pure}
-use Rattle.cxx_expression.specs.Lookups.{class_numbered, find_class, base_up, is_polymorphic, declares_virtual, has_virtual}
+use Rattle.cxx_hierarchy.specs.Declarations.{has_virtual, declares_virtual}
+use Rattle.cxx_expression.specs.Lookups.{class_numbered, find_class, base_up, is_polymorphic}
 use Rattle.cxx_expression.specs.Values.{as_class, class_named, class_of_spot, pointer_of}
 use Rattle.cxx_expression.specs.Operators.{right_value, truth_value}
 use Rattle.cxx_expression.specs.Casts.{down_to, up_or_down, static_cast, if_polymorphic, up_or_dynamic, dynamic_cast, cast_of, cast_right, polymorphic_pointer, type_right}

@@ -1,8 +1,8 @@
 -- The bits of a leaf that a dump tells are its value.
-use Rattle.std.proofs.Common.{◌≡◌, ◌∙◌, ℕ, ◌+◌, ◌*◌, false, Option, Some, List, [], ◌∷◌, ⊎_elim, map, refl, ap, subst, sym}
+use Rattle.std.proofs.Common.{◌≡◌, ◌∙◌, ℕ, ◌+◌, ◌*◌, false, Option, Some, List, [], ◌∷◌, map, refl, ap, subst, sym}
 use Rattle.std.specs.Prelude.{slice_get, Contains}
-use Rattle.std.specs.List.{AllZip}
-use Rattle.foundation.proofs.Members.{Has, from_map, has_from_contains}
+use Rattle.foundation.proofs.Members.{from_map, has_from_contains}
+use Rattle.foundation.proofs.Zips.{zip_has}
 use Rattle.cxx_hierarchy.specs.declared.records.ClassId.{ClassId}
 use Rattle.cxx_hierarchy.specs.declared.records.ValueType.{ValueType}
 use Rattle.cxx_hierarchy.specs.declared.records.ValueType.TheVariants.{Number as NumberType, Pointer as PointerType}
@@ -28,12 +28,6 @@ use Rattle.text_bytes.specs.declared.rows.LeafRow.{LeafRow}
 use Rattle.text_bytes.specs.LeafRows.{leaf_rows}
 use Rattle.text_bytes.proofs.RowsOfLeaves.{IsRowOf, rows_are}
 use Rattle.dump_laws.specs.DumpsHeld.{HoldsLeaf, HoldsValue, IsAddressOf}
-
--- what goes along with an item
-zip_row : {A B : Type 0} (R : A → B → Type 0) (xs : List A) (ys : List B) (x : A) → AllZip R xs ys → Has xs x → (y : B) × R x y
-zip_row R [] ys x z has = absurd has
-zip_row R (a ∷ xs) [] x z has = absurd z
-zip_row {A} {B} R (a ∷ xs) (y ∷ ys) x z has = ⊎_elim (λ same. (y, subst (λ (b : A). R b y) same z.0)) (λ more. zip_row R xs ys x z.1 more) has
 
 unset_told : (s : Objects) (v : Value) → shown s v ≡ ShownUnset → v ≡ Unset
 unset_told s Unset e = refl
@@ -103,7 +97,7 @@ module _ (w : World) (s : Objects) (b : ByteState) (columns : ColumnsStand w s b
         let l = places_in w in
         let leaves : List Leaf = leaves_of h c (whole_part k c) in
         let a = from_map (dump_leaf s) leaves leaf (has_from_contains (map (dump_leaf s) leaves) leaf has) in
-        let row = zip_row (IsRowOf h l s.classes k c) leaves (leaf_rows h l c) a.0 (rows_are h l s.classes k c there) a.1 in
+        let row = zip_has (IsRowOf h l s.classes k c) leaves (leaf_rows h l c) a.0 (rows_are h l s.classes k c there) a.1 in
         let object : a.0.part.object ≡ k = row.1.object in
         let class : object_class s a.0.part.object ≡ c = ap (object_class s) object ∙ ap class_or_first there in
         subst (λ (x : DumpLeaf). (x.at.object ≡ k + 1) × (x.at.class ≡ c) × HoldsLeaf h l b (object_start g k) c x) a.2 (ap (λ n. n + 1) object, class, leaf_told a.0 row.0 row.1)

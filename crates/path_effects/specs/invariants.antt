@@ -1,4 +1,3 @@
-pub mod Results
 pub mod Arguments
 pub mod Begun
 pub mod SideValues

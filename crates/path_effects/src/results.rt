@@ -1,11 +1,10 @@
 //! How the result of the function that runs becomes one of the declaration that was found.
 
 ghost use Rattle.std.specs.Prelude.{◌≡◌, ◌<◌, IfOk, IfSome, length};
-ghost use Rattle.cxx_overrider.specs.Functions.{return_of};
+ghost use Rattle.cxx_overrider.specs.Functions.{return_of, pointee};
 ghost use Rattle.path_model.specs.Effects.{result_conversion};
 ghost use Rattle.path_tables.specs.Asked.{AreAnswers};
 ghost use Rattle.path_tables.specs.Worlds.{IsWorld};
-ghost use Rattle.path_effects.specs.invariants.Results.{pointee_of_result};
 
 use cxx_hierarchy::{ClassId, Hierarchy, ReturnType, ValueType};
 use cxx_overrider::FunctionId;
@@ -18,7 +17,7 @@ use std::alloc::Global;
 
 /// The class to which a function returns a pointer.
 fn pointee(h: &Hierarchy, f: FunctionId) -> Option<ClassId>
-    ensures class { result ≡ pointee_of_result (return_of h.now f) }
+    ensures class { result ≡ pointee (return_of h.now f) }
     ensures known { IfSome result (λ c. c.0 < length h.now) }
 {
     h.keeps();

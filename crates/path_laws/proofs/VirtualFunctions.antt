@@ -9,7 +9,8 @@ use Rattle.cxx_subobject.specs.Subobjects.{IsSubobject, class_of}
 use Rattle.cxx_subobject.specs.Preorder.{preorder}
 use Rattle.cxx_subobject.proofs.TreeLemmas.{preorder_has, has_preorder}
 use Rattle.cxx_program.specs.Typed.{IsPolymorphic}
-use Rattle.cxx_expression.specs.Lookups.{has_virtual, declares_virtual, is_polymorphic}
+use Rattle.cxx_hierarchy.specs.Declarations.{has_virtual, declares_virtual}
+use Rattle.cxx_expression.specs.Lookups.{is_polymorphic}
 
 by_class : (h : Classes) (c d : ClassId) (s : Subobject) → IsSubobject h c s → class_of s ≡ Some d → (o : Option Class) → class_at h d ≡ o → has_virtual o ≡ true → IsPolymorphic h c
 by_class h c d s valid of None there e = absurd (cc)

@@ -19,7 +19,8 @@ use Rattle.cxx_program.specs.declared.program.TypedProgram.{TypedProgram}
 use Rattle.cxx_program.specs.Typed.{Types, this_of, parameters_of, HasBody, IsTypedBody, IsTypedProgram}
 use Rattle.cxx_subobject.proofs.PathLemmas.{same_id}
 use Rattle.path_model.specs.Values.{Value, Unset}
-use Rattle.path_model.specs.States.{Target, same_function, same_owner, owned_body, is_body, start_locals, entered_body}
+use Rattle.cxx_overrider.specs.Functions.{same_function}
+use Rattle.path_model.specs.States.{Target, same_owner, owned_body, is_body, start_locals, entered_body}
 use Rattle.path_model.specs.Runs.{start_value, no_objects, main_frames, start}
 use Rattle.path_model.specs.TypedStates.{IsValue, AreValues, IsThis, IsTypedRunning, IsOpened, width_of_leaf}
 use Rattle.path_model.proofs.TypedRanges.{zero_in_range}

@@ -1,7 +1,6 @@
 -- The state of a run: objects, globals, and frames of bodies and plans.
-use Rattle.std.specs.Prelude.{ℕ, ◌-◌, Bool, true, false, nat_eq, ◌&&◌, Option, Some, None, List, [], ◌∷◌, ◌++◌, find, length, slice_set, replicate}
+use Rattle.std.specs.Prelude.{ℕ, ◌-◌, Bool, true, false, nat_eq, Option, Some, None, List, [], ◌∷◌, ◌++◌, find, length, slice_set, replicate}
 use Rattle.cxx_hierarchy.specs.declared.records.ClassId.{ClassId}
-use Rattle.cxx_overrider.specs.declared.FunctionId.{FunctionId}
 use Rattle.cxx_program.specs.declared.operand.Variable.{Variable}
 use Rattle.cxx_program.specs.declared.operand.Variable.TheVariants.{Global, Local}
 use Rattle.cxx_program.specs.declared.operand.Conversion.{Conversion}
@@ -15,12 +14,9 @@ use Rattle.path_plan.specs.Phases.{PartEvent}
 use Rattle.path_plan.specs.Plans.{Bodies}
 use Rattle.path_model.specs.Values.{Value, Unset, Objects, Sight}
 use Rattle.path_model.specs.Uses.{Wanted}
+use Rattle.cxx_overrider.specs.Functions.{same_function}
 
 -- the bodies of a program
-
--- the test that two functions are one
-abbrev pub same_function : FunctionId → FunctionId → Bool
-same_function f g = nat_eq f.class.0 g.class.0 && nat_eq f.index g.index
 
 -- the test that two bodies are those of one function, constructor or destructor
 abbrev pub same_owner : Owner → Owner → Bool

@@ -8,10 +8,8 @@ use Rattle.cxx_hierarchy.specs.declared.records.FieldType.{FieldType}
 use Rattle.cxx_hierarchy.specs.declared.records.FieldType.TheVariants.{Value as ValueField, Object}
 use Rattle.cxx_hierarchy.specs.Classes.{Classes, members_of}
 use Rattle.cxx_hierarchy.specs.Declarations.{elements_of}
-use Rattle.cxx_subobject.specs.declared.Root.{Root}
-use Rattle.cxx_subobject.specs.declared.Root.TheVariants.{Whole, Shared}
 use Rattle.cxx_subobject.specs.declared.Subobject.{Subobject}
-use Rattle.cxx_subobject.specs.Subobjects.{class_of, join, same_subobject}
+use Rattle.cxx_subobject.specs.Subobjects.{class_of, join, same_subobject, is_shared_root}
 use Rattle.cxx_subobject.specs.Preorder.{preorder}
 use Rattle.cxx_subobject.specs.Locations.{Step, ObjectPart}
 use Rattle.cxx_overrider.specs.declared.FunctionId.{FunctionId}
@@ -75,11 +73,6 @@ view_in phases k o (Some d) = view phases k o d
 -- the view of the complete object that a part belongs to (ISO C++03 12.7)
 abbrev pub view_of : Classes → Objects → ObjectPart → Option Subobject
 view_of h s p = view_in s.phases p.object p.owner (class_of_owner h s p)
-
--- the path begins at a virtual base
-abbrev pub is_shared_root : Root → Bool
-is_shared_root Whole = false
-is_shared_root (Shared v) = true
 
 -- behind a virtual base
 abbrev pub is_shared : Subobject → Bool

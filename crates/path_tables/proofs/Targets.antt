@@ -14,7 +14,8 @@ use Rattle.cxx_subobject.proofs.TreeLemmas.{preorder_has, has_preorder, preorder
 use Rattle.foundation.proofs.Members.{Has, has_at, index_of, once_by_place}
 use Rattle.foundation.proofs.Truth.{split, not_both}
 use Rattle.cxx_subobject.proofs.InsideLemmas.{inside_valid}
-use Rattle.cxx_search.specs.Casts.{IsOnly, IsTarget, IsTargetOver, CastsDown, CastsAcross, leads_down, leads_across, leads_nowhere}
+use Rattle.foundation.specs.Only.{IsOnly}
+use Rattle.cxx_search.specs.Casts.{IsTarget, IsTargetOver, CastsDown, CastsAcross, leads_down, leads_across, leads_nowhere}
 use Rattle.path_tables.specs.invariants.Targets.{IsWanted, IsOtherAt, IsPlaceOf, IsCastTo}
 
 -- what a test tells

@@ -2,7 +2,8 @@
 
 ghost use Rattle.std.specs.Prelude.{◌≡◌, ◌↔◌, IsTrue, Some, None};
 ghost use Rattle.cxx_subobject.specs.Subobjects.{IsSubobject};
-ghost use Rattle.cxx_search.specs.Casts.{IsOnly, CastsDown, CastsAcross};
+ghost use Rattle.foundation.specs.Only.{IsOnly};
+ghost use Rattle.cxx_search.specs.Casts.{CastsDown, CastsAcross};
 ghost use Rattle.path_tables.specs.invariants.Targets.{AreAmong, IsWanted, is_passed_over, IsOther, IsOtherAt, IsPlaceOf, IsCastTo};
 
 use crate::parts::is_of_class;

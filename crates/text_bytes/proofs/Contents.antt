@@ -3,7 +3,7 @@ use Rattle.std.proofs.Common.{ℕ, ◌+◌, ◌<◌, ◌≤◌, ⊎_elim, Option
 use Rattle.foundation.proofs.Members.{Has, from_map, has_cases}
 use Rattle.cxx_hierarchy.specs.declared.records.ClassId.{ClassId}
 use Rattle.cxx_hierarchy.specs.declared.records.ValueType.{ValueType}
-use Rattle.cxx_hierarchy.specs.Classes.{Classes, width_of_member}
+use Rattle.cxx_hierarchy.specs.Classes.{Classes, width_of_member, element_type}
 use Rattle.cxx_hierarchy.specs.Hierarchies.{IsHierarchy}
 use Rattle.abi_sound.specs.declared.class_layout.ClassLayout.{ClassLayout}
 use Rattle.abi_sound.specs.Places.{Places, places_of}
@@ -13,7 +13,7 @@ use Rattle.byte_memory.specs.Store.{Store}
 use Rattle.byte_code.specs.declared.code.ImageBytes.{ImageBytes}
 use Rattle.byte_machine.specs.declared.heap.Opened.{Opened}
 use Rattle.text_told.specs.declared.items.Item.{Item}
-use Rattle.text_told.specs.Fields.{member_at, value_type}
+use Rattle.text_told.specs.Fields.{member_at}
 use Rattle.text_told.specs.Pointers.{pointers_of}
 use Rattle.text_told.proofs.Contents.{LiesIn}
 use Rattle.text_told.proofs.Leading.{few_touched}
@@ -43,5 +43,5 @@ raw_lies_in h rows keeps sound c image memory opened start known item has = ⊎_
     from_row at =
         let f = from_map (row_item h memory opened start) (leaf_rows h l c) item at in
         let row = f.0 in
-        subst (LiesIn (l.size c)) f.2 (row_lies h memory opened start (l.size c) row (width_of_member h row.class row.number) (value_type (member_at h (Some row.class) row.number)) (row_inside h rows keeps sound (c.0 + 1) c row known f.1)
+        subst (LiesIn (l.size c)) f.2 (row_lies h memory opened start (l.size c) row (width_of_member h row.class row.number) (element_type (member_at h (Some row.class) row.number)) (row_inside h rows keeps sound (c.0 + 1) c row known f.1)
         (row_starts h rows sound (c.0 + 1) c row known f.1))

@@ -6,7 +6,7 @@ use Rattle.cxx_hierarchy.specs.declared.records.ClassId.{ClassId}
 use Rattle.cxx_hierarchy.specs.declared.records.Member.{Member}
 use Rattle.cxx_hierarchy.specs.declared.records.ValueType.{ValueType}
 use Rattle.cxx_hierarchy.specs.declared.records.FieldType.TheVariants.{Object}
-use Rattle.cxx_hierarchy.specs.Classes.{Classes}
+use Rattle.cxx_hierarchy.specs.Classes.{Classes, element_type}
 use Rattle.cxx_subobject.specs.declared.Subobject.{Subobject}
 use Rattle.cxx_subobject.specs.declared.locations.Hop.{Hop}
 use Rattle.cxx_subobject.specs.declared.locations.Hop.TheVariants.{Inherit, Member as MemberHop}
@@ -16,7 +16,7 @@ use Rattle.abi_sound.specs.Places.{Places}
 use Rattle.abi_sound.specs.Locations.{element_class, place_along_hops}
 use Rattle.abi_sound.proofs.PlaceLemmas.{element_class_is, place_at_inner}
 use Rattle.abi_print.specs.LayoutTexts.{subobject_text}
-use Rattle.text_told.specs.Fields.{before_field, element_name_text, field_name_text, inner_text, member_at, type_behind, value_type}
+use Rattle.text_told.specs.Fields.{before_field, element_name_text, field_name_text, inner_text, member_at, type_behind}
 
 -- the hops of the steps lead from an object of class c to a complete object of class d; it lies at a place, and what lies in it has a name behind this one
 pub record LeadsOn (h : Classes) (l : Places) (c : ClassId) (owner : List Step) (d : ClassId) (place : ℕ) (name : List ℕ) : Type 0 where
@@ -54,7 +54,7 @@ leads_more h l c owner d b e place name s m i on valid class element = record {
       ap (place_along_hops h l c) (longer hops) ∙ (on.at (Inherit s ∷ MemberHop m i ∷ hops) ∙ sums place (l.place d s) (l.member b m) (i * l.size e) (place_along_hops h l e hops) (place_along_hops h l d (Inherit s ∷ MemberHop m i ∷ hops)) inside);
   type = λ hops t is.
       let inside : type_behind h (element_class h (class_of s) m) hops ≡ Some t = ap (λ o. type_behind h o hops) (element_class_is h (class_of s) b m i (Object e) class element) ∙ is in
-      ap (type_behind h (Some c)) (longer hops) ∙ on.type (Inherit s ∷ MemberHop m i ∷ hops) t (ap (λ o. option_or o (value_type (member_at h (class_of s) m))) inside);
+      ap (type_behind h (Some c)) (longer hops) ∙ on.type (Inherit s ∷ MemberHop m i ∷ hops) t (ap (λ o. option_or o (element_type (member_at h (class_of s) m))) inside);
   named = λ t hops.
       let there : member_at h (class_of s) m ≡ Some element.member = ap (λ o. member_at h o m) class ∙ element.there in
       ap (field_name_text h) (longer (Inherit t ∷ hops))

@@ -1,5 +1,5 @@
 -- The virtual pointers of an object lie in dynamic subobjects of complete objects inside it.
-use Rattle.std.proofs.Common.{◌≡◌, ◌∙◌, ℕ, zero, suc, ◌+◌, ◌*◌, ◌<◌, Bool, true, false, ⊎_elim, Option, Some, None, List, [], ◌∷◌, refl, ap, subst, sym, arith, map}
+use Rattle.std.proofs.Common.{◌≡◌, ◌∙◌, ℕ, zero, suc, ◌+◌, ◌*◌, ◌<◌, Bool, true, false, ⊎_elim, Some, List, [], ◌∷◌, refl, ap, subst, sym, arith, map, Option, None}
 use Rattle.std.specs.Prelude.{◌&&◌}
 use Rattle.std.specs.List.{flat_map, range_with_len, slice_get}
 use Rattle.foundation.proofs.Members.{Has, from_flat_map, from_map, has_cases}
@@ -15,11 +15,11 @@ use Rattle.abi_primary.specs.Kinds.{IsDynamic}
 use Rattle.abi_sound.specs.Places.{Places}
 use Rattle.abi_sound.specs.Locations.{base_place_in, element_place, class_at_steps, owner_place, stride_in}
 use Rattle.abi_sound.proofs.PlaceLemmas.{owner_class_is}
-use Rattle.abi_slots.specs.Views.{by_part, heads, is_dynamic, is_dynamic_class, is_first, is_head}
+use Rattle.abi_slots.specs.Views.{by_part, heads, is_dynamic_class, is_first, is_head, whole_view, is_dynamic}
 use Rattle.abi_slots.proofs.Heads.{test_dynamic}
 use Rattle.text_told.specs.declared.pointers.MemberObjects.{MemberObjects}
 use Rattle.text_told.specs.declared.pointers.TablePointer.{TablePointer}
-use Rattle.text_told.specs.Pointers.{member_objects, moved_pointer, own_pointers, table_pointer_at, pointers_in, pointers_of, pointers_within, whole_view}
+use Rattle.text_told.specs.Pointers.{member_objects, moved_pointer, own_pointers, table_pointer_at, pointers_in, pointers_of, pointers_within}
 use Rattle.text_told.proofs.Objects.{AreMembers, are_members, head_valid, range_has}
 
 -- a pointer lies in a dynamic subobject of the complete object to which steps lead in an object of class c

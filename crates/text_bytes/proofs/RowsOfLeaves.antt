@@ -9,7 +9,7 @@ use Rattle.cxx_hierarchy.specs.declared.records.Member.{Member}
 use Rattle.cxx_hierarchy.specs.declared.records.ValueType.{ValueType}
 use Rattle.cxx_hierarchy.specs.declared.records.FieldType.{FieldType}
 use Rattle.cxx_hierarchy.specs.declared.records.FieldType.TheVariants.{Value, Object}
-use Rattle.cxx_hierarchy.specs.Classes.{Classes, members_of}
+use Rattle.cxx_hierarchy.specs.Classes.{Classes, members_of, element_value_type, element_type}
 use Rattle.cxx_hierarchy.specs.Declarations.{elements_of}
 use Rattle.cxx_subobject.specs.declared.Subobject.{Subobject}
 use Rattle.cxx_subobject.specs.declared.locations.Hop.{Hop}
@@ -30,7 +30,7 @@ use Rattle.abi_sound.specs.Locations.{place_along_hops}
 use Rattle.abi_sound.proofs.PlaceLemmas.{place_at_value}
 use Rattle.agree_parts.proofs.Made.{leaf_hops}
 use Rattle.abi_print.specs.LayoutTexts.{subobject_text}
-use Rattle.text_told.specs.Fields.{before_field, element_name_text, field_name_text, member_at, type_behind, value_in, value_type}
+use Rattle.text_told.specs.Fields.{before_field, element_name_text, field_name_text, member_at, type_behind}
 use Rattle.text_bytes.specs.declared.members.PlacedMember.{PlacedMember}
 use Rattle.text_bytes.specs.declared.rows.LeafRow.{LeafRow}
 use Rattle.text_bytes.specs.LeafRows.{element_name, element_rows, inner_row, leaf_rows, placed_in, placed_member, rows_by_member, rows_by_type, rows_in, rows_within, value_row}
@@ -44,7 +44,7 @@ pub record IsRowOf (h : Classes) (l : Places) (classes : List ClassId) (k : ℕ)
   pub made : IsLeafMade h classes a type
   pub place : place_along_hops h l c (leaf_hops a) ≡ row.place
   pub leads : type_behind h (Some c) (leaf_hops a) ≡ Some type
-  pub member : value_type (member_at h (Some row.class) row.number) ≡ Some type
+  pub member : element_type (member_at h (Some row.class) row.number) ≡ Some type
   pub class : row.class ≡ made.class
   pub number : row.number ≡ a.member
   pub first : row.first ≡ l.first row.class row.number
@@ -84,7 +84,7 @@ module _ (h : Classes) (l : Places) (classes : List ClassId) (k : ℕ) (c : Clas
       made = record { class = b; part = record { class = c; made = there; inside = (d, on.owned, valid); of_class = class }; element = element_is };
       place = on.at inside ∙ ap (λ n. place + n) (place_at_value h l d b s m i t class element_is ∙ grouped (l.place d s) (l.member b m) (i * size_of_value t));
       leads = on.type inside t typed;
-      member = ap value_type at ∙ ap value_in is;
+      member = ap element_type at ∙ ap element_value_type is;
       class = refl;
       number = refl;
       first = refl;
@@ -101,7 +101,7 @@ module _ (h : Classes) (l : Places) (classes : List ClassId) (k : ℕ) (c : Clas
         found = ap (λ o. member_at h o m) class ∙ at
 
         typed : type_behind h (Some d) inside ≡ Some t
-        typed = ap value_type found ∙ ap value_in is
+        typed = ap element_type found ∙ ap element_value_type is
 
         grouped : (a b n : ℕ) → a + (b + n) ≡ (a + b) + n
         grouped a b n = omega arith

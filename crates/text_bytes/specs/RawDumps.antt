@@ -6,7 +6,7 @@ use Rattle.std.specs.Int.{w64, to_le_bytes}
 use Rattle.cxx_hierarchy.specs.declared.records.ClassId.{ClassId}
 use Rattle.cxx_hierarchy.specs.declared.records.ValueType.{ValueType}
 use Rattle.cxx_hierarchy.specs.declared.records.ValueType.TheVariants.{Number, Pointer}
-use Rattle.cxx_hierarchy.specs.Classes.{Classes, width_of_member}
+use Rattle.cxx_hierarchy.specs.Classes.{Classes, width_of_member, element_type}
 use Rattle.cxx_hierarchy.specs.Scalars.{size_of, is_signed}
 use Rattle.abi_sound.specs.Places.{Places, size_of_value}
 use Rattle.abi_sound.specs.Locations.{bits_of_value}
@@ -24,7 +24,7 @@ use Rattle.abi_print.specs.LayoutTexts.{bits_text, declared_class_name, value_ty
 use Rattle.abi_print.specs.TableTexts.{optional_class_name}
 use Rattle.text_told.specs.declared.items.Item.{Item}
 use Rattle.text_told.specs.declared.pointers.TablePointer.{TablePointer}
-use Rattle.text_told.specs.Fields.{member_at, value_type}
+use Rattle.text_told.specs.Fields.{member_at}
 use Rattle.text_told.specs.Pointers.{pointers_of}
 use Rattle.text_told.specs.Dumps.{by_place, byte_text, bytes_touched, lines_from, unset_text}
 use Rattle.text_bytes.specs.declared.rows.LeafRow.{LeafRow}
@@ -113,7 +113,7 @@ row_by_type h memory objects start row width (Some type) = record {
 
 -- a leaf of an object that starts there
 abbrev pub row_item : Classes → Store → List Opened → ℕ → LeafRow → Item
-row_item h memory objects start row = row_by_type h memory objects start row (width_of_member h row.class row.number) (value_type (member_at h (Some row.class) row.number))
+row_item h memory objects start row = row_by_type h memory objects start row (width_of_member h row.class row.number) (element_type (member_at h (Some row.class) row.number))
 
 -- what lies in an object of class c, as it stands in memory: its virtual pointers, and its leaves
 abbrev pub raw_items : Classes → Places → ImageBytes → Store → List Opened → ℕ → ClassId → List Item

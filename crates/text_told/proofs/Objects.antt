@@ -27,13 +27,13 @@ use Rattle.abi_sound.specs.declared.class_layout.ClassLayout.{ClassLayout}
 use Rattle.abi_sound.specs.Places.{Places, places_of, place_or_zero, member_places_in}
 use Rattle.abi_sound.specs.Locations.{element_class, element_place, place_along_hops, place_behind, stride_in, size_of_type}
 use Rattle.abi_sound.specs.Sound.{IsSoundLayout}
-use Rattle.abi_slots.specs.Views.{by_part, heads, is_dynamic, is_dynamic_class, is_first, is_head}
+use Rattle.abi_slots.specs.Views.{by_part, heads, is_dynamic, is_dynamic_class, is_first, is_head, whole_view}
 use Rattle.abi_slots.proofs.Dynamics.{dynamic_whole}
 use Rattle.abi_slots.proofs.Heads.{test_dynamic}
 use Rattle.abi_slots.proofs.HeadsOnce.{part_valid}
 use Rattle.text_told.specs.declared.pointers.TablePointer.{TablePointer}
 use Rattle.text_told.specs.declared.pointers.MemberObjects.{MemberObjects}
-use Rattle.text_told.specs.Pointers.{whole_view, table_pointer_at, own_pointers, objects_by_type, objects_by_member, objects_in, member_objects, moved_pointer, pointers_in, pointers_within}
+use Rattle.text_told.specs.Pointers.{table_pointer_at, own_pointers, objects_by_type, objects_by_member, objects_in, member_objects, moved_pointer, pointers_in, pointers_within}
 use Rattle.text_told.proofs.Leading.{element_is, ends_below, object_below, object_inside}
 
 -- the numbers of a range are below its end

@@ -12,14 +12,14 @@ use Rattle.cxx_hierarchy.proofs.Listed.{get_map}
 use Rattle.cxx_subobject.specs.declared.Subobject.{Subobject}
 use Rattle.cxx_subobject.specs.Subobjects.{class_of, whole_of}
 use Rattle.abi_sound.specs.Places.{Places}
-use Rattle.abi_slots.specs.Views.{View}
+use Rattle.abi_slots.specs.Views.{View, whole_view}
 use Rattle.abi_vtable.specs.declared.view.Part.{Part}
 use Rattle.abi_vtable.specs.declared.view.ViewParts.{ViewParts}
 use Rattle.abi_vtable.specs.invariants.Parts.{at_of, view_of_parts}
 use Rattle.abi_vtable.proofs.Lists.{map_more, read_at}
 use Rattle.text_told.specs.declared.pointers.TablePointer.{TablePointer}
 use Rattle.text_told.specs.declared.pointers.MemberObjects.{MemberObjects}
-use Rattle.text_told.specs.Pointers.{member_objects, moved_pointer, objects_by_member, objects_by_type, own_pointers, pointers_in, pointers_within, whole_view}
+use Rattle.text_told.specs.Pointers.{member_objects, moved_pointer, objects_by_member, objects_by_type, own_pointers, pointers_in, pointers_within}
 
 range_suc : {A : Type 0} (f : ℕ → List A) (a n : ℕ) → flat_map f (range_with_len a (suc n)) ≡ flat_map f (range_with_len a n) ++ f (a + n)
 range_suc f a zero = append-nil (f a) ∙ ap f (at_end a)

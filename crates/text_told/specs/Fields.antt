@@ -5,9 +5,9 @@ use Rattle.std.specs.Option.{option_or}
 use Rattle.cxx_hierarchy.specs.declared.records.ClassId.{ClassId}
 use Rattle.cxx_hierarchy.specs.declared.records.Member.{Member}
 use Rattle.cxx_hierarchy.specs.declared.records.FieldType.{FieldType}
-use Rattle.cxx_hierarchy.specs.declared.records.FieldType.TheVariants.{Value, Object}
+use Rattle.cxx_hierarchy.specs.declared.records.FieldType.TheVariants.{Object}
 use Rattle.cxx_hierarchy.specs.declared.records.ValueType.{ValueType}
-use Rattle.cxx_hierarchy.specs.Classes.{Classes, members_of, width_of_member}
+use Rattle.cxx_hierarchy.specs.Classes.{Classes, members_of, width_of_member, element_type}
 use Rattle.cxx_subobject.specs.declared.locations.Hop.{Hop}
 use Rattle.cxx_subobject.specs.declared.locations.Hop.TheVariants.{Inherit, Member as MemberHop}
 use Rattle.cxx_subobject.specs.declared.locations.Location.{Location}
@@ -66,20 +66,11 @@ field_name_text h [] = []
 field_name_text h (Inherit s ∷ hops) = before_field (subobject_text h s) ++ inner_text h (class_of s) hops
 field_name_text h (MemberHop m i ∷ hops) = []
 
-abbrev pub value_in : FieldType ClassId → Option (ValueType ClassId)
-value_in (Value type) = Some type
-value_in (Object d) = None
-
--- the type of a member that is a number or a pointer, or an array of them
-abbrev pub value_type : Option (Member ClassId) → Option (ValueType ClassId)
-value_type None = None
-value_type (Some member) = value_in member.ty
-
 -- the type of the leaf to which the hops lead from what is of class c
 abbrev pub type_behind : Classes → Option ClassId → List Hop → Option (ValueType ClassId)
 type_behind h c [] = None
 type_behind h c (Inherit s ∷ hops) = type_behind h (class_of s) hops
-type_behind h c (MemberHop m i ∷ hops) = option_or (type_behind h (element_class h c m) hops) (value_type (member_at h c m))
+type_behind h c (MemberHop m i ∷ hops) = option_or (type_behind h (element_class h c m) hops) (element_type (member_at h c m))
 
 -- the width of a member, by the class that declares it and its number there, where it is a bit-field (ISO C++03 9.6)
 abbrev pub bit_field_width : Classes → Option (ClassId × ℕ) → Option ℕ

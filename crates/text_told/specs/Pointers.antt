@@ -8,16 +8,12 @@ use Rattle.cxx_hierarchy.specs.declared.records.FieldType.TheVariants.{Value, Ob
 use Rattle.cxx_hierarchy.specs.Classes.{Classes, members_of}
 use Rattle.cxx_hierarchy.specs.Declarations.{elements_of}
 use Rattle.cxx_subobject.specs.declared.Subobject.{Subobject}
-use Rattle.cxx_subobject.specs.Subobjects.{class_of, whole_of}
+use Rattle.cxx_subobject.specs.Subobjects.{class_of}
 use Rattle.cxx_subobject.specs.Preorder.{preorder}
 use Rattle.abi_sound.specs.Places.{Places}
-use Rattle.abi_slots.specs.Views.{View, heads}
+use Rattle.abi_slots.specs.Views.{heads, whole_view}
 use Rattle.text_told.specs.declared.pointers.TablePointer.{TablePointer}
 use Rattle.text_told.specs.declared.pointers.MemberObjects.{MemberObjects}
-
--- a complete object is its own view
-abbrev pub whole_view : ClassId → View
-whole_view c = record { complete = c; at_sub = whole_of c; class = c }
 
 -- the virtual pointer of a subobject of class c points to the table of that subobject
 abbrev pub table_pointer_at : Places → ClassId → Subobject → TablePointer

@@ -3,7 +3,8 @@
 ghost use Rattle.std.specs.Prelude.{◌≡◌, ◌++◌, OnOk};
 ghost use Rattle.std.specs.Option.{option_copied};
 ghost use Rattle.abi_print.specs.LayoutTexts.{subobject_text};
-ghost use Rattle.text_told.specs.Fields.{before_field, element_name_text, field_name_text, index_text, inner_text, type_behind, value_type};
+ghost use Rattle.cxx_hierarchy.specs.Classes.{element_type};
+ghost use Rattle.text_told.specs.Fields.{before_field, element_name_text, field_name_text, index_text, inner_text, type_behind};
 
 use crate::locations::{element_class, member_at};
 use abi_print::text::{append, append_number, append_subobject};
@@ -127,7 +128,7 @@ pub(crate) fn append_field(
 
 /// The type of a member that is a number or a pointer, or an array of them.
 pub fn value_type(member: Option<&Member<ClassId>>) -> Option<&ValueType<ClassId>>
-    ensures { option_copied result ≡ value_type (option_copied member.entry) }
+    ensures { option_copied result ≡ element_type (option_copied member.entry) }
 {
     match member {
         None => None,

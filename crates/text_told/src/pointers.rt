@@ -6,10 +6,10 @@ ghost use Rattle.cxx_subobject.specs.Preorder.{preorder};
 ghost use Rattle.cxx_subobject.specs.Subobjects.{IsSubobject, class_of, whole_of};
 ghost use Rattle.cxx_hierarchy.specs.Classes.{members_of};
 ghost use Rattle.abi_sound.specs.Places.{places_of};
-ghost use Rattle.abi_slots.specs.Views.{heads};
+ghost use Rattle.abi_slots.specs.Views.{heads, whole_view};
 ghost use Rattle.abi_vtable.specs.invariants.Parts.{IsViewParts, subobjects_numbered, view_of_parts};
 ghost use Rattle.text_told.specs.declared.pointers.TablePointer.{TablePointer};
-ghost use Rattle.text_told.specs.Pointers.{member_objects, moved_pointer, objects_by_member, objects_by_type, objects_in, own_pointers, table_pointer_at, pointers_in, pointers_within, whole_view};
+ghost use Rattle.text_told.specs.Pointers.{member_objects, moved_pointer, objects_by_member, objects_by_type, objects_in, own_pointers, table_pointer_at, pointers_in, pointers_within};
 
 use abi_primary::is_dynamic;
 use abi_slots::GroupName;

@@ -11,7 +11,8 @@ use Rattle.byte_code.specs.declared.image.InfoRecord.{InfoRecord}
 use Rattle.byte_code.specs.declared.image.BaseRecord.{BaseRecord}
 use Rattle.abi_dyncast.specs.declared.parts.Part.{Part}
 use Rattle.abi_dyncast.specs.declared.parts.Edge.{Edge}
-use Rattle.abi_dyncast.specs.Graph.{Graph, graph_of, word_in, loaded_or_zero, pointer_at, moved_address, info_at, base_record_at, has_virtual_flag, record_at, base_record, edge_by, any_edge, public_edge, LeadsByEdges, stays, steps, LeadsToSome}
+use Rattle.abi_dyncast.specs.Graph.{moved}
+use Rattle.abi_dyncast.specs.Graph.{Graph, graph_of, word_in, loaded_or_zero, pointer_at, info_at, base_record_at, has_virtual_flag, record_at, base_record, edge_by, any_edge, public_edge, LeadsByEdges, stays, steps, LeadsToSome}
 use Rattle.abi_dyncast.specs.Casts.{CanStep, CanReadParts, AreClosedParts, CanWalk, IsPartAtAddress, view_at_address, CanCast, IsTrueHint, CanCastHinted}
 use Rattle.abi_dyncast.proofs.Keeping.{info_read, base_read}
 use Rattle.abi_dyncast.proofs.Distances.{moved_along}
@@ -87,7 +88,7 @@ module _ (image : ℕ → Option ℕ) (memory : Store) (pair : Pair) (start poin
       let low = start_low in
       let make : ℕ → Edge = λ n. record { part = record { at = n; info = pair.first.info }; is_public = true } in
       let sum : pos start +ℤ pos 0 ≡ pos start = omega (arith, ints) in
-      let written : edge_by image memory start pair.first ≡ make (moved_address start (word_of (pos 0))) = ap (λ (z : ℤ). edge_by image memory start (record { info = pair.first.info; offset_flags = z })) is.at_start in
+      let written : edge_by image memory start pair.first ≡ make (moved start (word_of (pos 0))) = ap (λ (z : ℤ). edge_by image memory start (record { info = pair.first.info; offset_flags = z })) is.at_start in
       ap (edge_by image memory start) first_base ∙ (written ∙ ap make (moved_along start start (pos 0) sum (omega arith) (omega arith)))
 
   second_edge : g.edge whole 1 ≡ record { part = second; is_public = true }
@@ -95,7 +96,7 @@ module _ (image : ℕ → Option ℕ) (memory : Store) (pair : Pair) (start poin
       let low = start_low in
       let make : ℕ → Edge = λ n. record { part = record { at = n; info = pair.second.info }; is_public = true } in
       let sum : pos start +ℤ pos 16 ≡ pos (start + 16) = omega (arith, ints) in
-      let written : edge_by image memory start pair.second ≡ make (moved_address start (word_of (pos 16))) = ap (λ (z : ℤ). edge_by image memory start (record { info = pair.second.info; offset_flags = z })) is.behind in
+      let written : edge_by image memory start pair.second ≡ make (moved start (word_of (pos 16))) = ap (λ (z : ℤ). edge_by image memory start (record { info = pair.second.info; offset_flags = z })) is.behind in
       ap (edge_by image memory start) second_base ∙ (written ∙ ap make (moved_along start (start + 16) (pos 16) sum (omega arith) (omega arith)))
 
   are : AreClosedParts g parts
@@ -179,8 +180,8 @@ module _ (image : ℕ → Option ℕ) (memory : Store) (pair : Pair) (start poin
       let make : ℕ → ℕ → Part = λ i j. record { at = i; info = j } in
       let top : image (pointer_at memory (start + 16) - 16) ≡ Some 18446744073709551600 = ap (λ n. image (n - 16)) pointer_is ∙ table.top in
       let info : image (pointer_at memory (start + 16) - 8) ≡ Some pair.info = ap (λ n. image (n - 8)) pointer_is ∙ table.info in
-      let back : moved_address (start + 16) 18446744073709551600 ≡ start = omega arith in
-      ap (λ o. make (moved_address (start + 16) (word_in o)) (word_in (image (pointer_at memory (start + 16) - 8)))) top ∙ (ap (λ n. make n (word_in (image (pointer_at memory (start + 16) - 8)))) back ∙ ap (λ o. make start (word_in o)) info)
+      let back : moved (start + 16) 18446744073709551600 ≡ start = omega arith in
+      ap (λ o. make (moved (start + 16) (word_in o)) (word_in (image (pointer_at memory (start + 16) - 8)))) top ∙ (ap (λ n. make n (word_in (image (pointer_at memory (start + 16) - 8)))) back ∙ ap (λ o. make start (word_in o)) info)
 
   can : (room : ℕ) → 3 ≤ room → CanCast image memory room (start + 16)
   can room few =

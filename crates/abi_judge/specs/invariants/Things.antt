@@ -1,11 +1,9 @@
 -- What lies in an object, with all that the rules ask of it.
-use Rattle.std.specs.Prelude.{ℕ, ◌+◌, ◌*◌, ◌%◌, ◌==◌, nat_eq, nat_lt, nat_le, Bool, true, false, not, ◌&&◌, ◌||◌, if◌then◌else◌, Option, Some, None, List, map}
+use Rattle.std.specs.Prelude.{ℕ, ◌+◌, ◌*◌, ◌%◌, ◌==◌, nat_lt, nat_le, Bool, true, false, not, ◌&&◌, ◌||◌, if◌then◌else◌, Option, Some, None, List, map}
 use Rattle.cxx_hierarchy.specs.declared.records.ClassId.{ClassId}
 use Rattle.cxx_hierarchy.specs.Classes.{Classes, width_of_member}
 use Rattle.cxx_subobject.specs.declared.Subobject.{Subobject}
 use Rattle.cxx_subobject.specs.Subobjects.{whole_of, same_subobject}
-use Rattle.abi_primary.specs.declared.Primary.{Primary}
-use Rattle.abi_primary.specs.declared.Primary.TheVariants.{None as NoPrimary, Direct, Virtual}
 use Rattle.abi_primary.specs.Kinds.{flag_of}
 use Rattle.abi_sound.specs.Places.{Places, places_of, size_of_value}
 use Rattle.abi_sound.specs.Locations.{place_behind}
@@ -30,11 +28,6 @@ setting_of draft = record { h = draft.h.now; l = places_of draft.h.now draft.row
 -- the number of which the place of a subobject of class d has to be a multiple
 abbrev pub align_of : Places → Subobject → ClassId → ℕ
 align_of l s d = if same_subobject s (whole_of d) then l.align d else l.base_align d
-
-abbrev pub is_direct_primary : Primary → ClassId → Bool
-is_direct_primary NoPrimary b = false
-is_direct_primary (Direct p) b = nat_eq p.0 b.0
-is_direct_primary (Virtual v) b = false
 
 abbrev pub is_none : Option Subobject → Bool
 is_none None = true

@@ -11,7 +11,8 @@ use Rattle.abi_primary.specs.declared.Primary.{Primary}
 use Rattle.abi_primary.specs.PrimaryBase.{has_primary}
 use Rattle.abi_primary.specs.Holder.{holder_of}
 use Rattle.abi_primary.proofs.PrimaryLemmas.{found, not_found}
-use Rattle.abi_layout.specs.Holding.{is_holder, kept_if, holds_base, held_base, virtual_primary_base, AreHolders}
+use Rattle.abi_sound.specs.Chains.{is_subobject_in}
+use Rattle.abi_layout.specs.Holding.{kept_if, holds_base, held_base, virtual_primary_base, AreHolders}
 use Rattle.abi_layout.specs.invariants.Scenes.{TellsHolders}
 use Rattle.abi_layout.proofs.rules.Parts.{split}
 
@@ -28,7 +29,7 @@ pub holder_is : (h : Classes) (ps : List Primary) (c : ClassId) (list : List Sub
 holder_is h ps c list count holders v n t same are lt e is = sym (same.holder v) ∙ found (has_primary ps v) list n t (sym (are.first v lt) ∙ e) is
 
 pub holds_by : (h : Classes) (ps : List Primary) (c : ClassId) (list : List Subobject) (count : ℕ) (holders : List (Option ℕ)) (v : ClassId) (n : ℕ) (t s : Subobject) → TellsHolders h ps c list → AreHolders ps list count holders → v.0 < count → get_or holders v.0 None ≡ Some n → t ≡ get_or list n t → same_subobject t s ≡ holds_base h ps c s v
-holds_by h ps c list count holders v n t s same are lt e is = sym (ap (λ o. is_holder o s) (holder_is h ps c list count holders v n t same are lt e is))
+holds_by h ps c list count holders v n t s same are lt e is = sym (ap (λ o. is_subobject_in o s) (holder_is h ps c list count holders v n t same are lt e is))
 
 pub holder_is_none : (h : Classes) (ps : List Primary) (c : ClassId) (list : List Subobject) (count : ℕ) (holders : List (Option ℕ)) (v : ClassId) → TellsHolders h ps c list → AreHolders ps list count holders → v.0 < count → get_or holders v.0 None ≡ None → holder_of h ps c v ≡ None
 holder_is_none h ps c list count holders v same are lt e = sym (same.holder v) ∙ not_found (has_primary ps v) list (sym (are.first v lt) ∙ e)
@@ -41,4 +42,4 @@ none_held h ps c list tells e s d = by_primary (virtual_primary_base ps d)
     by_primary None = refl
     by_primary (Some v) =
         let nobody : holder_of h ps c v ≡ None = sym (tells.holder v) ∙ ap (find (has_primary ps v)) e in
-        ap (λ b. if b then Some v else None) (ap (λ o. is_holder o s) nobody)
+        ap (λ b. if b then Some v else None) (ap (λ o. is_subobject_in o s) nobody)

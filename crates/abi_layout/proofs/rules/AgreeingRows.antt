@@ -26,7 +26,8 @@ use Rattle.abi_layout.specs.declared.placed_bases.PlacedBase.TheVariants.{Own, V
 use Rattle.cxx_hierarchy.specs.Declarations.{is_plain_base}
 use Rattle.abi_sound.specs.Places.{nth_place, base_places_in, direct_base_place, place_along}
 use Rattle.cxx_subobject.specs.VirtualBases.{virtual_bases}
-use Rattle.abi_layout.specs.Holding.{virtual_in, virtual_primary_base, is_holder, holds_base, kept_if, held_base}
+use Rattle.abi_sound.specs.Chains.{is_subobject_in}
+use Rattle.abi_layout.specs.Holding.{virtual_in, virtual_primary_base, holds_base, kept_if, held_base}
 use Rattle.abi_layout.specs.PlacedBases.{front_bases, is_free, free_bases}
 use Rattle.abi_layout.specs.Layouts.{virtual_places_in, virtual_bases_in, virtual_place, place_in_class, placed_place, primary_of, fronts}
 use Rattle.abi_layout.proofs.algorithm.SettledLemmas.{base_below}
@@ -111,7 +112,7 @@ pub holder_agrees : (h : Classes) (ps qs : List Primary) (c v : ClassId) → IsH
 holder_agrees h ps qs c v keeps agree = find_same (has_primary ps v) (has_primary qs v) (preorder h c) (λ s has. has_primary_agrees h ps qs c v s keeps agree (has_preorder h c s has))
 
 pub holds_agrees : (h : Classes) (ps qs : List Primary) (c : ClassId) (s : Subobject) (v : ClassId) → IsHierarchy h → AgreeTo (c.0 + 1) ps qs → holds_base h ps c s v ≡ holds_base h qs c s v
-holds_agrees h ps qs c s v keeps agree = ap (λ o. is_holder o s) (holder_agrees h ps qs c v keeps agree)
+holds_agrees h ps qs c s v keeps agree = ap (λ o. is_subobject_in o s) (holder_agrees h ps qs c v keeps agree)
 
 kept_same : (f g : ClassId → Bool) (o : Option ClassId) → ((v : ClassId) → f v ≡ g v) → kept_if f o ≡ kept_if g o
 kept_same f g None same = refl

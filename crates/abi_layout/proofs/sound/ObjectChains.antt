@@ -20,7 +20,8 @@ use Rattle.abi_sound.specs.Places.{Places, direct_base_place, primary_in, nth_ho
 use Rattle.abi_layout.specs.Placements.{nvsize_in}
 use Rattle.abi_sound.proofs.PrimaryParts.{IsPrimaryPart, by_direct, by_holder}
 use Rattle.cxx_subobject.specs.VirtualBases.{virtual_bases}
-use Rattle.abi_layout.specs.Holding.{virtual_primary_base, is_holder, holds_base}
+use Rattle.abi_sound.specs.Chains.{is_subobject_in}
+use Rattle.abi_layout.specs.Holding.{virtual_primary_base, holds_base}
 use Rattle.abi_layout.specs.PlacedBases.{free_bases}
 use Rattle.abi_layout.specs.Layouts.{primary_of, fronts, placed_place}
 use Rattle.abi_sound.specs.Places.{places_of}
@@ -163,7 +164,7 @@ virtual_there h rows ps c d v s b e holds =
       at = refl;
     }
 
-holder_by_test : (o : Option Subobject) (s : Subobject) → is_holder o s ≡ true → o ≡ Some s
+holder_by_test : (o : Option Subobject) (s : Subobject) → is_subobject_in o s ≡ true → o ≡ Some s
 holder_by_test None s e = let f : false ≡ true = e in cc
 holder_by_test (Some t) s e = ap (λ (x : Subobject). Some x) (subobject_same t s e)
 

@@ -194,7 +194,7 @@ holder_is h ps c v t keeps e =
 -- from the holder of a virtual base to this
 pub from_holder : (h : Classes) (rows : List ClassLayout) (ps : List Primary) (c v : ClassId) (t : Subobject) (d : ClassId) → holder_of h ps c v ≡ Some t → virtual_primary_base ps d ≡ Some v → IsReached (contents_of h rows ps) (Within c t d) (Within c (shared_base v) v) 0
 from_holder h rows ps c v t d e primary =
-    let holds : holds_base h ps c t v ≡ true = ap (λ (o : Option Subobject). Rattle.abi_layout.specs.Holding.is_holder o t) e ∙ same_itself t in
+    let holds : holds_base h ps c t v ≡ true = ap (λ (o : Option Subobject). Rattle.abi_sound.specs.Chains.is_subobject_in o t) e ∙ same_itself t in
     let start : Has (virtual_start h rows ps c t (Some v)) (one_at (Within c (shared_base v) v) 0 (nvsize_in (slice_get rows v.0))) = inl (ap (λ b. one_at (if b then Within c (shared_base v) v else Pointer) 0 (nvsize_in (slice_get rows v.0))) holds) in
     let there : Has (virtual_start h rows ps c t (virtual_primary_base ps d)) (one_at (Within c (shared_base v) v) 0 (nvsize_in (slice_get rows v.0))) = subst (λ (o : Option ClassId). Has (virtual_start h rows ps c t o) (one_at (Within c (shared_base v) v) 0 (nvsize_in (slice_get rows v.0)))) (sym primary) start in
     reached_one (contents_of h rows ps) (Within c t d) c (shared_base v) v 0 (nvsize_in (slice_get rows v.0))

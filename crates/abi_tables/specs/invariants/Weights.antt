@@ -10,14 +10,14 @@ use Rattle.cxx_subobject.specs.Inside.{IsInside}
 use Rattle.cxx_subobject.specs.VirtualBases.{virtual_bases}
 use Rattle.cxx_subobject.specs.invariants.Counts.{own_of}
 use Rattle.abi_sound.specs.Places.{Places}
-use Rattle.abi_slots.specs.Listing.{is_direct}
+use Rattle.abi_primary.specs.PrimaryBase.{is_direct_primary}
 use Rattle.abi_slots.specs.Views.{View, is_dynamic, is_head}
 use Rattle.abi_vtt.specs.Vtts.{has_vtt}
 use Rattle.abi_tables.specs.Counts.{most_words, words_of_class}
 
 -- what a direct base of class k weighs as the head of a chain: nothing where it is virtual, or the primary base
 abbrev pub side : Places → (ClassId → ℕ) → ClassId → Base ClassId → ℕ
-side l f k base = if base.is_virtual || is_direct (l.primary k) base.class then 0 else f base.class
+side l f k base = if base.is_virtual || is_direct_primary (l.primary k) base.class then 0 else f base.class
 
 abbrev pub sides : Classes → Places → (ClassId → ℕ) → ClassId → ℕ
 sides h l f k = sum_by (side l f k) (bases_of h k)

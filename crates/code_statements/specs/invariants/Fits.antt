@@ -6,7 +6,7 @@ use Rattle.cxx_hierarchy.specs.Classes.{Classes}
 use Rattle.cxx_hierarchy.specs.Limits.{most_parameters}
 use Rattle.cxx_subobject.specs.declared.Subobject.{Subobject}
 use Rattle.cxx_subobject.specs.Subobjects.{class_of}
-use Rattle.cxx_overrider.specs.Functions.{return_of}
+use Rattle.cxx_overrider.specs.Functions.{return_of, pointee}
 use Rattle.cxx_overrider.specs.Virtuals.{own}
 use Rattle.cxx_program.specs.declared.statement.Converted.{Converted}
 use Rattle.cxx_program.specs.declared.statement.TypedCast.{TypedCast}
@@ -16,7 +16,6 @@ use Rattle.cxx_program.specs.declared.statement.TypedRight.{TypedRight}
 use Rattle.cxx_program.specs.declared.statement.TypedRight.TheVariants.{Operand, Arithmetic, SamePointer, Not, Read, Address, Call, New, Cast, TypeEqual}
 use Rattle.cxx_program.specs.Typed.{Scope}
 use Rattle.path_model.specs.Outs.{class_or_first}
-use Rattle.abi_slots.specs.Listing.{pointee}
 use Rattle.code_ops.specs.Operands.{pointed, operand_class}
 use Rattle.code_ops.specs.PlaceOps.{type_or_int, element_type_at}
 use Rattle.code_statements.specs.Rights.{cast_class, through_class}

@@ -2,28 +2,13 @@
 use Rattle.std.specs.Prelude.{◌≡◌, ℕ, ◌+◌, ◌/◌, ◌%◌, Some, List, [], ◌∷◌, ◌++◌, length, slice_get}
 use Rattle.cxx_hierarchy.specs.declared.names.NameTable.{NameTable}
 use Rattle.cxx_hierarchy.specs.declared.records.ClassId.{ClassId}
-use Rattle.cxx_hierarchy.specs.declared.records.Scalar.{Scalar}
-use Rattle.cxx_hierarchy.specs.declared.records.Scalar.TheVariants.{Bool as TheBool, Char, SChar, UChar, Short, UShort, Int, UInt, Long, ULong, LongLong, ULongLong}
 use Rattle.cxx_hierarchy.specs.declared.records.ValueType.{ValueType}
 use Rattle.cxx_hierarchy.specs.declared.records.ValueType.TheVariants.{Number, Pointer}
 use Rattle.cxx_hierarchy.specs.Classes.{Classes}
 use Rattle.cxx_hierarchy.specs.NameTables.{Text, Numbers}
 use Rattle.cxx_overrider.specs.declared.FunctionId.{FunctionId}
 use Rattle.cxx_overrider.specs.Functions.{Signature, named, destructor, signature_of}
-
-abbrev pub scalar_code : Scalar → ℕ
-scalar_code TheBool = 0
-scalar_code Char = 1
-scalar_code SChar = 2
-scalar_code UChar = 3
-scalar_code Short = 4
-scalar_code UShort = 5
-scalar_code Int = 6
-scalar_code UInt = 7
-scalar_code Long = 8
-scalar_code ULong = 9
-scalar_code LongLong = 10
-scalar_code ULongLong = 11
+use Rattle.cxx_overrider.specs.Virtuals.{scalar_number}
 
 -- a type is two bytes: 0 and the number of a number type, or the number of a class, 256 above
 abbrev pub first_code : ValueType ClassId → ℕ
@@ -31,7 +16,7 @@ first_code (Number _) = 0
 first_code (Pointer c) = c.0 / 256 + 1
 
 abbrev pub second_code : ValueType ClassId → ℕ
-second_code (Number kind) = scalar_code kind
+second_code (Number kind) = scalar_number kind
 second_code (Pointer c) = c.0 % 256
 
 abbrev pub type_codes : List (ValueType ClassId) → List ℕ

@@ -1,7 +1,7 @@
 use Rattle.std.proofs.Common.{ap, sym, ◌∙◌}
 use Rattle.cxx_subobject.specs.declared.Subobject.{Subobject}
 use Rattle.cxx_subobject.specs.Subobjects.{same_subobject}
-use Rattle.abi_layout.specs.Holding.{is_holder}
+use Rattle.abi_sound.specs.Chains.{is_subobject_in}
 use Rattle.abi_layout.proofs.algorithm.SceneLemmas.{holder_below, holds_by, holder_is_none}
 use Rattle.abi_layout.proofs.scene.holds.Goals as goal
 
@@ -20,4 +20,4 @@ returns-in-Some c =
 pub returns-in-None : goal.returns-in-None
 returns-in-None c =
     let x = c.args.scene.now in
-    sym (ap (λ o. is_holder o c.args.s.now) (holder_is_none x.h.now x.primaries.now x.c x.list.now x.c.0 x.holders.now c.args.v c.requires.scene.tells c.requires.scene.holders_are c.requires.before (sym c.holder.ensures ∙ c.in-None.is)))
+    sym (ap (λ o. is_subobject_in o c.args.s.now) (holder_is_none x.h.now x.primaries.now x.c x.list.now x.c.0 x.holders.now c.args.v c.requires.scene.tells c.requires.scene.holders_are c.requires.before (sym c.holder.ensures ∙ c.in-None.is)))

@@ -2,7 +2,7 @@ use Rattle.std.proofs.Common.{ap, sym, ◌∙◌, ◌+◌, ◌-◌, ◌*◌}
 use Rattle.abi_sound.specs.Places.{places_of}
 use Rattle.abi_vtt.specs.Blocks.{before_by_class}
 use Rattle.code_ops.specs.Setups.{setup}
-use Rattle.abi_slots.specs.Listing.{is_virtual_root}
+use Rattle.cxx_subobject.specs.Subobjects.{is_shared_root}
 use Rattle.code_plans.specs.invariants.Walks.{first_words_or}
 use Rattle.code_plans.proofs.WalkPoints.{shared_distance_none, shared_needs, shared_number, whole_distance, whole_number}
 use Rattle.code_plans.proofs.walks.point_of.Goals as goal
@@ -24,10 +24,10 @@ returns-in-Whole-clause-number g c = λ _.
 pub returns-in-Shared-clause-distance : goal.returns-in-Shared-clause-distance
 returns-in-Shared-clause-distance g c =
     let x = setup c.args.site.now.h.now (g.L.SoundLayout.rows c.args.site.now.layout.now) c.args.site.now.program.now in
-    shared_distance_none x c.requires.site.site.keeps c.args.c c.requires.known c.requires.site.site.few_words c.args.s.now c.args.walk.now c.requires.at c.requires.apart (ap is_virtual_root c.in-Shared.is)
+    shared_distance_none x c.requires.site.site.keeps c.args.c c.requires.known c.requires.site.site.few_words c.args.s.now c.args.walk.now c.requires.at c.requires.apart (ap is_shared_root c.in-Shared.is)
 
 pub returns-in-Shared-clause-number : goal.returns-in-Shared-clause-number
 returns-in-Shared-clause-number g c = λ has.
     let x = setup c.args.site.now.h.now (g.L.SoundLayout.rows c.args.site.now.layout.now) c.args.site.now.program.now in
-    let shared = ap is_virtual_root c.in-Shared.is in
+    let shared = ap is_shared_root c.in-Shared.is in
     shared_number x c.requires.site.site.keeps c.args.c c.requires.known c.requires.site.site.few_words c.args.s.now c.args.walk.now c.requires.at c.requires.apart shared (shared_needs x c.args.s.now c.requires.apart shared) has
