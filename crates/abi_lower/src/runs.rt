@@ -109,6 +109,7 @@ impl<'a, L: SoundLayout> BlockSite<'a, L> {
     {
         let base = self.lowering.first_block(self.numbers, r);
         match self.lowering.body(r) {
+            // never met: the clauses `routine` and `plain` say that it has a body (`IsRoutine` of code_ops)
             None => {}
             Some(body) => self.push_body(blocks, body, base, end)?,
         }

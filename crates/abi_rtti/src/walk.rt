@@ -18,6 +18,7 @@ fn push_class(classes: &mut Vec<ClassId>, s: &Subobject) -> Result<(), NoMemory>
 {
     match class_of(s) {
         Some(c) => classes.push(c)?,
+        // never met: `list_subobjects` of cxx_subobject lists subobjects alone, and each has a class
         None => {}
     }
     Ok(())

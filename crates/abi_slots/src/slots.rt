@@ -95,6 +95,7 @@ impl Slots {
     {
         match self.rows.get(f.class.0 as usize) {
             Some(row) => number_at(row.numbers.as_slice(), f.index as usize),
+            // never met for a function that its class declares as virtual: `AreSlots` has a row for each class
             None => 0,
         }
     }
@@ -118,8 +119,10 @@ impl Slots {
         match self.rows.get(v.0 as usize) {
             Some(row) => match number_of(&self.numbering.rows, f) {
                 Some(number) => word_at(row.vcalls.as_slice(), number),
+                // never met for a function of which the base has an offset: `AreSlots` numbers it
                 None => 0,
             },
+            // never met for a virtual base: `AreSlots` has a row for each class
             None => 0,
         }
     }

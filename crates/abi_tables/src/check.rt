@@ -38,6 +38,7 @@ fn words_of_view<L: SoundLayout>(
 {
     match class_of(x) {
         Some(d) => view_words(h, layout, slots, sides, c, x, d),
+        // never met: the clause `valid` says that it is a subobject, and each has a class (`class_of` of cxx_subobject)
         None => 0,
     }
 }

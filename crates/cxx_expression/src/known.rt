@@ -102,6 +102,7 @@ impl Known {
     {
         let next = self.names.len();
         self.numbers.note(self.alloc, name, next)?;
+        // the second number is never met: `note` of cxx_hierarchy has put the name into the table (its clause `holds`)
         let number = self.numbers.find(name).unwrap_or(next);
         let name = Sequence::from_vec(Vec::from_slice(self.alloc, name)?);
         self.put_name(key_of(c, number), KnownName { name, looked })?;

@@ -32,6 +32,7 @@ use std::alloc::Global;
 fn class_of_body(h: &Hierarchy, name: &Name) -> ClassId
     ensures { result ≡ class_of_body h.now name.now }
 {
+    // class 0 is never met: each body belongs to a record of the source, by `bodies_of_records` of cxx_readings
     find_class(h, name.as_slice()).unwrap_or(ClassId(0))
 }
 

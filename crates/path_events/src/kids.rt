@@ -46,6 +46,7 @@ pub(crate) fn shared_kid(numbers: &Numbers, h: &Hierarchy, part: Part, j: usize,
     ensures class { result.class ≡ v }
 {
     h.keeps();
+    // the 0 is never met: `shared_offset` of path_numbers has an offset for each virtual base, as v is by the clause `listed`
     let offset = numbers.shared_offset(part.class, v).unwrap_or(0);
     Part {
         number: part.number.wrapping_add(offset),

@@ -44,6 +44,7 @@ fn shared_distance(numbers: &Numbers, h: &Hierarchy, c: ClassId, v: ClassId) -> 
     if c.0 >= h.len() {
         return 0;
     }
+    // the 0 is never met for a virtual base of c: `shared_offset` of path_numbers has an offset for each
     numbers.shared_offset(c, v).unwrap_or(0)
 }
 

@@ -302,6 +302,7 @@ impl Numbers {
         match s.root {
             Root::Whole => self.path_offset(h, c, path),
             Root::Shared(v) => {
+                // the 0 is never met: `shared_offset` has an offset for each virtual base, as v is by the clause `subobject`
                 let start = self.shared_offset(c, v).unwrap_or(0);
                 start + self.path_offset(h, v, path)
             }

@@ -183,6 +183,7 @@ fn member_objects<L: SoundLayout>(
     for s in parts.as_slice() {
         match class_of(s) {
             Some(b) => push_objects(h, layout, &mut list, layout.place(h, c, s), b)?,
+            // never met: `list_subobjects` of cxx_subobject lists subobjects alone, and each has a class
             None => {}
         }
     }
