@@ -10,10 +10,7 @@ ghost use Rattle.abi_cookie.specs.Cookies.{NeedsCookie, IsCookie};
 ghost use Rattle.abi_cookie.specs.invariants.Marks.{mark_of_class, mark_of_type, has_destructor};
 
 use abi_sound::SoundLayout;
-use cxx_hierarchy::{Base, ClassId, ClassRec, FieldType, Hierarchy, Member};
-
-/// The most classes of a source.
-const MOST_CLASSES: usize = 1024;
+use cxx_hierarchy::{Base, ClassId, ClassRec, FieldType, Hierarchy, MOST_CLASSES, Member};
 
 /// The bytes of the count in a cookie: those of `size_t` on LP64.
 pub const COUNT_BYTES: u32 = 8;

@@ -5,6 +5,7 @@ ghost use Rattle.std.specs.List.{filter_map};
 ghost use Rattle.cxx_hierarchy.specs.declared.records.ClassId.{ClassId};
 ghost use Rattle.cxx_hierarchy.specs.Classes.{Classes};
 ghost use Rattle.cxx_hierarchy.specs.declared.records.PartAt.{PartAt};
+ghost use Rattle.cxx_hierarchy.specs.Limits.{most_declared};
 ghost use Rattle.cxx_subobject.specs.declared.Subobject.{Subobject};
 ghost use Rattle.cxx_subobject.specs.Subobjects.{IsSubobject, class_of};
 ghost use Rattle.cxx_overrider.specs.Functions.{return_of, pointee};
@@ -26,7 +27,7 @@ use std::alloc::Global;
 
 /// The index of the function that a part of a class is: its number, or for a destructor the index after the last function.
 fn index_of(class: &ClassRec<ClassId>, part: &PartAt) -> Option<u32>
-    requires { length class.now.functions ≤ 1024 }
+    requires { length class.now.functions ≤ most_declared }
     ensures { result ≡ index_of class.now part.now.kind part.now.number }
 {
     match part.kind {
@@ -43,7 +44,7 @@ fn push_parts(
     c: ClassId,
     parts: &[PartAt],
 ) -> Result<(), NoMemory>
-    requires { length class.now.functions ≤ 1024 }
+    requires { length class.now.functions ≤ most_declared }
     ensures { OnOk result (list.new.items ≡ list.old.items ++ map (function_at c) (filter_map (λ (part : PartAt). index_of class.now part.kind part.number) parts.now)) }
 {
     for part in parts {

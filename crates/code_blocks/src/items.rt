@@ -3,6 +3,7 @@
 ghost use Rattle.std.specs.Prelude.{◌≡◌, ◌<◌, ◌≤◌, ◌+◌, ◌∷◌, [], ◌++◌, false, OnOk, IfOk, Some, length, slice_get};
 ghost use Rattle.std.specs.List.{flat_map};
 ghost use Rattle.cxx_hierarchy.specs.Classes.{bases_of, members_of};
+ghost use Rattle.cxx_hierarchy.specs.Limits.{most_declared};
 ghost use Rattle.path_plan.specs.Plans.{InFull, backwards, upto, virtual_order};
 ghost use Rattle.path_model.specs.States.{plan_bodies, member_init, is_init};
 ghost use Rattle.code_blocks.specs.Items.{Backwards as BackwardsWay, Forwards as ForwardsWay, shared_base_items, base_items, body_items, member_items, built_items, ended_items, items_of};
@@ -180,7 +181,7 @@ fn push_members(
     members: &[Member<ClassId>],
 ) -> Result<(), NoMemory>
     requires plans { ArePlans plans.now.h.now plans.now.program.now plans.now.index.now plans.now.orders.now }
-    requires few { m + length members.now ≤ 1024 }
+    requires few { m + length members.now ≤ most_declared }
     ensures { OnOk result (list.new ≡ list.old ++ item_codes (items_in_turn (λ k. member_items (is_init (member_init plans.now.program.now c k)) ForwardsWay k) m members.now)) }
 {
     match members {
@@ -200,7 +201,7 @@ fn push_members_back(
     m: u32,
     members: &[Member<ClassId>],
 ) -> Result<(), NoMemory>
-    requires { m + length members.now ≤ 1024 }
+    requires { m + length members.now ≤ most_declared }
     ensures { OnOk result (list.new ≡ list.old ++ item_codes (from_the_end (λ k. member_items false BackwardsWay k) m members.now)) }
 {
     match members {

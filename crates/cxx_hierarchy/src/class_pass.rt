@@ -23,7 +23,7 @@ use foundation::NoMemory;
 use std::alloc::Global;
 
 /// The most classes of a source.
-const MOST_CLASSES: usize = 1024;
+pub const MOST_CLASSES: usize = 1024;
 
 /// The most direct bases of a class.
 const MOST_BASES: usize = 64;

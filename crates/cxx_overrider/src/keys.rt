@@ -4,6 +4,7 @@ ghost use Rattle.std.specs.Prelude.{◌≡◌, ◌<◌, ◌≤◌, ◌+◌, ◌+
 ghost use Rattle.cxx_hierarchy.specs.declared.records.ClassId.{ClassId};
 ghost use Rattle.cxx_hierarchy.specs.declared.records.Param.{Param};
 ghost use Rattle.cxx_hierarchy.specs.declared.records.ValueType.TheVariants.{Pointer};
+ghost use Rattle.cxx_hierarchy.specs.Limits.{most_classes};
 ghost use Rattle.cxx_overrider.specs.Functions.{Signature, signature_of};
 ghost use Rattle.cxx_overrider.specs.Virtuals.{scalar_number};
 ghost use Rattle.cxx_overrider.specs.invariants.Keys.{first_code, second_code, type_codes, signature_key};
@@ -34,7 +35,7 @@ fn scalar_code(scalar: Scalar) -> u8
 }
 
 fn first_code(ty: &ValueType<ClassId>) -> u8
-    requires { (c : ClassId) → ty.now ≡ Pointer c → c.0 < 1024 }
+    requires { (c : ClassId) → ty.now ≡ Pointer c → c.0 < most_classes }
     ensures { result ≡ first_code ty.now }
 {
     match ty {
@@ -53,7 +54,7 @@ fn second_code(ty: &ValueType<ClassId>) -> u8
 }
 
 fn push_types(key: &mut Vec<u8>, params: &[Param<ClassId>]) -> Result<(), NoMemory>
-    requires { (c : ClassId) (p : Param ClassId) → Contains params.now p → p.ty ≡ Pointer c → c.0 < 1024 }
+    requires { (c : ClassId) (p : Param ClassId) → Contains params.now p → p.ty ≡ Pointer c → c.0 < most_classes }
     ensures { OnOk result (key.new.items ≡ key.old.items ++ type_codes (map (λ (p : Param ClassId). p.ty) params.now)) }
 {
     match params {
@@ -68,7 +69,7 @@ fn push_types(key: &mut Vec<u8>, params: &[Param<ClassId>]) -> Result<(), NoMemo
 
 fn declaration_key(alloc: Global, function: &Function<ClassId>) -> Result<Vec<u8>, NoMemory>
     requires few { length function.now.params ≤ 16 }
-    requires known { (c : ClassId) (p : Param ClassId) → Contains function.now.params p → p.ty ≡ Pointer c → c.0 < 1024 }
+    requires known { (c : ClassId) (p : Param ClassId) → Contains function.now.params p → p.ty ≡ Pointer c → c.0 < most_classes }
     ensures { IfOk result (λ key. key.items ≡ (length function.now.params + 1) ∷ (type_codes (map (λ (p : Param ClassId). p.ty) function.now.params) ++ function.now.name)) }
 {
     let params = function.params.as_slice();

@@ -7,7 +7,7 @@ ghost use Rattle.cxx_hierarchy.specs.declared.records.Member.{Member};
 ghost use Rattle.cxx_hierarchy.specs.Classes.{Classes};
 ghost use Rattle.cxx_hierarchy.specs.VirtualBases.{HasVirtualBase};
 ghost use Rattle.cxx_subobject.specs.VirtualFlags.{TellsVirtualBases};
-ghost use Rattle.cxx_subobject.specs.Parts.{IsWithinLimits, TellsLimits, elements_of, parts_in};
+ghost use Rattle.cxx_subobject.specs.Parts.{IsWithinLimits, TellsLimits, elements_of, parts_in, most_parts, most_subobjects};
 ghost use Rattle.cxx_subobject.specs.invariants.Counts.{AreCapped, IsCapped, IsSharedSum, IsSharedValue, KnowsObject, HasGoodCount, own_bases, parts_of_members, AreCounts};
 
 use crate::virtual_flags::{classes_with_virtual_bases, has_virtual_bases};
@@ -45,7 +45,7 @@ fn own_value(base: &Base<ClassId>, values: &[u32]) -> u32
 
 /// A start, and what the non-virtual bases among these have.
 fn base_sum(bases: &[Base<ClassId>], values: &[u32], limit: u32, start: u32) -> u32
-    requires limit { limit ≤ 65536 }
+    requires limit { limit ≤ most_parts }
     requires start { start ≤ limit + 1 }
     requires known { All (λ (base : Base ClassId). base.class.0 < length values.now) bases.now }
     requires values { AreCapped limit values.now }
@@ -82,7 +82,7 @@ fn shared_sum(
     start: u32,
 ) -> u32
     requires with_virtual { has_virtual_bases ≡ false → (v : ClassId) → HasVirtualBase h.now c v → ⊥ }
-    requires limit { limit ≤ 65536 }
+    requires limit { limit ≤ most_parts }
     requires start { start ≤ limit + 1 }
     requires known { c.0 ≤ length values.now }
     requires values { AreCapped limit values.now }
@@ -102,9 +102,9 @@ fn shared_sum(
 /// The parts of one element.
 fn element_parts(ty: &FieldType<ClassId>, parts: &[u32]) -> u32
     requires known { KnowsObject parts.now ty.now }
-    requires parts { AreCapped 65536 parts.now }
-    ensures within { result ≤ 65537 }
-    ensures parts { (f : ClassId → ℕ) → IsCapped 65536 f parts.now → result ≡ min (parts_in f ty.now) 65537 }
+    requires parts { AreCapped most_parts parts.now }
+    ensures within { result ≤ most_parts + 1 }
+    ensures parts { (f : ClassId → ℕ) → IsCapped most_parts f parts.now → result ≡ min (parts_in f ty.now) (most_parts + 1) }
 {
     match ty {
         FieldType::Value(_) => 1,
@@ -116,16 +116,16 @@ fn element_parts(ty: &FieldType<ClassId>, parts: &[u32]) -> u32
 fn parts_of_member(member: &Member<ClassId>, parts: &[u32]) -> u32
     requires known { KnowsObject parts.now member.now.ty }
     requires count { HasGoodCount member.now }
-    requires parts { AreCapped 65536 parts.now }
+    requires parts { AreCapped most_parts parts.now }
     ensures within { result ≤ 268439552 }
-    ensures parts { (f : ClassId → ℕ) → IsCapped 65536 f parts.now → min result 65537 ≡ min (elements_of member.now.count * parts_in f member.now.ty) 65537 }
+    ensures parts { (f : ClassId → ℕ) → IsCapped most_parts f parts.now → min result (most_parts + 1) ≡ min (elements_of member.now.count * parts_in f member.now.ty) (most_parts + 1) }
 {
     member.elements() * element_parts(&member.ty, parts)
 }
 
 /// Whether a class with so many subobjects and parts is within the limits.
 fn is_small(subobjects: u32, parts: u32) -> bool
-    ensures { IsTrue result ↔ ((subobjects ≤ 1024) × (parts ≤ 65536)) }
+    ensures { IsTrue result ↔ ((subobjects ≤ most_subobjects) × (parts ≤ most_parts)) }
 {
     subobjects <= MOST_SUBOBJECTS && parts <= MOST_PARTS
 }
@@ -134,9 +134,9 @@ fn is_small(subobjects: u32, parts: u32) -> bool
 fn member_sum(members: &[Member<ClassId>], parts: &[u32]) -> u32
     requires known { All (λ (member : Member ClassId). KnowsObject parts.now member.ty) members.now }
     requires counts { All HasGoodCount members.now }
-    requires parts { AreCapped 65536 parts.now }
-    ensures within { result ≤ 65537 }
-    ensures parts { (f : ClassId → ℕ) → IsCapped 65536 f parts.now → result ≡ min (1 + parts_of_members f members.now) 65537 }
+    requires parts { AreCapped most_parts parts.now }
+    ensures within { result ≤ most_parts + 1 }
+    ensures parts { (f : ClassId → ℕ) → IsCapped most_parts f parts.now → result ≡ min (1 + parts_of_members f members.now) (most_parts + 1) }
 {
     let mut sum = 1;
     for member in members {

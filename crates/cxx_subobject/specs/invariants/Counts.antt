@@ -6,10 +6,11 @@ use Rattle.cxx_hierarchy.specs.declared.records.Base.{Base}
 use Rattle.cxx_hierarchy.specs.declared.records.Member.{Member}
 use Rattle.cxx_hierarchy.specs.declared.records.FieldType.{FieldType}
 use Rattle.cxx_hierarchy.specs.declared.records.FieldType.TheVariants.{Value, Object}
+use Rattle.cxx_hierarchy.specs.Limits.{most_elements}
 use Rattle.cxx_hierarchy.specs.Classes.{Classes, bases_of}
 use Rattle.cxx_hierarchy.specs.VirtualBases.{HasVirtualBase}
 use Rattle.cxx_subobject.specs.declared.parts.Counts.{Counts}
-use Rattle.cxx_subobject.specs.Parts.{elements_of, parts_in, member_parts, parts_of, IsWithinLimits}
+use Rattle.cxx_subobject.specs.Parts.{elements_of, parts_in, member_parts, parts_of, IsWithinLimits, most_parts, most_subobjects}
 
 -- the sum over the non-virtual bases among these
 abbrev pub own_bases : (ClassId → ℕ) → List (Base ClassId) → ℕ
@@ -57,10 +58,10 @@ abbrev pub KnowsObject : List ℕ → FieldType ClassId → Type 0
 KnowsObject values (Value type) = Unit {0}
 KnowsObject values (Object d) = d.0 < length values
 
--- an array has 1 to 4096 elements
+-- an array has an element, and no more than the limit
 pub record HasGoodCount (member : Member ClassId) : Type 0 where
   pub some : 1 ≤ elements_of member.count
-  pub few : elements_of member.count ≤ 4096
+  pub few : elements_of member.count ≤ most_elements
 
 abbrev pub parts_of_members : (ClassId → ℕ) → List (Member ClassId) → ℕ
 parts_of_members f members = sum_by (λ m. elements_of m.count * parts_in f m.ty) members
@@ -68,10 +69,10 @@ parts_of_members f members = sum_by (λ m. elements_of m.count * parts_in f m.ty
 -- the classes below n were counted
 pub record AreCounts (h : Classes) (n : ℕ) (counts : Counts) : Type 0 where
   pub own_size : length counts.own.items ≡ n
-  pub own : IsCapped 1024 (own_of (λ c. 1) h) counts.own.items
+  pub own : IsCapped most_subobjects (own_of (λ c. 1) h) counts.own.items
   pub own_parts_size : length counts.own_parts.items ≡ n
-  pub own_parts : IsCapped 65536 (own_of (parts_weight h) h) counts.own_parts.items
+  pub own_parts : IsCapped most_parts (own_of (parts_weight h) h) counts.own_parts.items
   pub parts_size : length counts.parts.items ≡ n
-  pub parts : IsCapped 65536 (parts_of h) counts.parts.items
+  pub parts : IsCapped most_parts (parts_of h) counts.parts.items
   pub within_size : length counts.within.items ≡ n
   pub within : (c : ClassId) → c.0 < n → IsTrue (get_or counts.within.items c.0 false) ↔ IsWithinLimits h c
