@@ -51,6 +51,9 @@ pub fn leaves_pure(next: &NextClass, n: usize) -> bool
 {
     let signatures = next.signatures;
     signatures.h.keeps();
+    if !is_marked(signatures.virtuals, next.c, n) {
+        return false;
+    }
     match own_function(&signatures.numbering.rows, next.c, n) {
         Some(f) => is_marked_pure(signatures.h, signatures.virtuals, f, n),
         None => has_marked_part(signatures.h, next.rows, next.c, n),

@@ -21,11 +21,14 @@ fn has_virtual_within(next: &NextClass, n: usize) -> bool
 {
     let signatures = next.signatures;
     signatures.h.keeps();
+    if !is_marked(signatures.virtuals, next.c, n) {
+        return false;
+    }
     if has_marked_part(signatures.h, next.rows, next.c, n) {
         return true;
     }
     match own_function(&signatures.numbering.rows, next.c, n) {
-        Some(_) => is_marked(signatures.virtuals, next.c, n),
+        Some(_) => true,
         None => false,
     }
 }

@@ -1,11 +1,34 @@
 use Rattle.std.proofs.Common.{◌≡◌, ℕ, List, Some, true, ap, sym, subst, ◌∙◌, ◌↔◌, arith}
 use Rattle.cxx_hierarchy.specs.declared.records.ClassId.{ClassId}
 use Rattle.cxx_overrider.specs.Overriding.{HasVirtual}
+use Rattle.cxx_hierarchy.specs.Classes.{Classes}
+use Rattle.cxx_overrider.specs.Functions.{Signature}
 use Rattle.cxx_overrider.specs.invariants.Numbers.{number_of}
+use Rattle.cxx_overrider.specs.invariants.Pure.{LeavesPure}
+use Rattle.cxx_overrider.proofs.Candidates.{stands_leads, stands_last, stands_same}
+use Rattle.cxx_overrider.proofs.WithinLemmas.{virtual_along, virtual_source}
 use Rattle.cxx_overrider.specs.invariants.Marks.{mark_of}
 use Rattle.cxx_overrider.proofs.MarkLemmas.{number_says}
 use Rattle.cxx_overrider.proofs.PureLemmas.{next_none, pure_own, pure_below}
 use Rattle.cxx_overrider.proofs.pure.leaves_pure.Goals as goal
+
+-- what is left pure is virtual in the class
+leaves_virtual : (h : Classes) (c : ClassId) (s : Signature) → LeavesPure h c s → HasVirtual h c s
+leaves_virtual h c s p =
+    let same = stands_same h s c p.path p.function p.first in
+    virtual_along h c p.path s (stands_leads h s c p.path p.function p.first)
+    (subst (λ (x : ClassId). HasVirtual h x s) (sym (stands_last h s c p.path p.function p.first)) (virtual_source h p.function s p.is_virtual same))
+
+pub returns-then-not-is_marked : goal.returns-then-not-is_marked
+returns-then-not-is_marked c = λ s k.
+    let next = c.args.next.now in
+    let signatures = next.signatures.now in
+    let h = signatures.h.now in
+    let known = c.requires.known in
+    let all = c.requires.signatures.all in
+    let mark = c.requires.signatures.virtuals.each next.c c.args.n s (omega arith) k in
+    let moved : (c.is_marked.result ≡ true) ↔ HasVirtual h next.c s = subst (λ b. (b ≡ true) ↔ HasVirtual h next.c s) (sym c.is_marked.ensures) mark in
+    (λ e. cc, λ p. sym c.if-not-is_marked.true ∙ moved.1 (leaves_virtual h next.c s p))
 
 pub returns-in-Some : goal.returns-in-Some
 returns-in-Some c = λ s k.
