@@ -2,7 +2,6 @@
 
 ghost use Rattle.std.specs.Prelude.{◌≡◌, ◌+◌, ◌<◌, ◌≤◌, ◌++◌, ◌∷◌, [], false, Contains, IfOk, OnOk, map, length, slice_get};
 ghost use Rattle.cxx_hierarchy.specs.Classes.{bases_of};
-ghost use Rattle.cxx_subobject.specs.Subobjects.{shared_base, subobject};
 ghost use Rattle.abi_emptybase.specs.Table.{moved_part};
 ghost use Rattle.abi_sound.specs.Places.{direct_base_place};
 ghost use Rattle.abi_layout.specs.Placements.{nvsize_in};
@@ -17,44 +16,9 @@ use abi_emptybase::Part;
 use abi_sound::ClassLayout;
 use abi_sound::places::{number_of_base, place_of_number};
 use cxx_hierarchy::{Base, ClassId, Hierarchy};
-use cxx_subobject::{Root, Subobject, subobject_below};
+use cxx_subobject::{Root, Subobject, put_below, put_shared};
 use foundation::{NoMemory, Sequence};
 use std::alloc::Global;
-
-/// The subobject that a virtual base is.
-pub(crate) fn shared_base(alloc: Global, v: ClassId) -> Result<Subobject, NoMemory>
-    ensures { IfOk result (λ s. s ≡ shared_base v) }
-{
-    let mut path = Sequence::new(alloc);
-    path.push(v)?;
-    Ok(Subobject {
-        root: Root::Shared(v),
-        path,
-    })
-}
-
-/// Makes a subobject the one that a virtual base is. It is no part of the walk below, of which each open call takes room on the stack.
-#[inline(never)]
-fn put_shared(alloc: Global, v: ClassId, inner: &mut Subobject) -> Result<(), NoMemory>
-    ensures { OnOk result (inner.new ≡ shared_base v) }
-{
-    *inner = shared_base(alloc, v)?;
-    Ok(())
-}
-
-/// Makes a subobject the base of a class that another one has for its own, likewise.
-#[inline(never)]
-fn put_below(
-    alloc: Global,
-    s: &Subobject,
-    base: ClassId,
-    inner: &mut Subobject,
-) -> Result<(), NoMemory>
-    ensures { OnOk result (inner.new ≡ subobject s.now.root (s.now.path ++ base ∷ [])) }
-{
-    *inner = subobject_below(alloc, s, &[base])?;
-    Ok(())
-}
 
 /// The place of a direct non-virtual base in its class.
 pub(crate) fn base_place(h: &Hierarchy, rows: &[ClassLayout], d: ClassId, b: ClassId) -> u32

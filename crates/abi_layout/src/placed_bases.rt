@@ -11,14 +11,14 @@ ghost use Rattle.abi_layout.specs.invariants.Known.{empties_in, known_parts_of};
 ghost use Rattle.abi_layout.specs.invariants.Scenes.{IsLayoutScene};
 ghost use Rattle.abi_layout.specs.PlacedBases.{class_of_placed, subobject_of, is_first_base, first_base, is_other_base, front_bases, is_free, component_of_row, placed_component};
 
-use crate::brought::{bring, shared_base};
+use crate::brought::bring;
 use crate::brought_plainly::bring_plain;
 use crate::component::{Component, PartList};
 use crate::scene::{Scene, holder};
 use abi_primary::Primary;
 use abi_sound::ClassLayout;
 use cxx_hierarchy::{Base, ClassId};
-use cxx_subobject::{Root, Subobject};
+use cxx_subobject::{Root, Subobject, shared_base};
 use foundation::{NoMemory, Sequence};
 use std::alloc::Global;
 

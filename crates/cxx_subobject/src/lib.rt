@@ -25,7 +25,8 @@ pub use crate::containment::{
 };
 pub use crate::laws::{hops_are_of_owners, joins_are_subobjects, virtual_bases_are_listed};
 pub use crate::listing::{
-    SubobjectList, list_subobjects, no_marks, put_subobjects, subobject_below, subobjects_of,
+    SubobjectList, list_subobjects, no_marks, put_below, put_shared, put_subobjects, shared_base,
+    subobject_below, subobjects_of,
 };
 pub use crate::locations::{Hop, HopList, Location};
 pub use crate::parts::PartCounts;

@@ -44,7 +44,9 @@ pub fn no_marks(alloc: Global, classes: u32) -> Result<Vec<bool>, NoMemory>
 }
 
 /// The subobject that a virtual base is.
-fn shared_base(alloc: Global, v: ClassId) -> Result<Subobject, NoMemory>
+///
+/// Errors: want of memory.
+pub fn shared_base(alloc: Global, v: ClassId) -> Result<Subobject, NoMemory>
     ensures { IfOk result (λ s. s ≡ shared_base v) }
 {
     Ok(Subobject {
@@ -63,18 +65,23 @@ fn push_again(alloc: Global, s: &Subobject, found: &mut Vec<Subobject>) -> Resul
     Ok(())
 }
 
-/// Makes a subobject the one that a virtual base is.
+/// Makes a subobject the one that a virtual base is. It is no part of the walks that call it, of which each open call takes room on
+/// the stack.
+///
+/// Errors: want of memory.
 #[inline(never)]
-fn put_shared(alloc: Global, v: ClassId, inner: &mut Subobject) -> Result<(), NoMemory>
+pub fn put_shared(alloc: Global, v: ClassId, inner: &mut Subobject) -> Result<(), NoMemory>
     ensures { OnOk result (inner.new ≡ shared_base v) }
 {
     *inner = shared_base(alloc, v)?;
     Ok(())
 }
 
-/// Makes a subobject the base of a class that another one has for its own.
+/// Makes a subobject the base of a class that another one has for its own, likewise.
+///
+/// Errors: want of memory.
 #[inline(never)]
-fn put_below(
+pub fn put_below(
     alloc: Global,
     s: &Subobject,
     base: ClassId,
