@@ -29,6 +29,7 @@ pub(crate) fn class_or_first(s: &Subobject) -> ClassId
 {
     match class_of(s) {
         Some(d) => d,
+        // never met: the path of a subobject is not empty (`class_of` of cxx_subobject)
         None => ClassId(0),
     }
 }

@@ -80,6 +80,7 @@ pub fn class_or_first(class: Option<ClassId>) -> ClassId
 {
     match class {
         Some(class) => class,
+        // never met in a typed program (`programs_are_typed` of cxx_typing): what is converted to a base or read there has a class
         None => ClassId(0),
     }
 }

@@ -33,6 +33,7 @@ fn class_or_first(base: &Subobject) -> ClassId
 {
     match class_of(base) {
         Some(d) => d,
+        // never met: the path of a subobject is not empty (`class_of` of cxx_subobject)
         None => ClassId(0),
     }
 }

@@ -57,6 +57,7 @@ fn print_as(type_found: Option<&ValueType<ClassId>>) -> PrintAs
     match type_found {
         Some(ValueType::Number(scalar)) => PrintAs::Number(register_width(*scalar)),
         Some(ValueType::Pointer(_)) => PrintAs::Address,
+        // never met in a typed program (`programs_are_typed` of cxx_typing): each of its variables has a type
         None => PrintAs::Number(register_width(Scalar::Int)),
     }
 }

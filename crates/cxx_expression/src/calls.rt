@@ -54,6 +54,7 @@ fn function_in(
 ) -> Result<Option<FoundFunction>, NoMemory>
     ensures { Answers result faults.old faults.new (function_in h.now name_at s number (class_of_subobject s)) }
 {
+    // neither refusal is met for what `lookup` of cxx_lookup found: it is declared, in a subobject
     let Some(class) = class_of(&s) else {
         return refuse(faults, Rule::NoSuchMember, name_at);
     };

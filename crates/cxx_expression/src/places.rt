@@ -32,6 +32,7 @@ fn member_in(
 ) -> Result<Option<FoundMember>, NoMemory>
     ensures { Answers result faults.old faults.new (member_in h.now name_at s number (class_of s)) }
 {
+    // neither refusal is met for what `lookup` of cxx_lookup found: it is declared, in a subobject
     let Some(class) = class_of(&s) else {
         return refuse(faults, Rule::NoSuchMember, name_at);
     };
