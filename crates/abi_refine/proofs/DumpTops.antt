@@ -1,6 +1,6 @@
 -- Behind a step that tells a dump a body is on top.
 use Rattle.std.proofs.Common.{◌≡◌, ℕ, ◌+◌, Option, Some, None, List, [], ◌∷◌, ⊎_elim, map, refl, subst}
-use Rattle.std.specs.Prelude.{slice_get}
+use Rattle.std.specs.Prelude.{slice_get, option_map}
 use Rattle.cxx_hierarchy.specs.declared.records.ClassId.{ClassId}
 use Rattle.cxx_hierarchy.specs.declared.stop.LimitNo.{LimitNo}
 use Rattle.cxx_hierarchy.specs.Classes.{Classes}
@@ -31,7 +31,7 @@ use Rattle.path_model.specs.Values.{Value, Unset, Number, Null, Pointer, Objects
 use Rattle.path_model.specs.Uses.{receiver_value}
 use Rattle.path_model.specs.Rules.{statement_refusal, closing_refusal}
 use Rattle.path_model.specs.States.{at_statement, Target, ProgramState, RunningBody, Planned, Frame, InBody, InPlan, owned_body, sight, wanted_result, with_frames, with_objects}
-use Rattle.path_model.specs.Effects.{Next, Goes, Refuses, Ends, Wrong, runs, body_entered, function_entered, called_at, called, taker, taken, local_declared, written, copied_at, object_ended, deleted, going_on_at, branched, block_at, result_given, left_by, returned_value, value_out, view_out, type_out, dump_out, telling, kind_effect, effect}
+use Rattle.path_model.specs.Effects.{Next, Goes, Refuses, Ends, Wrong, runs, body_entered, function_entered, called_at, called, taker, taken, local_declared, written, copied_at, object_ended, deleted, going_on_at, branched, block_at, result_given, left_by, value_out, view_out, type_out, dump_out, telling, kind_effect, effect}
 use Rattle.path_model.specs.Steps.{body_owner, class_of_part, body_opened, plan_left, resumed, objects_after, event_outs, event_step, unless, constructor_closed, body_closed, before_kind, step_of_statement, next_in_body, body_step, frame_step, step}
 use Rattle.path_model.specs.Runs.{Moves, limit_at, within, move_by, move}
 
@@ -155,7 +155,7 @@ module _ (h : Classes) (program : TypedProgram) where
   kind_told see on f below n next (Delete x c) top = deleted_told on (value_of_operand see x)
   kind_told see on f below n next (If x other behind) top = branched_told on (value_of_operand see x) (block_at (n + 1) other next) (block_at other behind next)
   kind_told see on f below n next (While x behind) top = branched_told on (value_of_operand see x) (block_at (n + 1) behind n) next
-  kind_told see on f below n next (Return x) top = left_told f.owner (result_given (with_frames on below) f.found f.target (returned_value see x))
+  kind_told see on f below n next (Return x) top = left_told f.owner (result_given (with_frames on below) f.found f.target (option_map (argument_value see) x))
   kind_told see on f below n next (Print x) top = top_told on (value_out on.objects (value_of_operand see x)) top
   kind_told see on f below n next (PrintType x c) top = top_told on (type_out h on.objects (value_of_operand see x)) top
   kind_told see on f below n next (PrintView x c) top = top_told on (view_out h on.objects (value_of_operand see x)) top

@@ -45,7 +45,7 @@ use Rattle.foundation.proofs.Chosen.{any_has}
 use Rattle.foundation.proofs.Members.{Has, has_left, has_right}
 use Rattle.foundation.proofs.Truth.{is_false, not_both, split}
 use Rattle.path_model.proofs.TypedValues.{operand_typed}
-use Rattle.path_model.specs.Effects.{overrider_in_view, runs_at}
+use Rattle.path_model.specs.Effects.{overrider_in_view, at_part}
 use Rattle.path_model.specs.Order.{asked_call, asked_views, first_broken, sorted}
 use Rattle.path_model.specs.Rules.{breaks, is_broken, is_pure_in_view, names}
 use Rattle.path_model.specs.States.{Target, is_body}
@@ -57,7 +57,7 @@ use Rattle.path_rules.specs.declared.Undefined.TheVariants.{Dangling, PureCall}
 use Rattle.std.proofs.Common.{◌≡◌, ℕ, suc, ◌+◌, ◌≤◌, Bool, true, false, inl, inr, Option, Some, None, List, [], ◌∷◌, ◌++◌, length, refl, ap, sym, subst, ◌∙◌, arith}
 use Rattle.std.proofs.lemmas.Option.{slice_get_within}
 use Rattle.std.specs.List.{AllZip, flat_map}
-use Rattle.std.specs.Prelude.{◌||◌, if◌then◌else◌}
+use Rattle.std.specs.Prelude.{◌||◌, if◌then◌else◌, option_map}
 
 -- no use breaks the rule
 pub none_broken : (h : Classes) (s : Objects) (us : List StatementUse) (r : Undefined) → ((u : StatementUse) → Has us u → breaks h s r u ≡ false) → is_broken h s us r ≡ false
@@ -133,7 +133,7 @@ module _ {statement : TypedStatement} (scene : Scene statement) (locals : List V
     overriding flag k code = record {
       part = part a.aim.part.object a.aim.part.owner k.overrider.at;
       function = k.overrider.function;
-      runs_is = ap (λ (y : Bool). if y then overrider_in_view (world_classes w) s.objects a.aim.part call.function else Some (a.aim.part, call.function)) flag ∙ ap (runs_at a.aim.part) k.is;
+      runs_is = ap (λ (y : Bool). if y then overrider_in_view (world_classes w) s.objects a.aim.part call.function else Some (a.aim.part, call.function)) flag ∙ ap (option_map (at_part a.aim.part)) k.is;
       runs_for = k.runs;
       made = k.made code;
       code = k.code code;

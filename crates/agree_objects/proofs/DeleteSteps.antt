@@ -1,6 +1,7 @@
 -- `delete p;`
 use Rattle.std.proofs.Common.{◌≡◌, ℕ, ◌+◌, ◌<◌, ◌≤◌, ⊎_elim, Bool, true, false, inl, inr, Option, Some, None, List, [], ◌∷◌, ◌++◌, refl, ap, sym, ◌∙◌, subst, arith}
 use Rattle.std.specs.Prelude.{slice_get, not}
+use Rattle.std.specs.Option.{option_map_or}
 use Rattle.std.proofs.lemmas.Bool.{cases_lt}
 use Rattle.std.proofs.Math.Bool.{not-not}
 use Rattle.foundation.proofs.Members.{Has, has_left, has_right}
@@ -31,7 +32,7 @@ use Rattle.path_model.specs.States.{ProgramState, sight, with_frames}
 use Rattle.path_model.specs.TypedStates.{IsPartMade, IsValue}
 use Rattle.path_model.specs.Effects.{ending, object_ended, deleted}
 use Rattle.path_model.specs.Places.{owner_class}
-use Rattle.path_model.specs.Rules.{breaks, is_broken, is_unset, names, is_unready, is_outside, is_no_whole, is_in_heap_object, is_incomplete, is_whole_complete, is_whole_of}
+use Rattle.path_model.specs.Rules.{breaks, is_broken, is_unset, names, is_unready, is_outside, is_no_whole, is_in_heap_object, is_incomplete, is_whole_complete}
 use Rattle.path_model.specs.Runs.{Move, within, call_limit, delete_demand, limit_of, move_by}
 use Rattle.path_model.specs.Uses.{StatementUse, Reads, Guards, Views, Deletes, uses_of_view, class_of_owner}
 use Rattle.path_model.proofs.TypedValues.{operand_typed}
@@ -222,7 +223,7 @@ module _ (x : TypedOperand) (c : ClassId) (line next : ℕ) (scene : Scene (reco
         let h = world_classes w in
         let asked = subst (λ (t : Bool). breaks h s.objects NonVirtualDelete (Deletes v t) ≡ false) dispatched (unbroken (fixed w) b (Reaches scene) h s.objects uses (Deletes v by_table) NonVirtualDelete (none NonVirtualDelete) has_deletes) in
         let own : class_of_owner h s.objects p ≡ Some d = ap (owner_class h s.objects.classes p.object) owner_is ∙ made.made in
-        subobject_same p.at (whole_of d) (sym (not-not (same_subobject p.at (whole_of d))) ∙ ap not (ap (λ o. not (is_whole_of o p.at)) (sym own) ∙ named (is_no_whole h s.objects) asked))
+        subobject_same p.at (whole_of d) (sym (not-not (same_subobject p.at (whole_of d))) ∙ ap not (ap (λ o. not (option_map_or (λ d. same_subobject p.at (whole_of d)) o false)) (sym own) ∙ named (is_no_whole h s.objects) asked))
 
     own_class : by_table ≡ false → made.class ≡ c
     own_class dispatched = let one : Some d ≡ Some c = sym (ap class_of (at_whole dispatched)) ∙ made.of_class in cc

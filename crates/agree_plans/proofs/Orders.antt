@@ -1,6 +1,6 @@
 -- Every state of a run keeps its plans in order: each step does.
 use Rattle.std.proofs.Common.{◌≡◌, ℕ, zero, suc, ◌+◌, Bool, true, false, Option, Some, None, List, [], ◌∷◌, length, map, refl, subst, sym}
-use Rattle.std.specs.Prelude.{slice_get, if◌then◌else◌}
+use Rattle.std.specs.Prelude.{slice_get, if◌then◌else◌, option_map}
 use Rattle.cxx_hierarchy.specs.declared.records.ClassId.{ClassId}
 use Rattle.cxx_hierarchy.specs.Classes.{Classes}
 use Rattle.cxx_overrider.specs.declared.FunctionId.{FunctionId}
@@ -31,7 +31,7 @@ use Rattle.path_model.specs.Uses.{receiver_value}
 use Rattle.path_model.specs.Rules.{statement_refusal, closing_refusal}
 use Rattle.path_model.specs.Outs.{object_class}
 use Rattle.path_model.specs.States.{Target, RunningBody, Planned, Frame, InBody, InPlan, ProgramState, owned_body, with_frames, with_objects, with_local_in, assigned, entered_body, at_statement, sight, wanted_result}
-use Rattle.path_model.specs.Effects.{Next, Goes, runs, body_entered, function_entered, called_at, taker, new_made, taken, local_declared, written, copied_at, object_ended, deleted, building, ending, branched, given_to_target, result_given, left_by, returned_value, telling, kind_effect, effect, block_at, frames_at, is_number_zero, result_conversion}
+use Rattle.path_model.specs.Effects.{Next, Goes, runs, body_entered, function_entered, called_at, taker, new_made, taken, local_declared, written, copied_at, object_ended, deleted, building, ending, branched, given_to_target, result_given, left_by, telling, kind_effect, effect, block_at, frames_at, is_number_zero, result_conversion}
 use Rattle.path_model.specs.Steps.{body_owner, class_of_part, objects_after, plan_left, body_opened, resumed, event_step, unless, body_closed, before_kind, step_of_statement, next_in_body, body_step, frame_step, step}
 use Rattle.path_model.specs.Runs.{main_frames, limit_at, state_at}
 use Rattle.path_model.proofs.KeptFrames.{IfGoes}
@@ -216,7 +216,7 @@ module _ (h : Classes) (program : TypedProgram) (typed : IsTypedProgram h progra
   kind_kept see s f g below n next (Delete x c) is a left = deleted_kept f below a s (value_of_operand see x) is
   kind_kept see s f g below n next (If x other behind) is a left = branched_kept s f below (value_of_operand see x) (block_at (n + 1) other next) (block_at other behind next) is a
   kind_kept see s f g below n next (While x behind) is a left = branched_kept s f below (value_of_operand see x) (block_at (n + 1) behind n) next is a
-  kind_kept see s f g below n next (Return x) is a left = returned_kept s g below g.owner (returned_value see x) left a.1
+  kind_kept see s f g below n next (Return x) is a left = returned_kept s g below g.owner (option_map (argument_value see) x) left a.1
   kind_kept see s f g below n next (Print x) is a left = telling_kept f below a s _ is
   kind_kept see s f g below n next (PrintType x c) is a left = telling_kept f below a s _ is
   kind_kept see s f g below n next (PrintView x c) is a left = telling_kept f below a s _ is

@@ -1,6 +1,7 @@
 -- What a run gives of the parts of its objects: a ready part's complete object has a view, and a part that begins does so within what has begun.
 use Rattle.std.proofs.Common.{◌≡◌, ℕ, append-nil, ⊎_elim, true, Option, Some, None, List, [], ◌∷◌, ◌++◌, append_assoc, refl, ap, sym, subst, ◌∙◌}
-use Rattle.std.specs.Prelude.{slice_get}
+use Rattle.std.specs.Prelude.{slice_get, option_and_then}
+use Rattle.cxx_hierarchy.specs.declared.records.Member.{Member}
 use Rattle.cxx_hierarchy.specs.declared.records.ClassId.{ClassId}
 use Rattle.cxx_hierarchy.specs.Classes.{Classes}
 use Rattle.cxx_hierarchy.specs.Hierarchies.{IsHierarchy}
@@ -19,7 +20,7 @@ use Rattle.path_plan.proofs.Valid.{whole_has_part, path_in}
 use Rattle.path_plan.proofs.Resting.{in_through}
 use Rattle.path_plan.proofs.Uses.{ready_cases}
 use Rattle.path_model.specs.Values.{inner_part}
-use Rattle.path_model.specs.Places.{class_within, owner_class, member_class, object_in}
+use Rattle.path_model.specs.Places.{class_within, owner_class, object_in}
 use Rattle.path_model.specs.TypedStates.{IsPartMade}
 use Rattle.agree_relation.proofs.PlanOrder.{IsMemberClass}
 use Rattle.agree_relation.proofs.RunsPlayed.{complete_seen, around_begun}
@@ -28,7 +29,7 @@ use Rattle.agree_relation.proofs.RunsPlayed.{complete_seen, around_begun}
 member_class_is : (h : Classes) (classes : List ClassId) (k : ℕ) (o : List Step) (d : ClassId) → owner_class h classes k o ≡ Some d → IsMemberClass h o d
 member_class_is h classes k [] d owner = tt
 member_class_is h classes k (step ∷ rest) d owner = λ c e member class there is.
-    let f : Some e ≡ Some d = sym (ap (λ (x : Option ClassId). class_within h x step.member) class ∙ (ap member_class there ∙ ap object_in is)) ∙ owner in
+    let f : Some e ≡ Some d = sym (ap (λ (x : Option ClassId). class_within h x step.member) class ∙ (ap (option_and_then (λ (member : Member ClassId). object_in member.ty)) there ∙ ap object_in is)) ∙ owner in
     let one : e ≡ d = cc in
     one
 

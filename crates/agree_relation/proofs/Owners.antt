@@ -1,6 +1,7 @@
 -- What the notes say of the complete object of a part.
 use Rattle.std.proofs.Common.{◌≡◌, ℕ, Bool, true, false, Option, Some, List, [], ◌∷◌, refl, ap, sym, subst, ◌∙◌}
 use Rattle.std.specs.Prelude.{not, ◌&&◌, nat_eq, slice_get}
+use Rattle.std.specs.Option.{option_map_or}
 use Rattle.std.proofs.lemmas.Bool.{eqb-true, eq-eqb}
 use Rattle.foundation.proofs.Truth.{is_false}
 use Rattle.cxx_hierarchy.specs.declared.records.ClassId.{ClassId}
@@ -15,7 +16,7 @@ use Rattle.path_model.specs.Values.{Objects}
 use Rattle.path_model.specs.Places.{owner_class}
 use Rattle.path_model.specs.TypedStates.{IsPartMade}
 use Rattle.path_model.specs.Uses.{class_of_owner}
-use Rattle.path_model.specs.Rules.{is_whole_of, is_no_whole, is_in_heap_object}
+use Rattle.path_model.specs.Rules.{is_no_whole, is_in_heap_object}
 use Rattle.byte_memory.specs.declared.memory.Region.{Region}
 use Rattle.byte_shadow.specs.Shadows.{Notes}
 use Rattle.byte_machine.specs.Checks.{same_address_and_class}
@@ -78,7 +79,7 @@ pub whole_tested : (w : World) (s : Objects) (regions : List Region) (p : Object
 whole_tested w s regions p c d laid made owner =
     let g = heap_of s.classes regions in
     pair_test w g (part p.object p.owner (whole_of d)) p d c laid (complete_made (world_classes w) g p c d made owner) made
-    ∙ (own_owner p.object p.owner (whole_of d) p.at ∙ (same_turned (whole_of d) p.at ∙ (twice_not _ ∙ ap (λ (x : Option ClassId). not (not (is_whole_of x p.at))) (sym owner))))
+    ∙ (own_owner p.object p.owner (whole_of d) p.at ∙ (same_turned (whole_of d) p.at ∙ (twice_not _ ∙ ap (λ (x : Option ClassId). not (not (option_map_or (λ d. same_subobject p.at (whole_of d)) x false))) (sym owner))))
   where
     twice_not : (b : Bool) → b ≡ not (not b)
     twice_not true = refl

@@ -1,6 +1,6 @@
 -- What a step tells as a dump: the leaves of an open and complete object, as they are in the state behind the step, and nothing else.
 use Rattle.std.proofs.Common.{◌≡◌, ℕ, ◌+◌, false, Option, Some, None, List, [], ◌∷◌, inl, inr, ⊎_elim, map, refl, ap, subst, sym, ◌∙◌}
-use Rattle.std.specs.Prelude.{slice_get, Contains}
+use Rattle.std.specs.Prelude.{slice_get, Contains, option_map}
 use Rattle.cxx_hierarchy.specs.declared.records.ClassId.{ClassId}
 use Rattle.cxx_hierarchy.specs.declared.stop.LimitNo.{LimitNo}
 use Rattle.cxx_hierarchy.specs.Classes.{Classes}
@@ -36,7 +36,7 @@ use Rattle.path_model.specs.Uses.{Reads, Dumps, Wanted, receiver_value}
 use Rattle.path_model.specs.Rules.{names, is_incomplete, statement_refusal, closing_refusal, uses_of}
 use Rattle.path_model.specs.Outs.{dump_leaf}
 use Rattle.path_model.specs.States.{Target, ProgramState, RunningBody, Planned, Frame, InBody, InPlan, owned_body, sight, wanted_result, with_frames, with_objects}
-use Rattle.path_model.specs.Effects.{Next, Goes, Refuses, Ends, Wrong, runs, body_entered, function_entered, called_at, called, taker, taken, local_declared, written, copied_at, object_ended, deleted, going_on_at, branched, block_at, result_given, left_by, returned_value, value_out, part_out, view_out, class_out, type_out, view_part, typeid_class, object_out, dump_out, telling, kind_effect, effect}
+use Rattle.path_model.specs.Effects.{Next, Goes, Refuses, Ends, Wrong, runs, body_entered, function_entered, called_at, called, taker, taken, local_declared, written, copied_at, object_ended, deleted, going_on_at, branched, block_at, result_given, left_by, value_out, part_out, view_out, class_out, type_out, view_part, typeid_class, object_out, dump_out, telling, kind_effect, effect}
 use Rattle.path_model.specs.Steps.{body_owner, class_of_part, body_opened, plan_left, resumed, objects_after, event_outs, event_step, unless, constructor_closed, body_closed, before_kind, step_of_statement, next_in_body, body_step, frame_step, step}
 use Rattle.path_model.specs.Runs.{Moves, limit_at, within, move_by, move}
 use Rattle.path_model.proofs.RuleLaws.{complete_law}
@@ -224,7 +224,7 @@ module _ (h : Classes) (program : TypedProgram) where
   kind_told see w on f below n next (Delete x c) same none = deleted_told on (value_of_operand see x)
   kind_told see w on f below n next (If x other behind) same none = branched_told on (value_of_operand see x) (block_at (n + 1) other next) (block_at other behind next)
   kind_told see w on f below n next (While x behind) same none = branched_told on (value_of_operand see x) (block_at (n + 1) behind n) next
-  kind_told see w on f below n next (Return x) same none = left_told f.owner (result_given (with_frames on below) f.found f.target (returned_value see x))
+  kind_told see w on f below n next (Return x) same none = left_told f.owner (result_given (with_frames on below) f.found f.target (option_map (argument_value see) x))
   kind_told see w on f below n next (Print x) same none = telling_other h on _ (value_printed on.objects (value_of_operand see x))
   kind_told see w on f below n next (PrintType x c) same none = telling_other h on _ (type_printed h on.objects (value_of_operand see x))
   kind_told see w on f below n next (PrintView x c) same none = telling_other h on _ (view_printed h on.objects (value_of_operand see x))

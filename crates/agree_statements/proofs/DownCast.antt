@@ -1,6 +1,6 @@
 -- `v = static_cast<D*>(p);`, from a base to a class derived from it
 use Rattle.std.proofs.Common.{◌≡◌, ℕ, true, false, Option, Some, None, List, [], ◌∷◌, ◌++◌, inl, inr, refl, ap, sym, ◌∙◌, subst, arith}
-use Rattle.std.specs.Prelude.{slice_set}
+use Rattle.std.specs.Prelude.{slice_set, is_none}
 use Rattle.cxx_hierarchy.specs.declared.records.ClassId.{ClassId}
 use Rattle.cxx_hierarchy.specs.declared.records.ValueType.TheVariants.{Pointer as PointerType}
 use Rattle.cxx_hierarchy.specs.Classes.{Classes}
@@ -17,7 +17,7 @@ use Rattle.cxx_program.specs.Typed.{IsProperBase, Casts, cast_down}
 use Rattle.path_rules.specs.declared.Undefined.TheVariants.{Unset as UnsetUse, BadDowncast}
 use Rattle.path_model.specs.Values.{Value, Unset, Number, Null, Pointer, value_of_operand}
 use Rattle.path_model.specs.Uses.{StatementUse, Reads, Guards, Downs, cast_uses, derived_of, down_value, value_or}
-use Rattle.path_model.specs.Rules.{is_broken, is_unset, is_nowhere, names}
+use Rattle.path_model.specs.Rules.{is_broken, is_unset, names}
 use Rattle.path_model.specs.Outs.{class_or_first}
 use Rattle.path_model.specs.TypedStates.{IsValue}
 use Rattle.byte_machine.specs.Frames.{register_of}
@@ -96,9 +96,9 @@ module _ {statement : TypedStatement} (scene : Scene statement) (locals : List V
   found : (p : ObjectPart) → v ≡ Pointer p → is_broken (world_classes w) s.objects uses BadDowncast ≡ false → (t : Subobject) × (derived_of (world_classes w) s.objects target i p ≡ Some t)
   found p is none =
       let fine = unbroken (fixed w) b (Reaches scene) (world_classes w) s.objects uses (Downs v target i) BadDowncast none (inr (inr (inl refl))) in
-      by_found (derived_of (world_classes w) s.objects target i p) (subst (λ (y : Value). names (λ q. is_nowhere (derived_of (world_classes w) s.objects target i q)) y ≡ false) is fine)
+      by_found (derived_of (world_classes w) s.objects target i p) (subst (λ (y : Value). names (λ q. is_none (derived_of (world_classes w) s.objects target i q)) y ≡ false) is fine)
     where
-      by_found : (o : Option Subobject) → is_nowhere o ≡ false → (t : Subobject) × (o ≡ Some t)
+      by_found : (o : Option Subobject) → is_none o ≡ false → (t : Subobject) × (o ≡ Some t)
       by_found None somewhere = absurd (let f : true ≡ false = somewhere in cc)
       by_found (Some t) somewhere = (t, refl)
 

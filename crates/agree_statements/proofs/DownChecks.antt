@@ -1,4 +1,5 @@
 -- A check decides whether a pointer is the base of what begins so many bytes before it.
+use Rattle.std.specs.Prelude.{is_none}
 use Rattle.std.proofs.Common.{◌≡◌, ℕ, zero, suc, ◌+◌, ◌<◌, ◌^◌, false, Option, Some, None, List, refl, ap, sym, ◌∙◌, subst, arith}
 use Rattle.foundation.proofs.Members.{Has}
 use Rattle.cxx_hierarchy.specs.declared.records.ClassId.{ClassId}
@@ -14,7 +15,7 @@ use Rattle.path_rules.specs.declared.Undefined.TheVariants.{NotReady, BadDowncas
 use Rattle.path_rules.specs.Rules.{undefined_no}
 use Rattle.path_model.specs.Values.{Value, Unset, Number, Null, Pointer, Objects, inner_part}
 use Rattle.path_model.specs.Uses.{StatementUse, Guards, Downs, derived_of}
-use Rattle.path_model.specs.Rules.{breaks, names, is_nowhere, is_unready}
+use Rattle.path_model.specs.Rules.{breaks, names, is_unready}
 use Rattle.path_model.specs.TypedStates.{IsPartMade, IsValue}
 use Rattle.byte_code.specs.declared.op.Check.TheVariants.{Derived}
 use Rattle.byte_code.specs.declared.op.Phase.{Phase as BytePhase}
@@ -108,13 +109,13 @@ module _ (w : World) (s : Objects) (b : Running) (P : Running → Stop → Type 
   -- 7
   pub decides_derived : (r : ℕ) (v : Value) → IsValue (world_classes w) s.classes v (PointerType c) → register b r ≡ register_word w g v
       → ((p : ObjectPart) (t : Subobject) → v ≡ Pointer p → derived_of (world_classes w) s target i p ≡ Some t → s.phases.phase (part p.object p.owner t) ≡ Raw → ⊥)
-      → Decides (fixed w) b P 7 (Derived r (back_by place) target.0) (names (λ p. is_nowhere (derived_of (world_classes w) s target i p)) v)
+      → Decides (fixed w) b P 7 (Derived r (back_by place) target.0) (names (λ p. is_none (derived_of (world_classes w) s target i p)) v)
   decides_derived r Unset typed e begun = record { leads = λ ops goes refuses. leads_idle (fixed w) (Derived r (back_by place) target.0) r refl (idle_unset (register b r) e) (goes refl) }
   decides_derived r (Number z) typed e begun = absurd typed
   decides_derived r Null typed e begun = record { leads = λ ops goes refuses. leads_idle (fixed w) (Derived r (back_by place) target.0) r refl (idle_null (register b r) e) (goes refl) }
   decides_derived r (Pointer p) made e begun = by_found (derived_of (world_classes w) s target i p) refl
     where
-      by_found : (o : Option Subobject) → derived_of (world_classes w) s target i p ≡ o → Decides (fixed w) b P 7 (Derived r (back_by place) target.0) (is_nowhere o)
+      by_found : (o : Option Subobject) → derived_of (world_classes w) s target i p ≡ o → Decides (fixed w) b P 7 (Derived r (back_by place) target.0) (is_none o)
       by_found None none = record { leads = λ ops goes refuses. leads_not_derived (fixed w) r (back_by place) target.0 (address (world_classes w) (places_in w) g p) e (λ q. let some = part_positive (world_classes w) w.setup.rows g p c laid made in omega arith) (none_there p made none) (refuses refl) }
       by_found (Some t) found = let y = begun_there p t made found (begun p t refl found) in record { leads = λ ops goes refuses. leads_derived (fixed w) r (back_by place) target.0 (address (world_classes w) (places_in w) g p) y.0 e y.1 (goes refl) }
 

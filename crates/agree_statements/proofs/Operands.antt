@@ -1,6 +1,6 @@
 -- Operands are read into registers.
 use Rattle.std.proofs.Common.{◌≡◌, ℕ, zero, suc, ◌<◌, Option, Some, None, List, [], ◌∷◌, ◌++◌, length, map, refl, ap, sym, ◌∙◌, ◌+◌, arith}
-use Rattle.std.specs.Prelude.{slice_get}
+use Rattle.std.specs.Prelude.{slice_get, unwrap_or}
 use Rattle.std.proofs.lemmas.Option.{slice_get_within}
 use Rattle.cxx_hierarchy.specs.declared.records.ClassId.{ClassId}
 use Rattle.cxx_hierarchy.specs.declared.records.ValueType.{ValueType}
@@ -10,7 +10,7 @@ use Rattle.cxx_program.specs.declared.operand.Variable.TheVariants.{Global, Loca
 use Rattle.cxx_program.specs.declared.operand.TypedOperand.{TypedOperand}
 use Rattle.cxx_program.specs.declared.operand.TypedOperand.TheVariants.{Variable as VariableOperand}
 use Rattle.cxx_program.specs.Typed.{Types, Scope, HasType, of_variable, of_this, of_number}
-use Rattle.path_model.specs.Values.{Value, Sight, or_unset, value_of_operand}
+use Rattle.path_model.specs.Values.{Value, Sight, value_of_operand, Unset}
 use Rattle.path_model.specs.States.{ProgramState, RunningBody as Body, sight}
 use Rattle.path_model.specs.TypedStates.{AreValues}
 use Rattle.path_model.proofs.TypedValues.{IsTypedSight}
@@ -53,12 +53,12 @@ pub leads_operand : (fx : Fixed) (w : World) (g : Heap) (s : ProgramState) (f : 
     ((new : List (Option ℕ)) → HasOperand w g (sight s f) x r old new → OpsLead fx ops (at_registers b new) P) → OpsLead fx (operand_ops r x ++ ops) (at_registers b old) P
 leads_operand fx w g s f e b {ops} {P} _ _ r old typed globals variables (of_variable (Global n) t' there) inside rest =
     let v = value_there (world_classes w) s.objects.classes s.globals e.globals n t' typed.globals there in
-    let read : value_of_operand (sight s f) (VariableOperand (Global n)) ≡ v.0 = ap or_unset v.1 in
+    let read : value_of_operand (sight s f) (VariableOperand (Global n)) ≡ v.0 = ap (λ o. unwrap_or o Unset) v.1 in
     leads_read_global fx r n (register_word w g v.0) (global_word w g s.globals n v.0 b globals v.1) inside
     (rest _ (record { wrote = wrote_set b old r (register_word w g v.0); word = set_here b old r (register_word w g v.0) inside ∙ ap (register_word w g) (sym read) }))
 leads_operand fx w g s f e b {ops} {P} _ _ r old typed globals variables (of_variable (Local n) t' there) inside rest =
     let v = value_there (world_classes w) s.objects.classes f.locals e.locals n t' typed.locals there in
-    let read : value_of_operand (sight s f) (VariableOperand (Local n)) ≡ v.0 = ap or_unset v.1 in
+    let read : value_of_operand (sight s f) (VariableOperand (Local n)) ≡ v.0 = ap (λ o. unwrap_or o Unset) v.1 in
     rest old (record { wrote = wrote_none r old; word = variables.local n v.0 v.1 ∙ ap (register_word w g) (sym read) })
 leads_operand fx w g s f e b {ops} {P} _ _ r old typed globals variables (of_this c there) inside rest = rest old (record { wrote = wrote_none r old; word = variables.this })
 leads_operand fx w g s f e b {ops} {P} _ _ r old typed globals variables (of_number z u range) inside rest =

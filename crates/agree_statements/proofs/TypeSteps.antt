@@ -1,6 +1,7 @@
 -- `print(typeid(*p));`, `print(dynamic_cast<void*>(p));` and `v = typeid(*p) == typeid(D);`
 use Rattle.std.proofs.Common.{◌≡◌, ℕ, ◌<◌, ◌^◌, true, false, Option, Some, None, List, [], ◌∷◌, ◌++◌, length, pos, inl, inr, refl, ap, sym, ◌∙◌, subst, arith}
-use Rattle.std.specs.Prelude.{slice_set, nat_eq, if◌then◌else◌}
+use Rattle.std.specs.Prelude.{slice_set, nat_eq, if◌then◌else◌, option_map, option_and_then}
+use Rattle.cxx_subobject.specs.Subobjects.{class_of}
 use Rattle.std.proofs.lemmas.Bool.Decides.{nat_tests}
 use Rattle.cxx_hierarchy.specs.declared.records.ClassId.{ClassId}
 use Rattle.cxx_hierarchy.specs.declared.records.Scalar.TheVariants.{Bool as TheBool}
@@ -26,7 +27,7 @@ use Rattle.path_model.specs.Rules.{is_unset, is_broken}
 use Rattle.path_model.specs.Outs.{location_of, class_or_first}
 use Rattle.cxx_subobject.specs.declared.Subobject.{Subobject}
 use Rattle.path_model.specs.States.{sight}
-use Rattle.path_model.specs.Effects.{telling, type_out, view_out, type_equal, typeid_class, class_of_view, class_out, part_out, part_in_same_object, is_type}
+use Rattle.path_model.specs.Effects.{telling, type_out, view_out, type_equal, typeid_class, class_out, part_out, is_type}
 use Rattle.path_model.specs.Runs.{Moves, move_by}
 use Rattle.path_model.specs.TypedStates.{IsValue}
 use Rattle.path_model.proofs.TypedRanges.{bit_in_range}
@@ -130,7 +131,7 @@ module _ {statement : TypedStatement} (scene : Scene statement) where
 
   -- the rule's class of the view
   pub type_is : (v : Value) (c : ClassId) → (k : IsSeen scene v c) → typeid_class (world_classes w) s.objects k.part ≡ Some k.under_view.sight.class
-  type_is v c k = ap class_of_view k.under_view.sight.is_view ∙ k.under_view.sight.there.of_class
+  type_is v c k = ap (option_and_then class_of) k.under_view.sight.is_view ∙ k.under_view.sight.there.of_class
 
   -- class numbers are small
   pub class_small : (v : Value) (c : ClassId) → (k : IsSeen scene v c) → k.under_view.sight.class.0 < 2 ^ 32
@@ -272,7 +273,7 @@ module _ (x : TypedOperand) (c : ClassId) (line next : ℕ) (scene : Scene (reco
       let word : Option ℕ = Some (moved (address h (places_in w) (here scene) seen.part) led.by) in
       let last = slice_set new to word in
       let told : register_of last to ≡ Some (address h (places_in w) (here scene) q) = set_here b new to word inside ∙ ap (λ (n : ℕ). Some n) led.leads in
-      let view_is : view_out h s.objects (Pointer p) ≡ Some (PointerOut (Some (location_of s.objects q))) = ap (λ (z : ObjectPart). view_out h s.objects (Pointer z)) (sym same) ∙ ap (λ (o : Option Subobject). part_out s.objects (part_in_same_object seen.part o)) seen.under_view.sight.is_view in
+      let view_is : view_out h s.objects (Pointer p) ≡ Some (PointerOut (Some (location_of s.objects q))) = ap (λ (z : ObjectPart). view_out h s.objects (Pointer z)) (sym same) ∙ ap (λ (o : Option Subobject). part_out s.objects (option_map (part seen.part.object seen.part.owner) o)) seen.under_view.sight.is_view in
       leads_top (fixed w) to source (address h (places_in w) (here scene) seen.part) led.by (has ∙ ap (λ (z : ObjectPart). register_word w (here scene) (Pointer z)) (sym same)) (part_some scene (value_of_operand (sight s f) x) c seen) led.there inside
       (leads_print_address (fixed w) to (address h (places_in w) (here scene) q) told
       (tells_out scene (RawAddress (address h (places_in w) (here scene) q)) (PointerOut (Some (location_of s.objects q))) next last (variables_kept w (here scene) f to new last (is_free scene 1) kept (wrote_set b new to word))

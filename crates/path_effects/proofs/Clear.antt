@@ -1,4 +1,5 @@
 -- What is known where the uses of a statement break no rule: what it guards is ready, and so is what its paths pass through.
+use Rattle.std.specs.Prelude.{is_none}
 use Rattle.std.proofs.Common.{◌≡◌, true, false, Option, Some, None, List, [], ◌∷◌, ◌++◌, inl, inr, refl, ap, subst, sym, ◌∙◌}
 use Rattle.foundation.proofs.Truth.{split, not_both}
 use Rattle.foundation.proofs.Members.{Has, has_left, has_right}
@@ -21,7 +22,7 @@ use Rattle.path_plan.proofs.Uses.{complete_ready}
 use Rattle.path_model.specs.Values.{Pointer, Objects, inner_part}
 use Rattle.path_model.specs.Places.{passed_part}
 use Rattle.path_model.specs.Uses.{StatementUse, Guards, Passes, is_shared, uses_of_view, path_uses}
-use Rattle.path_model.specs.Rules.{breaks, is_broken, refused, is_nothing, is_clear, IsLeast}
+use Rattle.path_model.specs.Rules.{breaks, is_broken, refused, is_clear, IsLeast}
 use Rattle.path_model.proofs.Least.{refused_least}
 use Rattle.path_model.proofs.Facts.{base_done, ready_of}
 use Rattle.path_model.proofs.TypedUses.{unbroken}
@@ -48,7 +49,7 @@ pub clear_rest : (h : Classes) (s : Objects) (u : StatementUse) (us : List State
 clear_rest h s u us clear = clear_among h s (u ∷ us) us clear (λ v has. inr has)
 
 pub is_clear_by : (h : Classes) (s : Objects) (us : List StatementUse) → refused h s us ≡ None → is_clear h s us ≡ true
-is_clear_by h s us clear = ap is_nothing clear
+is_clear_by h s us clear = ap is_none clear
 
 -- a part that is ready has begun
 pub ready_begun : (s : Objects) (p : ObjectPart) → is_ready (s.phases.phase p) ≡ true → HasBegun s p

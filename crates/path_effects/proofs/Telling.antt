@@ -1,6 +1,7 @@
 -- What is told of parts and views.
 use Rattle.std.proofs.Common.{◌≡◌, ℕ, Option, None, List, [], ◌∷◌, ◌++◌, inl, inr, refl, ap, sym, ◌∙◌}
-use Rattle.std.specs.Prelude.{IfOk, OnOk, Result, Ok, Err}
+use Rattle.std.specs.Prelude.{IfOk, OnOk, Result, Ok, Err, option_map}
+use Rattle.path_plan.specs.Places.{part}
 use Rattle.cxx_hierarchy.specs.declared.records.ClassId.{ClassId}
 use Rattle.cxx_hierarchy.specs.Classes.{Classes}
 use Rattle.cxx_subobject.specs.declared.Subobject.{Subobject}
@@ -14,7 +15,7 @@ use Rattle.path_model.specs.Outs.{class_or_first}
 use Rattle.path_model.specs.Uses.{StatementUse, Reads, Guards, Views, arrow, view_of}
 use Rattle.path_model.specs.Rules.{refused}
 use Rattle.path_model.specs.Steps.{class_of_part}
-use Rattle.path_model.specs.Effects.{part_in_same_object, part_out, view_out, class_out, typeid_class, type_out}
+use Rattle.path_model.specs.Effects.{part_out, view_out, class_out, typeid_class, type_out}
 use Rattle.path_heap.specs.declared.state.Part.{Part}
 use Rattle.path_heap.specs.declared.state.Value.TheVariants.{Pointer as PointerCode}
 use Rattle.path_heap.specs.Points.{Points, PointsView, StandsForPart}
@@ -36,7 +37,7 @@ part_class h classes code p a =
     sym a.is_class ∙ sym (ap class_or_first (sym (ap (λ (t : ObjectPart). class_of t.at) a.is_part) ∙ (at_good h (sizes_of h) classes a.node a.at).class))
 
 -- the view of a part that is asked for
-pub view_is_told : (h : Classes) (s : Objects) (n : ℕ) (v : Option ℕ) (out : Option Out) → ((p : ObjectPart) (x : Option Subobject) → PointsView h s.classes p v x → out ≡ part_out s (part_in_same_object p x))
+pub view_is_told : (h : Classes) (s : Objects) (n : ℕ) (v : Option ℕ) (out : Option Out) → ((p : ObjectPart) (x : Option Subobject) → PointsView h s.classes p v x → out ≡ part_out s (option_map (part p.object p.owner) x))
     → ((p : ObjectPart) → Points h s.classes n p → HasBegun s p → PointsView h s.classes p v (view_of h s p)) → (w : Value) → Means h s.classes (PointerCode n) w → refused h s (Reads w ∷ Guards w ∷ Views w ∷ []) ≡ None → out ≡ view_out h s w
 view_is_told h s n v out told seen Unset m clear = absurd m
 view_is_told h s n v out told seen (Number z) m clear = absurd m

@@ -1,6 +1,7 @@
 //! What the statements that print tell, and what calls and events tell.
 
-ghost use Rattle.std.specs.Prelude.{◌≡◌, Option, None, IfOk, ◌∷◌, ◌++◌, []};
+ghost use Rattle.std.specs.Prelude.{◌≡◌, Option, None, IfOk, ◌∷◌, ◌++◌, [], option_map};
+ghost use Rattle.path_plan.specs.Places.{part};
 ghost use Rattle.cxx_hierarchy.specs.Classes.{Classes};
 ghost use Rattle.cxx_subobject.specs.declared.Subobject.{Subobject};
 ghost use Rattle.cxx_subobject.specs.Locations.{ObjectPart};
@@ -10,7 +11,7 @@ ghost use Rattle.path_model.specs.Outs.{location_of};
 ghost use Rattle.path_model.specs.Uses.{Reads, Guards, Views, arrow};
 ghost use Rattle.path_model.specs.Rules.{refused};
 ghost use Rattle.path_model.specs.Steps.{class_of_part};
-ghost use Rattle.path_model.specs.Effects.{value_out, part_in_same_object, part_out, view_out, class_out, type_out, dump_out};
+ghost use Rattle.path_model.specs.Effects.{value_out, part_out, view_out, class_out, type_out, dump_out};
 ghost use Rattle.path_heap.specs.Points.{Points, PointsView, StandsForPart};
 ghost use Rattle.path_heap.specs.Stands.{HeapStands, Means};
 ghost use Rattle.path_tables.specs.Worlds.{IsWorld};
@@ -52,7 +53,7 @@ fn part_told(
     n: Option<u32>,
 ) -> Result<Option<Out>, NoMemory>
     requires world { IsWorld world.now }
-    ensures { IfOk result (λ out. (s : Objects) (p : ObjectPart) (x : Option Subobject) → HeapStands world.now.h.now heap.now s → PointsView world.now.h.now s.classes p n x → out ≡ part_out s (part_in_same_object p x)) }
+    ensures { IfOk result (λ out. (s : Objects) (p : ObjectPart) (x : Option Subobject) → HeapStands world.now.h.now heap.now s → PointsView world.now.h.now s.classes p n x → out ≡ part_out s (option_map (part p.object p.owner) x)) }
 {
     match n {
         None => Ok(None),

@@ -1,8 +1,9 @@
 -- What the cell of a number tells of its part.
 use Rattle.std.proofs.Common.{◌≡◌, ℕ, Some, List, [], ◌∷◌, refl, ap, subst, sym, ◌∙◌}
-use Rattle.std.specs.Prelude.{slice_get, nat_eq}
+use Rattle.std.specs.Prelude.{slice_get, nat_eq, option_and_then}
 use Rattle.std.proofs.lemmas.Bool.{eqb-true, eq-eqb}
 use Rattle.foundation.proofs.Truth.{is_false}
+use Rattle.cxx_hierarchy.specs.declared.records.Member.{Member}
 use Rattle.cxx_hierarchy.specs.declared.records.ClassId.{ClassId}
 use Rattle.cxx_hierarchy.specs.Classes.{Classes}
 use Rattle.cxx_subobject.specs.Subobjects.{class_of}
@@ -17,7 +18,7 @@ use Rattle.path_numbers.proofs.Naming.{kid_good}
 use Rattle.path_numbers.proofs.Heap.{root_good, at_good, at_object, heap_part}
 use Rattle.path_numbers.proofs.Wholes.{one_whole}
 use Rattle.path_model.specs.Values.{Objects}
-use Rattle.path_model.specs.Places.{class_within, member_class, object_in, owner_class}
+use Rattle.path_model.specs.Places.{class_within, object_in, owner_class}
 use Rattle.path_model.specs.Uses.{class_of_owner}
 use Rattle.path_model.specs.Rules.{is_in_heap_object}
 use Rattle.path_heap.specs.declared.state.Cell.{Cell}
@@ -72,7 +73,7 @@ kid_class : (h : Classes) (classes : List ClassId) (x r : Node) → IsGood x →
 kid_class h classes x r good (base_kid i b at way same) full = absurd (let g : AsBase ≡ InFull = ap (λ (t : Node). t.form) (sym same) ∙ full in cc)
 kid_class h classes x r good (shared_kid j v is at same) full = absurd (let g : AsBase ≡ InFull = ap (λ (t : Node). t.form) (sym same) ∙ full in cc)
 kid_class h classes x r good (element_kid m i d member at ty lt same) full =
-    subst (λ (t : Node). IsOwnerClass h classes t) (sym same) (ap (λ c. class_within h c m) good.class ∙ (ap member_class at ∙ ap object_in ty))
+    subst (λ (t : Node). IsOwnerClass h classes t) (sym same) (ap (λ c. class_within h c m) good.class ∙ (ap (option_and_then (λ (member : Member ClassId). object_in member.ty)) at ∙ ap object_in ty))
 
 class_under : (h : Classes) (classes : List ClassId) (y x : Node) → IsGood x → (x.form ≡ InFull → IsOwnerClass h classes x) → Under h (sizes_of h) y x → y.form ≡ InFull → IsOwnerClass h classes y
 class_under h classes y _ good told (here x e) full = subst (λ (t : Node). IsOwnerClass h classes t) e (told (ap (λ (t : Node). t.form) e ∙ full))

@@ -1,6 +1,7 @@
 -- What a statement does to the machine: what it sees, another heap, and what the model's step then is.
 use Rattle.std.proofs.Common.{◌≡◌, ◌<◌, ℕ, true, false, length, Option, Some, None, List, [], ◌∷◌, refl, ap, subst, sym, ◌∙◌}
 use Rattle.std.specs.Prelude.{ℤ, if◌then◌else◌}
+use Rattle.std.specs.Option.{option_map_or}
 use Rattle.std.specs.List.{AllZip}
 use Rattle.cxx_hierarchy.specs.declared.records.ClassId.{ClassId}
 use Rattle.cxx_hierarchy.specs.declared.records.ValueType.{ValueType}
@@ -27,7 +28,7 @@ use Rattle.path_model.specs.declared.outs.Out.{Out}
 use Rattle.path_model.specs.Places.{leaf_at}
 use Rattle.path_model.specs.States.{Target, RunningBody, Frame, ProgramState, sight, assigned, with_frames, with_objects, target_conversion}
 use Rattle.path_model.specs.Effects.{Next, Goes, Refuses, Ends, Wrong, is_number_zero, going_on_at, branched, telling, local_declared, leaf_set, copied, written, copied_at, left_by, returned, result_given, right_side_value, taken}
-use Rattle.path_model.specs.Runs.{heap_total, move_by, limit_of, right_demand, converted_demand}
+use Rattle.path_model.specs.Runs.{heap_total, move_by, limit_of, right_demand, asks_nothing}
 use Rattle.path_heap.specs.declared.heap.Heap.{Heap}
 use Rattle.path_heap.specs.Stands.{HeapStands, Means}
 use Rattle.path_values.specs.Scenes.{SceneStands}
@@ -162,7 +163,7 @@ unlimited h sizes program Wrong new before after code a = a
 
 -- a declaration without a right side asks for nothing
 pub unset_agrees : (h : Classes) (sizes : ClassId → ℕ) (program : TypedProgram) (new : Machine) (see : Sight) (on at : ProgramState) (n : ℕ) (x : Option Converted) (outs : Telling) → x ≡ None → MachineStands h sizes program new on →
-    MoveAgrees h sizes program (move_by (local_declared h program see on n x) (limit_of sizes at (converted_demand x))) new outs outs GoesCode
+    MoveAgrees h sizes program (move_by (local_declared h program see on n x) (limit_of sizes at (option_map_or (λ y. right_demand y.right) x asks_nothing))) new outs outs GoesCode
 unset_agrees h sizes program new see on at n None outs is stands = (refl, stands, nothing_more outs)
 unset_agrees h sizes program new see on at n (Some y) outs is stands = absurd (cc)
 

@@ -1,5 +1,6 @@
 -- What settled objects give: a member that is ready is its own view, and proper bases of what is ready are complete.
 use Rattle.std.proofs.Common.{◌≡◌, true, false, not, Some, [], ◌∷◌, refl, ap, subst, sym, ◌∙◌, Option, None}
+use Rattle.cxx_hierarchy.specs.declared.records.Member.{Member}
 use Rattle.cxx_hierarchy.specs.declared.records.ClassId.{ClassId}
 use Rattle.cxx_hierarchy.specs.Classes.{Classes}
 use Rattle.cxx_hierarchy.specs.Hierarchies.{IsHierarchy}
@@ -18,10 +19,10 @@ use Rattle.path_plan.proofs.Resting.{in_through}
 use Rattle.path_plan.proofs.Bases.{shared_in}
 use Rattle.path_plan.proofs.Valid.{path_in}
 use Rattle.path_plan.proofs.Proper.{proper_below, below_complete}
-use Rattle.std.specs.Prelude.{not}
+use Rattle.std.specs.Prelude.{not, option_and_then}
 use Rattle.cxx_program.specs.declared.statement.PassedMember.{PassedMember}
 use Rattle.path_model.specs.Values.{Objects, inner_part}
-use Rattle.path_model.specs.Places.{passed_part, object_in, member_class, class_within}
+use Rattle.path_model.specs.Places.{passed_part, object_in, class_within}
 use Rattle.path_model.specs.Uses.{is_shared, view_in, view_of, class_of_owner}
 use Rattle.path_model.specs.Rules.{is_unready, is_outside, is_outside_of}
 use Rattle.path_model.specs.Typed.{IsPassed}
@@ -49,7 +50,7 @@ whole_seen h keeps s e d a ready =
 pub passed_whole : (h : Classes) (s : Objects) (p : ObjectPart) (c : ClassId) (x : PassedMember) → class_of p.at ≡ Some c → Settled h p.object s.phases → IsPassed h c x → IsWhole h s (passed_part p x) x.class
 passed_whole h s p c x class settled a = record {
   at = refl;
-  owner = ap (λ b. class_within h b x.member) (join_class h c p.at x.base class a.valid ∙ a.of_class) ∙ (ap member_class a.element.there ∙ ap object_in a.element.type_is);
+  owner = ap (λ b. class_within h b x.member) (join_class h c p.at x.base class a.valid ∙ a.of_class) ∙ (ap (option_and_then (λ (member : Member ClassId). object_in member.ty)) a.element.there ∙ ap object_in a.element.type_is);
   settled = settled;
 }
 

@@ -1,6 +1,6 @@
 -- A statement keeps what is kept: it makes an object, ends one that is complete, calls a body, leaves one, or moves no plan.
 use Rattle.std.proofs.Common.{◌≡◌, ℕ, ◌+◌, inl, inr, ⊎_elim, Bool, true, false, not, Option, Some, None, List, [], ◌∷◌, map, length, refl, ap, subst, sym, ◌∙◌}
-use Rattle.std.specs.Prelude.{slice_get, find, if◌then◌else◌}
+use Rattle.std.specs.Prelude.{slice_get, find, if◌then◌else◌, option_map}
 use Rattle.cxx_hierarchy.specs.declared.records.ClassId.{ClassId}
 use Rattle.cxx_hierarchy.specs.Classes.{Classes}
 use Rattle.cxx_subobject.specs.Locations.{ObjectPart}
@@ -36,7 +36,7 @@ use Rattle.path_model.specs.Values.{Value, Unset, Number, Null, Pointer, Leaf, O
 use Rattle.path_model.specs.Uses.{StatementUse, Deletes, Wanted, receiver_value, uses_of_view}
 use Rattle.path_model.specs.Rules.{rules, breaks, is_broken, names, refused, statement_refusal, uses_of, is_incomplete, is_whole_complete}
 use Rattle.path_model.specs.States.{Target, RunningBody, Frame, InBody, ProgramState, owned_body, plan_bodies, is_body, entered_body}
-use Rattle.path_model.specs.Effects.{runs, body_entered, function_entered, called_at, called, taker, new_made, taken, local_declared, written, copied_at, object_ended, deleted, branched, result_given, left_by, returned_value, telling, kind_effect, block_at, result_conversion}
+use Rattle.path_model.specs.Effects.{runs, body_entered, function_entered, called_at, called, taker, new_made, taken, local_declared, written, copied_at, object_ended, deleted, branched, result_given, left_by, telling, kind_effect, block_at, result_conversion}
 use Rattle.path_model.specs.Outs.{class_or_first}
 use Rattle.path_model.proofs.KeptClosed.{made_closed}
 use Rattle.path_model.proofs.KeptPaces.{IsBehindBuilt, IsBehindEnded, construction_paced, construction_starts, destruction_paced, destruction_starts}
@@ -210,7 +210,7 @@ kind_kept h program see w globals f g below n next (Call call) a none = called_k
 kind_kept h program see w globals f g below n next (Delete y c) a none = deleted_kept h program see.objects globals f below (value_of_operand see y) a (λ p is. deleted_complete h see w y c p none is)
 kind_kept h program see w globals f g below n next (If y other behind) a none = branched_kept h program see.objects globals f below (value_of_operand see y) (block_at (n + 1) other next) (block_at other behind next) a
 kind_kept h program see w globals f g below n next (While y behind) a none = branched_kept h program see.objects globals f below (value_of_operand see y) (block_at (n + 1) behind n) next a
-kind_kept h program see w globals f g below n next (Return y) a none = left_kept h program _ g.owner (result_kept h program (record { objects = see.objects; globals = globals; frames = below }) g.found g.target (returned_value see y) (kept_left h program see.objects f below a))
+kind_kept h program see w globals f g below n next (Return y) a none = left_kept h program _ g.owner (result_kept h program (record { objects = see.objects; globals = globals; frames = below }) g.found g.target (option_map (argument_value see) y) (kept_left h program see.objects f below a))
 kind_kept h program see w globals f g below n next (Print y) a none = telling_kept h program (in_body_at see.objects globals f below) _ a
 kind_kept h program see w globals f g below n next (PrintType y c) a none = telling_kept h program (in_body_at see.objects globals f below) _ a
 kind_kept h program see w globals f g below n next (PrintView y c) a none = telling_kept h program (in_body_at see.objects globals f below) _ a

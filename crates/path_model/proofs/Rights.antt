@@ -13,7 +13,7 @@ use Rattle.path_plan.proofs.Uses.{complete_ready}
 use Rattle.cxx_search.specs.Searches.{is_within, cast_in}
 use Rattle.path_model.specs.Rules.{is_clear}
 use Rattle.std.specs.Option.{option_or}
-use Rattle.std.specs.Prelude.{if◌then◌else◌, min, not}
+use Rattle.std.specs.Prelude.{if◌then◌else◌, min, not, is_none}
 use Rattle.cxx_program.specs.declared.operand.Conversion.{Conversion}
 use Rattle.cxx_program.specs.declared.operand.Conversion.TheVariants.{Base as ToBase}
 use Rattle.cxx_program.specs.declared.statement.PassedMember.{PassedMember}
@@ -24,7 +24,7 @@ use Rattle.path_rules.specs.declared.Undefined.TheVariants.{Dangling, Unset as U
 use Rattle.path_model.specs.Values.{Value, Unset, Number, Null, Pointer, Objects, to_base}
 use Rattle.path_model.specs.Places.{passed_part, end_part, last_passed, address_value}
 use Rattle.path_model.specs.Uses.{StatementUse, Reads, Follows, Guards, Passes, Views, Downs, is_shared, uses_of_view, convert, derived_of, value_or, view_cast, down_value, dynamic_value, cast_value, cast_uses, leaf_uses, view_of}
-use Rattle.path_model.specs.Rules.{names, is_unready, is_outside, is_outside_of, is_nowhere, refused, is_nothing}
+use Rattle.path_model.specs.Rules.{names, is_unready, is_outside, is_outside_of, refused}
 use Rattle.path_model.specs.Typed.{AllSettled, IsOf, IsPath, IsCastFrom}
 use Rattle.path_model.specs.Order.{Asked, first_broken, sorted, asked_members, first_name_base, asked_place, leaf_order}
 use Rattle.path_model.proofs.Ranks.{first_place, rank, rank_append, rank_full}
@@ -51,9 +51,9 @@ pub by_clear : (h : Classes) (s : Objects) (a : List StatementUse) (x : List Ask
 by_clear h s a x v c p = cases (outcome h s a)
   where
     cases : Outcome h s a → Answers h s (a ++ leaf_uses (is_clear h s a) v c) (x ++ leaf_order v c)
-    cases (none e full) = subst (λ b. Answers h s (a ++ leaf_uses b v c) (x ++ leaf_order v c)) (sym (ap is_nothing e))
+    cases (none e full) = subst (λ b. Answers h s (a ++ leaf_uses b v c) (x ++ leaf_order v c)) (sym (ap is_none e))
         (by_then h s a (Reads v ∷ convert v c) x (leaf_order v c) p (leaf_answers h s v c) (λ less. absurd (omega (arith, full, less))))
-    cases (broken r e less) = subst (λ b. Answers h s (a ++ leaf_uses b v c) (x ++ leaf_order v c)) (sym (ap is_nothing e))
+    cases (broken r e less) = subst (λ b. Answers h s (a ++ leaf_uses b v c) (x ++ leaf_order v c)) (sym (ap is_none e))
         (record { same = ap (λ us. refused h s us) (append-nil a) ∙ (e ∙ (ap (λ o. option_or o (first_broken h s (leaf_order v c))) (sym e ∙ p.same) ∙ sym (broken_append h s x (leaf_order v c)))) })
 
 pub read_answers : (h : Classes) → IsHierarchy h → (s : Objects) → AllSettled h s → (v lv : Value) (d : ClassId) (place : TypedPlace) (c : Conversion) → IsOf s v d → IsPath h d place.passed place.base
@@ -91,11 +91,11 @@ cast_off h s (Dynamic target) (Pointer p) e = absurd (cc)
 guards_two : (h : Classes) (s : Objects) (v : Value) → rank h s (Guards v ∷ []) < 12 → rank h s (Guards v ∷ []) ≤ 2
 guards_two h s v less = split (names (is_unready s) v) (λ b. rank h s (Guards v ∷ []) ≤ 2) (λ e. let r = guard_rank h s v true e in omega (arith, r)) (λ e. let r = guard_rank h s v false e in omega (arith, r, less))
 
-down_rank : (h : Classes) (s : Objects) (p : ObjectPart) (target : ClassId) (i : Subobject) → is_nowhere (derived_of h s target i p) ≡ false → rank h s (Downs (Pointer p) target i ∷ []) ≡ 12
+down_rank : (h : Classes) (s : Objects) (p : ObjectPart) (target : ClassId) (i : Subobject) → is_none (derived_of h s target i p) ≡ false → rank h s (Downs (Pointer p) target i ∷ []) ≡ 12
 unfolding rank first_place
 down_rank h s p target i e = rw e refl
 
-none_value : (p : ObjectPart) (o : Option Subobject) → is_nowhere o ≡ true → value_or p Unset o ≡ Unset
+none_value : (p : ObjectPart) (o : Option Subobject) → is_none o ≡ true → value_or p Unset o ≡ Unset
 none_value p None e = refl
 none_value p (Some t) e = absurd (cc)
 
@@ -112,7 +112,7 @@ cast_then h s all (Down target i) p d c a typed =
     (λ less.
     let r = rank_append h s (Guards (Pointer p) ∷ []) (Downs (Pointer p) target i ∷ []) in
     let l = convert_late h s v' c in
-    split (is_nowhere (derived_of h s target i p)) (λ b. rank h s (Guards (Pointer p) ∷ Downs (Pointer p) target i ∷ []) ≤ rank h s (convert v' c))
+    split (is_none (derived_of h s target i p)) (λ b. rank h s (Guards (Pointer p) ∷ Downs (Pointer p) target i ∷ []) ≤ rank h s (convert v' c))
     (λ f. let o = unset_off h s v' c (none_value p (derived_of h s target i p) f) in let k = rank_full h s (Guards (Pointer p) ∷ Downs (Pointer p) target i ∷ []) in omega (arith, o, k))
     (λ f. let k = down_rank h s p target i f in let g : rank h s (Guards (Pointer p) ∷ []) ≤ 2 = guards_two h s (Pointer p) (omega (arith, r, k, less)) in omega (arith, r, k, g, l)))
 cast_then h s all (Dynamic target) p d c a typed =

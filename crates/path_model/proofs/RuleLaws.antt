@@ -1,6 +1,7 @@
 -- What the rules mean, by the relations of subobjects, overriders and numbers in place of searches.
 use Rattle.std.proofs.Common.{arith, ◌≡◌, ℕ, ◌-◌, ◌<◌, Bool, true, false, not, ◌||◌, ◌&&◌, Option, Some, None, List, [], ◌∷◌, refl, ap, subst, sym, ◌∙◌, pos, ◌+ℤ◌, ◌-ℤ◌, ◌*ℤ◌, ◌≤ℤ◌, ◌<ℤ◌}
-use Rattle.std.specs.Prelude.{ℤ, negsuc, int_lt, ◌↔◌, slice_get}
+use Rattle.std.specs.Prelude.{ℤ, negsuc, int_lt, ◌↔◌, slice_get, option_and_then, is_none}
+use Rattle.std.specs.Option.{option_map_or}
 use Rattle.std.specs.List.{find}
 use Rattle.std.specs.Int.{int_rem_euclid}
 use Rattle.std.proofs.lemmas.Int.{ints}
@@ -32,7 +33,7 @@ use Rattle.path_plan.specs.Places.{part}
 use Rattle.path_plan.specs.Phases.{Phase, Raw, InBases, ReadyBuilding, Complete, ReadyEnding, EndingBases, Ended, is_complete}
 use Rattle.path_model.specs.Values.{Objects}
 use Rattle.path_model.specs.Uses.{class_of_owner, view_of, derived_of}
-use Rattle.path_model.specs.Rules.{is_outside, is_outside_of, is_pure_by, is_pure_in_view, is_nowhere, is_in_heap_object, is_whole_of, is_no_whole, is_whole_complete, is_incomplete, differ, is_over}
+use Rattle.path_model.specs.Rules.{is_outside, is_outside_of, is_pure_in_view, is_in_heap_object, is_no_whole, is_whole_complete, is_incomplete, differ, is_over}
 use Rattle.path_model.specs.Effects.{overrider_by}
 use Rattle.path_model.proofs.TypedRanges.{count_positive, euclid_range}
 
@@ -58,20 +59,20 @@ pure_law h keeps c s p x f seen there = (
 )
   where
     by_view : is_pure_in_view h s f p ≡ is_pure_overrider h (final_in h x p.at f)
-    by_view = ap (λ w. is_pure_by h w p.at f) seen
+    by_view = ap (λ w. is_pure_overrider h (overrider_by h w p.at f)) seen
 
-pub pure_by : (h : Classes) (o : Option Subobject) (y : Subobject) (f : FunctionId) → is_pure_by h o y f ≡ is_pure_overrider h (overrider_by h o y f)
+pub pure_by : (h : Classes) (o : Option Subobject) (y : Subobject) (f : FunctionId) → is_pure_overrider h (option_and_then (λ x. final_in h x y f) o) ≡ is_pure_overrider h (overrider_by h o y f)
 pure_by h None y f = refl
 pure_by h (Some x) y f = refl
 
 -- downcasts
 
-somewhere : (o : Option Subobject) → is_nowhere o ≡ false → (t : Subobject) × (o ≡ Some t)
+somewhere : (o : Option Subobject) → is_none o ≡ false → (t : Subobject) × (o ≡ Some t)
 somewhere None e = cc
 somewhere (Some t) e = (t, refl)
 
 pub down_law : (h : Classes) → IsHierarchy h → (s : Objects) (p : ObjectPart) (d target : ClassId) (i : Subobject) → class_of_owner h s p ≡ Some d
-    → (is_nowhere (derived_of h s target i p) ≡ false) ↔ ((t : Subobject) × IsSubobject h d t × (class_of t ≡ Some target) × (join t i ≡ p.at))
+    → (is_none (derived_of h s target i p) ≡ false) ↔ ((t : Subobject) × IsSubobject h d t × (class_of t ≡ Some target) × (join t i ≡ p.at))
 down_law h keeps s p d target i owner = (one, other)
   where
     test : Subobject → Bool
@@ -80,18 +81,18 @@ down_law h keeps s p d target i owner = (one, other)
     by_class : derived_of h s target i p ≡ find test (preorder h d)
     by_class = ap (λ k. find test (preorder_of h k)) owner
 
-    one : is_nowhere (derived_of h s target i p) ≡ false → (t : Subobject) × IsSubobject h d t × (class_of t ≡ Some target) × (join t i ≡ p.at)
+    one : is_none (derived_of h s target i p) ≡ false → (t : Subobject) × IsSubobject h d t × (class_of t ≡ Some target) × (join t i ≡ p.at)
     one e =
         let found = somewhere (derived_of h s target i p) e in
         let passed = find_passes test (preorder h d) found.0 (sym by_class ∙ found.1) in
         let both = and_parts (is_of_class target found.0) (same_subobject (join found.0 i) p.at) passed.1 in
         (found.0, has_preorder h d found.0 passed.0, of_class target (class_of found.0) both.0, subobject_same (join found.0 i) p.at both.1)
 
-    other : (t : Subobject) × IsSubobject h d t × (class_of t ≡ Some target) × (join t i ≡ p.at) → is_nowhere (derived_of h s target i p) ≡ false
+    other : (t : Subobject) × IsSubobject h d t × (class_of t ≡ Some target) × (join t i ≡ p.at) → is_none (derived_of h s target i p) ≡ false
     other r =
         let same : same_subobject (join r.0 i) p.at ≡ true = ap (λ z. same_subobject z p.at) r.3 ∙ same_itself p.at in
         let found = finds_some test (preorder h d) r.0 (preorder_has h d keeps r.0 r.1) (and_from (is_of_class target r.0) (same_subobject (join r.0 i) p.at) (is_the_class target (class_of r.0) r.2) same) in
-        ap is_nowhere (by_class ∙ found.1)
+        ap is_none (by_class ∙ found.1)
 
 -- `delete` and `dump`
 
@@ -99,7 +100,7 @@ pub whole_law : (h : Classes) (s : Objects) (p : ObjectPart) (d : ClassId) → c
 whole_law h s p d owner = (λ e. subobject_same p.at (whole_of d) (untrue (same_subobject p.at (whole_of d)) (sym by_class ∙ e)), λ e. by_class ∙ ap not (ap (λ z. same_subobject z (whole_of d)) e ∙ same_itself (whole_of d)))
   where
     by_class : is_no_whole h s p ≡ not (same_subobject p.at (whole_of d))
-    by_class = ap (λ k. not (is_whole_of k p.at)) owner
+    by_class = ap (λ k. not (option_map_or (λ d. same_subobject p.at (whole_of d)) k false)) owner
 
 pub heap_law : (owner : List Step) → (not (is_in_heap_object owner) ≡ false) ↔ (owner ≡ [])
 heap_law [] = (λ e. refl, λ e. refl)

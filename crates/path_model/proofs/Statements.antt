@@ -6,6 +6,7 @@ use Rattle.cxx_hierarchy.specs.Classes.{Classes}
 use Rattle.cxx_hierarchy.specs.Hierarchies.{IsHierarchy}
 use Rattle.foundation.proofs.Truth.{split}
 use Rattle.std.specs.Prelude.{min}
+use Rattle.std.specs.Option.{option_map_or}
 use Rattle.cxx_program.specs.declared.operand.Argument.{Argument}
 use Rattle.cxx_program.specs.declared.operand.Conversion.{Conversion}
 use Rattle.cxx_program.specs.declared.statement.TypedPlace.{TypedPlace}
@@ -18,7 +19,7 @@ use Rattle.cxx_program.specs.declared.statement.TypedKind.TheVariants.{Declare, 
 use Rattle.cxx_search.specs.Searches.{has_virtual_base}
 use Rattle.path_model.specs.Values.{Value, Unset, Number, Null, Pointer, Objects, Sight, value_of_operand, converted_to}
 use Rattle.path_model.specs.Places.{leaf_value}
-use Rattle.path_model.specs.Uses.{StatementUse, Reads, Views, is_shared, uses_of_view, convert, arrow, argument_uses, place_uses, covered, goes_to, is_shared_way, call_uses, right_uses, declared_uses, return_uses, kind_uses, Wanted}
+use Rattle.path_model.specs.Uses.{StatementUse, Reads, Views, is_shared, uses_of_view, convert, arrow, argument_uses, place_uses, covered, goes_to, is_shared_way, call_uses, right_uses, return_uses, kind_uses, Wanted}
 use Rattle.path_model.specs.Rules.{names, is_unready, is_outside, refused, is_clear, uses_of, statement_refusal}
 use Rattle.path_model.specs.Typed.{AllSettled, IsOf, ConvertsClass, IsPlaceAt, IsQualifyingBase, IsCallAt, IsRight, IsDeclarationAt, IsReturn, IsStatementAt}
 use Rattle.path_model.specs.Order.{sorted, asked_place, asked_covered, asked_views, call_rest, asked_call, right_order, declared_order, return_order, order, staged}
@@ -84,7 +85,7 @@ right_answers h keeps s all (New d) c typed = empty h s.objects
 right_answers h keeps s all (Cast cast x) c typed = cast_answers h s.objects all cast (value_of_operand s x) typed.0 c typed.1 typed.2
 right_answers h keeps s all (TypeEqual x d) c typed = by_sort h s.objects (right_uses h (λ us. true) s (TypeEqual x d) c)
 
-declared_answers : (h : Classes) → IsHierarchy h → (s : Sight) → AllSettled h s.objects → (x : Option Converted) → IsDeclarationAt h s x → Answers h s.objects (declared_uses h (is_clear h s.objects) s x) (declared_order h s x)
+declared_answers : (h : Classes) → IsHierarchy h → (s : Sight) → AllSettled h s.objects → (x : Option Converted) → IsDeclarationAt h s x → Answers h s.objects (option_map_or (λ y. right_uses h (is_clear h s.objects) s y.right y.conversion) x []) (declared_order h s x)
 declared_answers h keeps s all None typed = empty h s.objects
 declared_answers h keeps s all (Some x) typed = right_answers h keeps s all x.right x.conversion typed
 

@@ -1,6 +1,6 @@
 -- A call leads from a typed state to a typed one, and is not wrong: the function that runs has a body.
 use Rattle.std.proofs.Common.{◌≡◌, Bool, true, false, inl, inr, Option, Some, None, List, ◌∷◌, map, refl, ap, subst, sym, ◌∙◌}
-use Rattle.std.specs.Prelude.{◌||◌, if◌then◌else◌}
+use Rattle.std.specs.Prelude.{◌||◌, if◌then◌else◌, option_map}
 use Rattle.std.specs.List.{flat_map}
 use Rattle.foundation.proofs.Truth.{split, or_left}
 use Rattle.foundation.proofs.Members.{Has, has_left, has_right}
@@ -35,9 +35,9 @@ use Rattle.path_plan.specs.Places.{part}
 use Rattle.path_model.specs.Values.{Value, Pointer, Objects, Sight, value_of_operand, argument_value, inner_part, to_base as moved}
 use Rattle.path_model.specs.States.{Target, Frame, InBody, ProgramState, with_frames, entered_body}
 use Rattle.path_model.specs.Uses.{Views, Takes, uses_of_view, takes, argument_uses, is_shared, is_shared_way, goes_to, receiver_value, call_uses}
-use Rattle.path_model.specs.Rules.{refused, names, is_pure_by, is_outside}
+use Rattle.path_model.specs.Rules.{refused, names, is_outside}
 use Rattle.path_model.specs.Rules.{is_pure_in_view as is_pure_part}
-use Rattle.path_model.specs.Effects.{result_conversion, at_part, runs_at, overrider_by, overrider_in_view, runs, body_entered, function_entered, called_at, called}
+use Rattle.path_model.specs.Effects.{result_conversion, at_part, overrider_by, overrider_in_view, runs, body_entered, function_entered, called_at, called}
 use Rattle.path_model.specs.TypedStates.{IsPartMade, AreValues, FitsTarget, FitsResult, IsOpened}
 use Rattle.path_model.proofs.Facts.{inner_seen}
 use Rattle.path_model.proofs.TypedValues.{IsTypedSight, inner_made, operand_typed, arguments_typed}
@@ -151,11 +151,11 @@ module _ (h : Classes) (keeps : IsHierarchy h) (fine : HasNoFault h) (s : Object
       let df_virtual = test_virtual h f virtual_is in
       let found = some_found h keeps made.inside.0 x there p.at f fine inside made.of_class df_virtual in
       let o = found.0 in
-      let not_pure : is_pure h o.function ≡ false = sym (ap (λ y. is_pure_by h y p.at f) v.is ∙ ap (is_pure_overrider h) found.1) ∙ pure in
+      let not_pure : is_pure h o.function ≡ false = sym (ap (λ y. is_pure_overrider h (overrider_by h y p.at f)) v.is ∙ ap (is_pure_overrider h) found.1) ∙ pure in
       let r = final_runs h keeps fine made.inside.0 x p.at f d there made.of_class df df_virtual o found.1 not_pure in
       record {
         overrider = o;
-        is = ap (λ y. runs_at p (overrider_by h y p.at f)) v.is ∙ ap (runs_at p) found.1;
+        is = ap (λ y. option_map (at_part p) (overrider_by h y p.at f)) v.is ∙ ap (option_map (at_part p)) found.1;
         runs = r.runs;
         made_at = record { class = made.class; made = made.made; inside = (made.inside.0, made.inside.1, r.valid); of_class = r.class };
       }

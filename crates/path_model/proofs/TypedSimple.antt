@@ -1,6 +1,8 @@
 -- Statements that open nothing lead from a typed state to a typed one, and are not wrong.
 use Rattle.std.proofs.Common.{◌≡◌, ℕ, ◌≤◌, Option, Some, None, List, ◌∷◌, length, refl, ap, subst, sym, ◌∙◌}
-use Rattle.std.specs.Prelude.{slice_get, nat_eq, if◌then◌else◌}
+use Rattle.std.specs.Prelude.{slice_get, nat_eq, if◌then◌else◌, option_map, option_and_then}
+use Rattle.cxx_subobject.specs.Subobjects.{class_of}
+use Rattle.path_plan.specs.Places.{part}
 use Rattle.foundation.proofs.Truth.{split}
 use Rattle.cxx_hierarchy.specs.declared.records.ClassId.{ClassId}
 use Rattle.cxx_hierarchy.specs.declared.records.Scalar.{Scalar}
@@ -23,7 +25,7 @@ use Rattle.path_model.specs.declared.outs.Out.{Out}
 use Rattle.path_model.specs.Values.{Value, Unset, Number, Null, Pointer, Objects, converted_to}
 use Rattle.path_model.specs.Places.{leaf_at}
 use Rattle.path_model.specs.States.{Target, RunningBody, Frame, InBody, ProgramState, owned_body, with_objects, with_frames, at_statement}
-use Rattle.path_model.specs.Effects.{leaf_set, written, object_ended, deleted, going_on_at, branched, block_at, is_number_zero, result_given, left_by, returned, value_out, part_out, view_part, part_in_same_object, view_out, class_of_view, typeid_class, class_out, type_out, object_out, dump_out, telling}
+use Rattle.path_model.specs.Effects.{leaf_set, written, object_ended, deleted, going_on_at, branched, block_at, is_number_zero, result_given, left_by, returned, value_out, part_out, view_part, view_out, typeid_class, class_out, type_out, object_out, dump_out, telling}
 use Rattle.path_model.specs.TypedStates.{IsPartMade, IsValue, IsInBitField, width_of_leaf, FitsResult, FitsMadeObject, IsCalledFrom, IsOpened}
 use Rattle.path_model.proofs.TypedValues.{converted_value}
 use Rattle.path_model.proofs.TypedPlaces.{leaf_made, width_at, one_type}
@@ -146,7 +148,7 @@ value_told x Null set e = cc
 value_told x (Pointer p) set e = cc
 
 pub part_told : (h : Classes) (x : Objects) (p : ObjectPart) → HasView h x p → part_out x (view_part h x p) ≡ None → ⊥
-part_told h x p a e = let f : part_out x (part_in_same_object p (Some a.view)) ≡ None = ap (λ o. part_out x (part_in_same_object p o)) (sym a.is) ∙ e in cc
+part_told h x p a e = let f : part_out x (option_map (part p.object p.owner) (Some a.view)) ≡ None = ap (λ o. part_out x (option_map (part p.object p.owner) o)) (sym a.is) ∙ e in cc
 
 pub view_told : (h : Classes) (x : Objects) (v : Value) (c : ClassId) → IsValue h x.classes v (PointerType c) → (v ≡ Unset → ⊥) → ((p : ObjectPart) → v ≡ Pointer p → HasView h x p) → view_out h x v ≡ None → ⊥
 view_told h x Unset c a set view e = set refl
@@ -157,7 +159,7 @@ view_told h x (Pointer p) c a set view e = part_told h x p (view p refl) e
 class_told : (h : Classes) (x : Objects) (runs : AreRunningParts h x) (p : ObjectPart) (c : ClassId) → IsPartMade h x.classes p c → HasView h x p → class_out (typeid_class h x p) ≡ None → ⊥
 class_told h x runs p c a v e =
     let there = class_there h a.inside.0 v.view (view_valid h x runs p c a v.view v.is) in
-    let f : class_out (Some there.0) ≡ None = ap class_out (sym (ap class_of_view v.is ∙ there.1)) ∙ e in cc
+    let f : class_out (Some there.0) ≡ None = ap class_out (sym (ap (option_and_then class_of) v.is ∙ there.1)) ∙ e in cc
 
 pub type_told : (h : Classes) (x : Objects) (runs : AreRunningParts h x) (v : Value) (c : ClassId) → (a : NamesPart h x v c) → HasView h x a.part → type_out h x v ≡ None → ⊥
 type_told h x runs v c a view e = class_told h x runs a.part c a.made view (sym (ap (type_out h x) a.is) ∙ e)

@@ -1,6 +1,6 @@
 -- Values fit their types: those that are read, converted, kept in lists, or looked at when more objects were made.
 use Rattle.std.proofs.Common.{◌≡◌, ℕ, zero, suc, Option, Some, None, List, [], ◌∷◌, ◌++◌, map, subst, sym, ◌∙◌}
-use Rattle.std.specs.Prelude.{slice_get, slice_set}
+use Rattle.std.specs.Prelude.{slice_get, slice_set, unwrap_or}
 use Rattle.std.specs.List.{AllZip}
 use Rattle.foundation.proofs.Places.{get_front}
 use Rattle.cxx_hierarchy.specs.declared.records.ClassId.{ClassId}
@@ -17,7 +17,7 @@ use Rattle.cxx_program.specs.declared.operand.TypedOperand.{TypedOperand}
 use Rattle.cxx_program.specs.declared.operand.Conversion.{Conversion}
 use Rattle.cxx_program.specs.declared.operand.Argument.{Argument}
 use Rattle.cxx_program.specs.Typed.{Types, Scope, variable_type, HasType, of_variable, of_this, of_number, Converts, to_number, to_same, to_base, IsArgument, a_value, a_null}
-use Rattle.path_model.specs.Values.{Value, Unset, Number, Null, Pointer, Leaf, Sight, or_unset, variable_value, value_of_operand, converted_to, argument_value, inner_part}
+use Rattle.path_model.specs.Values.{Value, Unset, Number, Null, Pointer, Leaf, Sight, variable_value, value_of_operand, converted_to, argument_value, inner_part}
 use Rattle.path_model.specs.TypedStates.{IsPartMade, IsValue, AreValues, IsLeafMade, IsThis}
 use Rattle.path_model.proofs.TypedRanges.{stored_in_range}
 
@@ -30,7 +30,7 @@ pub record IsTypedSight (h : Classes) (e : Scope) (s : Sight) : Type 0 where
 
 -- lists of values
 
-pub values_at : (h : Classes) (cs : List ClassId) (vs : List Value) (ts : Types) (n : ℕ) (t : ValueType ClassId) → AreValues h cs vs ts → slice_get ts n ≡ Some t → IsValue h cs (or_unset (slice_get vs n)) t
+pub values_at : (h : Classes) (cs : List ClassId) (vs : List Value) (ts : Types) (n : ℕ) (t : ValueType ClassId) → AreValues h cs vs ts → slice_get ts n ≡ Some t → IsValue h cs (unwrap_or (slice_get vs n) Unset) t
 values_at h cs vs [] n t a e = absurd (let f : None ≡ Some t = e in cc)
 values_at h cs [] (u ∷ us) n t a e = absurd a
 values_at h cs (v ∷ vs) (u ∷ us) zero t a e = let same : u ≡ t = cc in subst (λ (x : ValueType ClassId). IsValue h cs v x) same a.0

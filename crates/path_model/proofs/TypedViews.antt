@@ -1,9 +1,10 @@
 -- The view of a part that was made is a subobject of its complete object, and so is what a cast leads to.
 use Rattle.std.proofs.Common.{◌≡◌, ℕ, Bool, true, false, Option, Some, None, List, [], ◌∷◌, inl, refl, ap, subst, sym, ◌∙◌}
-use Rattle.std.specs.Prelude.{slice_get, find, ◌&&◌, if◌then◌else◌}
+use Rattle.std.specs.Prelude.{slice_get, find, ◌&&◌, if◌then◌else◌, option_and_then}
 use Rattle.foundation.proofs.Truth.{split}
 use Rattle.foundation.proofs.Members.{Has}
 use Rattle.foundation.proofs.Chosen.{find_passes}
+use Rattle.cxx_hierarchy.specs.declared.records.Member.{Member}
 use Rattle.cxx_hierarchy.specs.declared.records.ClassId.{ClassId}
 use Rattle.cxx_hierarchy.specs.Classes.{Classes}
 use Rattle.cxx_hierarchy.specs.Hierarchies.{IsHierarchy}
@@ -19,7 +20,7 @@ use Rattle.cxx_search.proofs.Casts.{cast_is, of_class}
 use Rattle.path_plan.specs.Places.{part}
 use Rattle.path_plan.specs.Phases.{top_subobject, is_complete}
 use Rattle.path_model.specs.Values.{Objects}
-use Rattle.path_model.specs.Places.{owner_class, class_within, member_class, object_in}
+use Rattle.path_model.specs.Places.{owner_class, class_within, object_in}
 use Rattle.path_model.specs.Uses.{class_of_owner, view_of, view_in, derived_of}
 use Rattle.path_model.specs.TypedStates.{IsPartMade}
 
@@ -30,7 +31,7 @@ AreRunningParts h s = (k : ℕ) (c : ClassId) (o : List Step) (x : Subobject) �
 pub owner_is : (h : Classes) (classes : List ClassId) (k : ℕ) (c d : ClassId) (o : List Step) → slice_get classes k ≡ Some c → IsOwner h c o d → owner_class h classes k o ≡ Some d
 owner_is h classes k c d [] made a = made ∙ ap (λ (x : ClassId). Some x) (sym a)
 owner_is h classes k c d (step ∷ rest) made (e, b, up, valid, class, el) =
-    ap (λ o. class_within h o step.member) class ∙ (ap member_class el.there ∙ ap object_in el.type_is)
+    ap (λ o. class_within h o step.member) class ∙ (ap (option_and_then (λ (member : Member ClassId). object_in member.ty)) el.there ∙ ap object_in el.type_is)
 
 -- the class of the complete object that a part belongs to
 pub owner_made : (h : Classes) (s : Objects) (p : ObjectPart) (c : ClassId) → (a : IsPartMade h s.classes p c) → class_of_owner h s p ≡ Some a.inside.0

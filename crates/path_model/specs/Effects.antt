@@ -1,5 +1,6 @@
 -- What a statement does, where no rule refuses it.
-use Rattle.std.specs.Prelude.{ℕ, ℤ, pos, ◌+ℤ◌, ◌-ℤ◌, ◌*ℤ◌, int_lt, ◌+◌, Bool, true, false, nat_eq, ◌&&◌, not, if◌then◌else◌, Option, Some, None, List, [], ◌∷◌, ◌++◌, find, map, length, slice_get, zip}
+use Rattle.std.specs.Prelude.{ℕ, ℤ, pos, ◌+ℤ◌, ◌-ℤ◌, ◌*ℤ◌, int_lt, ◌+◌, Bool, true, false, nat_eq, ◌&&◌, not, if◌then◌else◌, Option, Some, None, List, [], ◌∷◌, ◌++◌, find, map, length, slice_get, zip, option_map, option_and_then}
+use Rattle.std.specs.Option.{option_map_or}
 use Rattle.cxx_hierarchy.specs.declared.records.ClassId.{ClassId}
 use Rattle.cxx_hierarchy.specs.declared.records.Scalar.{Scalar}
 use Rattle.cxx_hierarchy.specs.declared.records.ValueType.TheVariants.{Pointer as PointerType}
@@ -18,7 +19,6 @@ use Rattle.cxx_program.specs.declared.operand.Variable.{Variable}
 use Rattle.cxx_program.specs.declared.operand.Variable.TheVariants.{Local}
 use Rattle.cxx_program.specs.declared.operand.Conversion.{Conversion}
 use Rattle.cxx_program.specs.declared.operand.Conversion.TheVariants.{Same as ToSame, Base as ToBase}
-use Rattle.cxx_program.specs.declared.operand.Argument.{Argument}
 use Rattle.cxx_program.specs.declared.statement.TypedPlace.{TypedPlace}
 use Rattle.cxx_program.specs.declared.statement.TypedCall.{TypedCall}
 use Rattle.cxx_program.specs.declared.statement.Arithmetic.{Arithmetic as Operator}
@@ -30,7 +30,7 @@ use Rattle.cxx_program.specs.declared.statement.TypedKind.{TypedKind}
 use Rattle.cxx_program.specs.declared.statement.TypedKind.TheVariants.{Declare, Assign, Write, Copy, Call, Delete, If, While, Return, Print, PrintType, PrintView, Dump}
 use Rattle.cxx_program.specs.declared.statement.TypedStatement.{TypedStatement}
 use Rattle.cxx_program.specs.declared.program.Owner.{Owner}
-use Rattle.cxx_program.specs.declared.program.Owner.TheVariants.{Main, Function, Constructor, Destructor}
+use Rattle.cxx_program.specs.declared.program.Owner.TheVariants.{Main, Function}
 use Rattle.cxx_program.specs.declared.program.TypedBody.{TypedBody}
 use Rattle.cxx_program.specs.declared.program.TypedProgram.{TypedProgram}
 use Rattle.path_rules.specs.declared.Undefined.{Undefined}
@@ -87,40 +87,25 @@ is_number_zero z = not (int_lt z (pos 0)) && not (int_lt (pos 0) z)
 
 -- `!x` (ISO C++03 5.3.1 p8)
 abbrev pub negated : Value → Value
-negated Unset = Unset
 negated (Number z) = truth_as_number (is_number_zero z)
-negated Null = Unset
-negated (Pointer p) = Unset
-
--- this subobject of the complete object that the part belongs to
-abbrev pub part_in_same_object : ObjectPart → Option Subobject → Option ObjectPart
-part_in_same_object p None = None
-part_in_same_object p (Some x) = Some (part p.object p.owner x)
+negated other = Unset
 
 -- the subobject that the view of a part's complete object is, as a part
 abbrev pub view_part : Classes → Objects → ObjectPart → Option ObjectPart
-view_part h s p = part_in_same_object p (view_of h s p)
-
--- the class of the view, if there is one
-abbrev pub class_of_view : Option Subobject → Option ClassId
-class_of_view None = None
-class_of_view (Some x) = class_of x
+view_part h s p = option_map (part p.object p.owner) (view_of h s p)
 
 -- the class that `typeid(*p)` names: that of the view (ISO C++03 5.2.8 p2, 12.7 p4)
 abbrev pub typeid_class : Classes → Objects → ObjectPart → Option ClassId
-typeid_class h s p = class_of_view (view_of h s p)
+typeid_class h s p = option_and_then class_of (view_of h s p)
 
 -- whether the two classes are one
 abbrev pub is_type : ClassId → Option ClassId → Value
-is_type d None = Unset
-is_type d (Some c) = truth_as_number (nat_eq d.0 c.0)
+is_type d class = option_map_or (λ c. truth_as_number (nat_eq d.0 c.0)) class Unset
 
 -- `typeid(*p) == typeid(D)` (ISO C++03 5.2.8)
 abbrev pub type_equal : Classes → Objects → ClassId → Value → Value
-type_equal h s d Unset = Unset
-type_equal h s d (Number z) = Unset
-type_equal h s d Null = Unset
 type_equal h s d (Pointer p) = is_type d (typeid_class h s p)
+type_equal h s d other = Unset
 
 -- the value of a right side that is no call and no `new`
 abbrev pub right_side_value : Classes → Sight → TypedRight → Value
@@ -130,10 +115,9 @@ right_side_value h s (SamePointer differ a b) = truth_as_number (if differ then 
 right_side_value h s (Not x) = negated (value_of_operand s x)
 right_side_value h s (Read place) = leaf_value s place (value_of_operand s place.pointer)
 right_side_value h s (Address place d) = address_value place d (value_of_operand s place.pointer)
-right_side_value h s (CallRight call) = Unset
-right_side_value h s (New c) = Unset
 right_side_value h s (Cast cast x) = cast_value h s.objects cast (value_of_operand s x)
 right_side_value h s (TypeEqual x d) = type_equal h s.objects d (value_of_operand s x)
+right_side_value h s other = Unset
 
 -- leaves
 
@@ -151,8 +135,7 @@ leaf_set s l v = record { classes = s.classes; is_closed = s.is_closed; phases =
 
 -- the old value of the leaf that is copied to l, or the one of l where none is
 abbrev pub value_behind : (Leaf → Value) → Leaf → Option (Leaf × Leaf) → Value
-value_behind values l None = values l
-value_behind values l (Some pair) = values pair.1
+value_behind values l found = option_map_or (λ pair. values pair.1) found (values l)
 
 -- each leaf of the part takes the old value of the same leaf of the other one, both of class c (ISO C++03 12.8 p13)
 abbrev pub copied : Classes → ClassId → ObjectPart → ObjectPart → Objects → Objects
@@ -186,8 +169,7 @@ ending h program k c = InPlan (record { object = k; is_building = false; events 
 
 -- to a base, or to the same class where there is none
 abbrev pub base_conversion : Option Subobject → Conversion
-base_conversion None = ToSame
-base_conversion (Some i) = ToBase i
+base_conversion base = option_map_or ToBase base ToSame
 
 -- from a class to itself or to its one base of class d
 abbrev pub conversion_to_class : Classes → ClassId → ClassId → Conversion
@@ -202,19 +184,13 @@ result_conversion h own found = ToSame
 abbrev pub at_part : ObjectPart → Overrider → ObjectPart × FunctionId
 at_part p o = (part p.object p.owner o.at, o.function)
 
--- the function and its `this`, if there is a final overrider
-abbrev pub runs_at : ObjectPart → Option Overrider → Option (ObjectPart × FunctionId)
-runs_at p None = None
-runs_at p (Some o) = Some (at_part p o)
-
 -- the final overrider in the view, if there is a view
 abbrev pub overrider_by : Classes → Option Subobject → Subobject → FunctionId → Option Overrider
-overrider_by h None y f = None
-overrider_by h (Some x) y f = final_in h x y f
+overrider_by h view y f = option_and_then (λ x. final_in h x y f) view
 
 -- the final overrider by the view (ISO C++03 10.3 p2, 12.7 p3)
 abbrev pub overrider_in_view : Classes → Objects → ObjectPart → FunctionId → Option (ObjectPart × FunctionId)
-overrider_in_view h s p f = runs_at p (overrider_by h (view_of h s p) p.at f)
+overrider_in_view h s p f = option_map (at_part p) (overrider_by h (view_of h s p) p.at f)
 
 -- what a call runs: the final overrider, or without dispatch the function that was found (ISO C++03 5.2.2, 10.3 p12)
 abbrev pub runs : Classes → Objects → TypedCall → ObjectPart → Option (ObjectPart × FunctionId)
@@ -229,15 +205,12 @@ body_entered h s values call target run (Some body) = Goes
 
 -- the function's body; a pure function has none, and a call of it is refused
 abbrev pub function_entered : Classes → TypedProgram → ProgramState → List Value → TypedCall → Option Target → Option (ObjectPart × FunctionId) → Next
-function_entered h program s values call target None = Wrong
-function_entered h program s values call target (Some run) = body_entered h s values call target run (owned_body program (Function run.1))
+function_entered h program s values call target found = option_map_or (λ run. body_entered h s values call target run (owned_body program (Function run.1))) found Wrong
 
 -- a call through a pointer to the subobject in which the function was found
 abbrev pub called_at : Classes → TypedProgram → ProgramState → List Value → TypedCall → Option Target → Value → Next
-called_at h program s values call target Unset = Wrong
-called_at h program s values call target (Number z) = Wrong
-called_at h program s values call target Null = Wrong
 called_at h program s values call target (Pointer p) = function_entered h program s values call target (runs h s.objects call p)
+called_at h program s values call target other = Wrong
 
 -- a call opens the body of the function; s stands behind the statement, and see is what the statement sees
 abbrev pub called : Classes → TypedProgram → Sight → ProgramState → TypedCall → Option Target → Next
@@ -255,28 +228,18 @@ new_made h program s c target = Goes (with_frames (with_objects s (with_new_obje
 
 -- a variable takes a right side
 abbrev pub taken : Classes → TypedProgram → Sight → ProgramState → Variable → TypedRight → Conversion → Next
-taken h program see s variable (Operand x) c = Goes (assigned s variable (converted_to (right_side_value h see (Operand x)) c)) []
-taken h program see s variable (Arithmetic op t x y) c = Goes (assigned s variable (converted_to (right_side_value h see (Arithmetic op t x y)) c)) []
-taken h program see s variable (SamePointer differ a b) c = Goes (assigned s variable (converted_to (right_side_value h see (SamePointer differ a b)) c)) []
-taken h program see s variable (Not x) c = Goes (assigned s variable (converted_to (right_side_value h see (Not x)) c)) []
-taken h program see s variable (Read place) c = Goes (assigned s variable (converted_to (right_side_value h see (Read place)) c)) []
-taken h program see s variable (Address place d) c = Goes (assigned s variable (converted_to (right_side_value h see (Address place d)) c)) []
 taken h program see s variable (CallRight call) c = called h program see s call (taker variable c)
 taken h program see s variable (New d) c = new_made h program s d (taker variable c)
-taken h program see s variable (Cast cast x) c = Goes (assigned s variable (converted_to (right_side_value h see (Cast cast x)) c)) []
-taken h program see s variable (TypeEqual x d) c = Goes (assigned s variable (converted_to (right_side_value h see (TypeEqual x d)) c)) []
+taken h program see s variable right c = Goes (assigned s variable (converted_to (right_side_value h see right) c)) []
 
 -- a local with or without a right side (ISO C++03 6.7)
 abbrev pub local_declared : Classes → TypedProgram → Sight → ProgramState → ℕ → Option Converted → Next
-local_declared h program see s n None = Goes s []
-local_declared h program see s n (Some x) = taken h program see s (Local n) x.right x.conversion
+local_declared h program see s n right = option_map_or (λ x. taken h program see s (Local n) x.right x.conversion) right (Goes s [])
 
 -- a leaf takes a value (ISO C++03 5.17)
 abbrev pub written : ProgramState → TypedPlace → Value → Value → Next
-written s place v Unset = Wrong
-written s place v (Number z) = Wrong
-written s place v Null = Wrong
 written s place v (Pointer p) = Goes (with_objects s (leaf_set s.objects (leaf_at p place) v)) []
+written s place v other = Wrong
 
 -- `*to = *from` of two parts of class c (ISO C++03 12.8)
 abbrev pub copied_at : Classes → ProgramState → ClassId → Value → Value → Next
@@ -285,21 +248,18 @@ copied_at h s c a b = Wrong
 
 -- the plan of destruction of a heap object
 abbrev pub object_ended : Classes → TypedProgram → ProgramState → ℕ → Option ClassId → Next
-object_ended h program s k None = Wrong
-object_ended h program s k (Some c) = Goes (with_frames s (ending h program k c ∷ s.frames)) []
+object_ended h program s k class = option_map_or (λ c. Goes (with_frames s (ending h program k c ∷ s.frames)) []) class Wrong
 
 -- `delete` of null does nothing; that of a pointer ends its heap object (ISO C++03 5.3.5)
 abbrev pub deleted : Classes → TypedProgram → ProgramState → Value → Next
-deleted h program s Unset = Wrong
-deleted h program s (Number z) = Wrong
-deleted h program s Null = Goes s []
 deleted h program s (Pointer p) = object_ended h program s p.object (slice_get s.objects.classes p.object)
+deleted h program s Null = Goes s []
+deleted h program s other = Wrong
 
 -- control goes on at this statement in the innermost frame
 abbrev pub frames_at : List Frame → ℕ → List Frame
-frames_at [] n = []
 frames_at (InBody f ∷ below) n = InBody (at_statement f n) ∷ below
-frames_at (InPlan f ∷ below) n = InPlan f ∷ below
+frames_at other n = other
 
 -- control goes on at this statement
 abbrev pub going_on_at : ProgramState → ℕ → ProgramState
@@ -307,10 +267,8 @@ going_on_at s n = with_frames s (frames_at s.frames n)
 
 -- a condition holds where its number is not 0; a block without statements is passed over
 abbrev pub branched : ProgramState → Value → ℕ → ℕ → Next
-branched s Unset yes_at no_at = Wrong
 branched s (Number z) yes_at no_at = Goes (going_on_at s (if is_number_zero z then no_at else yes_at)) []
-branched s Null yes_at no_at = Wrong
-branched s (Pointer p) yes_at no_at = Wrong
+branched s other yes_at no_at = Wrong
 
 -- the first statement of a block from n to its end, or where control goes on behind an empty one
 abbrev pub block_at : (n end behind : ℕ) → ℕ
@@ -318,29 +276,21 @@ block_at n end behind = if nat_eq n end then behind else n
 
 -- a variable takes a value, with its conversion; without a variable the value is dropped
 abbrev pub given_to_target : ProgramState → Value → Option Target → ProgramState
-given_to_target s v None = s
-given_to_target s v (Some target) = assigned s target.variable (converted_to v target.conversion)
+given_to_target s v taker = option_map_or (λ target. assigned s target.variable (converted_to v target.conversion)) taker s
 
 -- the result of a `return`, if it has one
 abbrev pub result_given : ProgramState → Conversion → Option Target → Option Value → ProgramState
-result_given s found target None = s
-result_given s found target (Some v) = given_to_target s (converted_to v found) target
+result_given s found target result = option_map_or (λ v. given_to_target s (converted_to v found) target) result s
 
 -- what a `return` leads to, by whose body it leaves: constructors and destructors have none
 abbrev pub left_by : Owner → ProgramState → Next
 left_by Main s = Ends
 left_by (Function g) s = Goes s []
-left_by (Constructor c) s = Wrong
-left_by (Destructor c) s = Wrong
+left_by other s = Wrong
 
 -- a `return` leaves the body, and the frame below takes the result; that of `main` ends the run
 abbrev pub returned : ProgramState → RunningBody → List Frame → Option Value → Next
 returned s f below v = left_by f.owner (result_given (with_frames s below) f.found f.target v)
-
--- the value of a `return`, if it has one
-abbrev pub returned_value : Sight → Option Argument → Option Value
-returned_value see None = None
-returned_value see (Some a) = Some (argument_value see a)
 
 -- what `print` of a value tells
 abbrev pub value_out : Objects → Value → Option Out
@@ -351,44 +301,35 @@ value_out s (Pointer p) = Some (PointerOut (Some (location_of s p)))
 
 -- what `print` of a pointer to the part tells
 abbrev pub part_out : Objects → Option ObjectPart → Option Out
-part_out s None = None
-part_out s (Some p) = Some (PointerOut (Some (location_of s p)))
+part_out s at = option_map (λ p. PointerOut (Some (location_of s p))) at
 
 -- what `print(dynamic_cast<void*>(p))` tells: the whole of the view (ISO C++03 5.2.7 p7)
 abbrev pub view_out : Classes → Objects → Value → Option Out
-view_out h s Unset = None
-view_out h s (Number z) = None
-view_out h s Null = Some (PointerOut None)
 view_out h s (Pointer p) = part_out s (view_part h s p)
+view_out h s Null = Some (PointerOut None)
+view_out h s other = None
 
 -- what `print` of a type tells
 abbrev pub class_out : Option ClassId → Option Out
-class_out None = None
-class_out (Some c) = Some (TypeNameOut c)
+class_out class = option_map TypeNameOut class
 
 -- what `print(typeid(*p))` tells (ISO C++03 5.2.8)
 abbrev pub type_out : Classes → Objects → Value → Option Out
-type_out h s Unset = None
-type_out h s (Number z) = None
-type_out h s Null = None
 type_out h s (Pointer p) = class_out (typeid_class h s p)
+type_out h s other = None
 
 -- the dump of a heap object: its number, its class and its leaves
 abbrev pub object_out : Classes → Objects → ℕ → Option ClassId → Option Out
-object_out h s k None = None
-object_out h s k (Some c) = Some (DumpOut (k + 1) c (map (dump_leaf s) (leaves_of h c (whole_part k c))))
+object_out h s k class = option_map (λ c. DumpOut (k + 1) c (map (dump_leaf s) (leaves_of h c (whole_part k c)))) class
 
 -- `dump(p)` tells the whole heap object of p's part
 abbrev pub dump_out : Classes → Objects → Value → Option Out
-dump_out h s Unset = None
-dump_out h s (Number z) = None
-dump_out h s Null = None
 dump_out h s (Pointer p) = object_out h s p.object (slice_get s.classes p.object)
+dump_out h s other = None
 
 -- the state and one thing told
 abbrev pub telling : ProgramState → Option Out → Next
-telling s None = Wrong
-telling s (Some out) = Goes s (out ∷ [])
+telling s told = option_map_or (λ out. Goes s (out ∷ [])) told Wrong
 
 -- on is the state in which control has gone on, and see what the statement sees
 abbrev pub kind_effect : Classes → TypedProgram → Sight → ProgramState → RunningBody → List Frame → (n next : ℕ) → TypedKind → Next
@@ -400,7 +341,7 @@ kind_effect h program see on f below n next (Call call) = called h program see o
 kind_effect h program see on f below n next (Delete x c) = deleted h program on (value_of_operand see x)
 kind_effect h program see on f below n next (If x other behind) = branched on (value_of_operand see x) (block_at (n + 1) other next) (block_at other behind next)
 kind_effect h program see on f below n next (While x behind) = branched on (value_of_operand see x) (block_at (n + 1) behind n) next
-kind_effect h program see on f below n next (Return x) = returned on f below (returned_value see x)
+kind_effect h program see on f below n next (Return x) = returned on f below (option_map (argument_value see) x)
 kind_effect h program see on f below n next (Print x) = telling on (value_out on.objects (value_of_operand see x))
 kind_effect h program see on f below n next (PrintType x c) = telling on (type_out h on.objects (value_of_operand see x))
 kind_effect h program see on f below n next (PrintView x c) = telling on (view_out h on.objects (value_of_operand see x))

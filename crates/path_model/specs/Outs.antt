@@ -1,5 +1,5 @@
 -- What a run tells, and how it names parts and leaves from the outside: by hops, the outermost first.
-use Rattle.std.specs.Prelude.{Bool, true, false, ℕ, ◌+◌, Option, Some, None, slice_get}
+use Rattle.std.specs.Prelude.{Bool, true, false, ℕ, ◌+◌, Option, slice_get, unwrap_or}
 use Rattle.cxx_hierarchy.specs.declared.records.ClassId.{ClassId}
 use Rattle.cxx_subobject.specs.declared.locations.Location.{Location}
 use Rattle.cxx_subobject.specs.Locations.{ObjectPart, hops_of, hops_to_element}
@@ -7,13 +7,12 @@ use Rattle.path_model.specs.declared.outs.Value.{Value as Shown}
 use Rattle.path_model.specs.declared.outs.Value.TheVariants.{Unset as ShownUnset, Number as ShownNumber, Null as ShownNull, Pointer as ShownPointer}
 use Rattle.path_model.specs.declared.outs.DumpLeaf.{DumpLeaf}
 use Rattle.path_model.specs.declared.outs.Out.{Out}
-use Rattle.path_model.specs.declared.outs.Out.TheVariants.{Number as NumberOut, Pointer as PointerOut, TypeName, Dump, Call, Built, Ending}
+use Rattle.path_model.specs.declared.outs.Out.TheVariants.{Call, Built, Ending}
 use Rattle.path_model.specs.Values.{Value, Unset, Number, Null, Pointer, Leaf, Objects}
 
 -- a class that is there; what no program within the rules meets is the first one
 abbrev pub class_or_first : Option ClassId → ClassId
-class_or_first None = record { 0 = 0 }
-class_or_first (Some c) = c
+class_or_first class = unwrap_or class (record { 0 = 0 })
 
 -- the class of a heap object that was made
 abbrev pub object_class : Objects → ℕ → ClassId
@@ -40,10 +39,7 @@ dump_leaf s l = record { at = leaf_location s l; value = shown s (s.leaf l) }
 
 -- calls, and the ends of constructions and begins of destructions, are told in a trace alone
 abbrev pub is_traced : Out → Bool
-is_traced (NumberOut z) = false
-is_traced (PointerOut at) = false
-is_traced (TypeName c) = false
-is_traced (Dump number c leaves) = false
 is_traced (Call f at) = true
 is_traced (Built c at) = true
 is_traced (Ending c at) = true
+is_traced other = false

@@ -1,5 +1,6 @@
 -- Where a place leads, and the leaves and class members of a part.
-use Rattle.std.specs.Prelude.{ℕ, zero, suc, ◌+◌, Option, Some, None, List, [], ◌∷◌, ◌++◌, length, slice_get, map}
+use Rattle.std.specs.Prelude.{ℕ, zero, suc, ◌+◌, Option, Some, None, List, [], ◌∷◌, ◌++◌, length, slice_get, map, option_and_then}
+use Rattle.std.specs.Option.{option_map_or}
 use Rattle.std.specs.List.{flat_map}
 use Rattle.cxx_hierarchy.specs.declared.records.ClassId.{ClassId}
 use Rattle.cxx_hierarchy.specs.declared.records.Member.{Member}
@@ -14,7 +15,7 @@ use Rattle.cxx_program.specs.declared.statement.PassedMember.{PassedMember}
 use Rattle.cxx_program.specs.declared.statement.TypedPlace.{TypedPlace}
 use Rattle.path_plan.specs.Places.{element}
 use Rattle.path_plan.specs.Plans.{upto}
-use Rattle.path_model.specs.Values.{Value, Unset, Number, Null, Pointer, Leaf, Sight, inner_part}
+use Rattle.path_model.specs.Values.{Value, Unset, Pointer, Leaf, Sight, inner_part}
 
 -- the class member that a path passes through, from a part
 abbrev pub passed_part : ObjectPart → PassedMember → ObjectPart
@@ -31,10 +32,8 @@ leaf_at p place = record { part = inner_part (end_part p place.passed) place.bas
 
 -- the value of the leaf, where the pointer names a part
 abbrev pub leaf_value : Sight → TypedPlace → Value → Value
-leaf_value s place Unset = Unset
-leaf_value s place (Number z) = Unset
-leaf_value s place Null = Unset
 leaf_value s place (Pointer p) = s.objects.leaf (leaf_at p place)
+leaf_value s place other = Unset
 
 -- the place's own member, of class d
 abbrev pub last_passed : TypedPlace → ClassId → PassedMember
@@ -42,25 +41,17 @@ last_passed place d = record { base = place.base; member = place.member; index =
 
 -- a pointer to the class member that the place is
 abbrev pub address_value : TypedPlace → ClassId → Value → Value
-address_value place d Unset = Unset
-address_value place d (Number z) = Unset
-address_value place d Null = Unset
 address_value place d (Pointer p) = Pointer (end_part p (place.passed ++ last_passed place d ∷ []))
+address_value place d other = Unset
 
 -- the class of a member that is an object
 abbrev pub object_in : FieldType ClassId → Option ClassId
 object_in (ValueField type) = None
 object_in (Object d) = Some d
 
--- the same, of a member that is there
-abbrev pub member_class : Option (Member ClassId) → Option ClassId
-member_class None = None
-member_class (Some member) = object_in member.ty
-
 -- the class of the member m of a class
 abbrev pub class_within : Classes → Option ClassId → ℕ → Option ClassId
-class_within h None m = None
-class_within h (Some b) m = member_class (slice_get (members_of h b) m)
+class_within h class m = option_and_then (λ b. option_and_then (λ member. object_in member.ty) (slice_get (members_of h b) m)) class
 
 -- the class of the complete object to which the steps lead, in one of the objects of these classes
 abbrev pub owner_class : Classes → List ClassId → ℕ → List Step → Option ClassId
@@ -80,13 +71,11 @@ typed_leaves inside p m indices (Object d) = flat_map (λ i. inside d (element p
 
 -- the leaves of a member, in each of its elements
 abbrev pub member_leaves : (ClassId → ObjectPart → List Leaf) → ObjectPart → ℕ → Option (Member ClassId) → List Leaf
-member_leaves inside p m None = []
-member_leaves inside p m (Some member) = typed_leaves inside p m (upto (elements_of member.count)) member.ty
+member_leaves inside p m declared = option_map_or (λ member. typed_leaves inside p m (upto (elements_of member.count)) member.ty) declared []
 
 -- the leaves of the members that the class of a part declares
 abbrev pub own_leaves : Classes → (ClassId → ObjectPart → List Leaf) → Option ClassId → ObjectPart → List Leaf
-own_leaves h inside None p = []
-own_leaves h inside (Some b) p = flat_map (λ m. member_leaves inside p m (slice_get (members_of h b) m)) (upto (length (members_of h b)))
+own_leaves h inside class p = option_map_or (λ b. flat_map (λ m. member_leaves inside p m (slice_get (members_of h b) m)) (upto (length (members_of h b)))) class []
 
 -- the leaves of a part, for classes of numbers below n
 abbrev pub leaves_within : Classes → ℕ → ClassId → ObjectPart → List Leaf

@@ -1,10 +1,11 @@
 -- When a use breaks a rule, and which rule refuses a step.
-use Rattle.std.specs.Prelude.{◌≡◌, ◌<◌, ℕ, ℤ, ◌+ℤ◌, ◌-ℤ◌, ◌*ℤ◌, int_lt, Bool, true, false, ◌&&◌, ◌||◌, not, Option, Some, None, List, [], ◌∷◌, find, slice_get}
+use Rattle.std.specs.Prelude.{◌≡◌, ◌<◌, ℕ, ℤ, ◌+ℤ◌, ◌-ℤ◌, ◌*ℤ◌, int_lt, Bool, true, false, ◌&&◌, ◌||◌, not, Option, Some, None, List, [], ◌∷◌, find, slice_get, option_and_then, is_none, if◌then◌else◌}
+use Rattle.std.specs.Option.{option_map_or}
 use Rattle.std.specs.List.{list_any}
 use Rattle.cxx_hierarchy.specs.declared.records.ClassId.{ClassId}
 use Rattle.cxx_hierarchy.specs.declared.records.Scalar.{Scalar}
 use Rattle.cxx_hierarchy.specs.declared.records.ReturnType.{ReturnType}
-use Rattle.cxx_hierarchy.specs.declared.records.ReturnType.TheVariants.{Void, Value as ValueReturn}
+use Rattle.cxx_hierarchy.specs.declared.records.ReturnType.TheVariants.{Value as ValueReturn}
 use Rattle.cxx_hierarchy.specs.Scalars.{is_signed, wrapped}
 use Rattle.cxx_hierarchy.specs.Classes.{Classes}
 use Rattle.cxx_subobject.specs.declared.Subobject.{Subobject}
@@ -13,7 +14,7 @@ use Rattle.cxx_subobject.specs.Locations.{Step, ObjectPart}
 use Rattle.cxx_overrider.specs.declared.FunctionId.{FunctionId}
 use Rattle.cxx_overrider.specs.Functions.{return_of}
 use Rattle.cxx_program.specs.declared.statement.Arithmetic.{Arithmetic as Operator}
-use Rattle.cxx_program.specs.declared.statement.Arithmetic.TheVariants.{Add, Subtract, Multiply, Less, LessEqual, Equal, NotEqual}
+use Rattle.cxx_program.specs.declared.statement.Arithmetic.TheVariants.{Add, Subtract, Multiply}
 use Rattle.cxx_program.specs.declared.statement.TypedKind.{TypedKind}
 use Rattle.path_rules.specs.declared.Undefined.{Undefined}
 use Rattle.path_rules.specs.declared.Undefined.TheVariants.{NullUse, Dangling, NotReady, OutsideView, Unset as UnsetUse, PureCall, BadDowncast, NonVirtualDelete, NotHeapObject, NotComplete, MissingReturn, Overflow}
@@ -30,24 +31,18 @@ rules = NullUse ∷ Dangling ∷ NotReady ∷ OutsideView ∷ UnsetUse ∷ PureC
 
 -- a null pointer
 abbrev pub is_null : Value → Bool
-is_null Unset = false
-is_null (Number z) = false
 is_null Null = true
-is_null (Pointer p) = false
+is_null other = false
 
 -- no value yet
 abbrev pub is_unset : Value → Bool
 is_unset Unset = true
-is_unset (Number z) = false
-is_unset Null = false
-is_unset (Pointer p) = false
+is_unset other = false
 
 -- a condition that rests on an unset value, or on what null names, does not hold
 abbrev pub names : (ObjectPart → Bool) → Value → Bool
-names f Unset = false
-names f (Number z) = false
-names f Null = false
 names f (Pointer p) = f p
+names f other = false
 
 -- the subobject is not ready
 abbrev pub is_unready : Objects → ObjectPart → Bool
@@ -55,45 +50,28 @@ is_unready s p = not (is_ready (s.phases.phase p))
 
 -- neither the view nor one of the view's bases
 abbrev pub is_outside_of : Classes → Option Subobject → Subobject → Bool
-is_outside_of h None y = true
-is_outside_of h (Some x) y = not (is_within h x y)
+is_outside_of h view y = option_map_or (λ x. not (is_within h x y)) view true
 
 -- the part is not in the view of its complete object
 abbrev pub is_outside : Classes → Objects → ObjectPart → Bool
 is_outside h s p = is_outside_of h (view_of h s p) p.at
 
--- the final overrider in this view is pure
-abbrev pub is_pure_by : Classes → Option Subobject → Subobject → FunctionId → Bool
-is_pure_by h None y f = false
-is_pure_by h (Some x) y f = is_pure_overrider h (final_in h x y f)
-
--- the same, in the view of the complete object
+-- the final overrider in the view of the complete object is pure
 abbrev pub is_pure_in_view : Classes → Objects → FunctionId → ObjectPart → Bool
-is_pure_in_view h s f p = is_pure_by h (view_of h s p) p.at f
-
--- there is no such subobject
-abbrev pub is_nowhere : Option Subobject → Bool
-is_nowhere None = true
-is_nowhere (Some t) = false
+is_pure_in_view h s f p = is_pure_overrider h (option_and_then (λ x. final_in h x p.at f) (view_of h s p))
 
 -- the complete object is the heap object itself
 abbrev pub is_in_heap_object : List Step → Bool
 is_in_heap_object [] = true
 is_in_heap_object (step ∷ rest) = false
 
--- the subobject is the whole of class d
-abbrev pub is_whole_of : Option ClassId → Subobject → Bool
-is_whole_of None y = false
-is_whole_of (Some d) y = same_subobject y (whole_of d)
-
 -- the part is a proper base of its complete object
 abbrev pub is_no_whole : Classes → Objects → ObjectPart → Bool
-is_no_whole h s p = not (is_whole_of (class_of_owner h s p) p.at)
+is_no_whole h s p = not (option_map_or (λ d. same_subobject p.at (whole_of d)) (class_of_owner h s p) false)
 
 -- the whole of heap object k is complete
 abbrev pub is_whole_complete : Objects → ℕ → Option ClassId → Bool
-is_whole_complete s k None = false
-is_whole_complete s k (Some d) = is_complete (s.phases.phase (part k [] (whole_of d)))
+is_whole_complete s k class = option_map_or (λ d. is_complete (s.phases.phase (part k [] (whole_of d)))) class false
 
 -- the heap object of the part is not complete
 abbrev pub is_incomplete : Objects → ObjectPart → Bool
@@ -112,10 +90,7 @@ abbrev pub is_result_over : Operator → Scalar → ℤ → ℤ → Bool
 is_result_over Add t a b = is_over t (a +ℤ b)
 is_result_over Subtract t a b = is_over t (a -ℤ b)
 is_result_over Multiply t a b = is_over t (a *ℤ b)
-is_result_over Less t a b = false
-is_result_over LessEqual t a b = false
-is_result_over Equal t a b = false
-is_result_over NotEqual t a b = false
+is_result_over comparison t a b = false
 
 -- the same of two values that are numbers, where the type is signed (ISO C++03 5 p5)
 abbrev pub overflows : Operator → Scalar → Value → Value → Bool
@@ -139,7 +114,7 @@ breaks h s UnsetUse (Reads v) = is_unset v
 -- U6: the final overrider in the view is pure
 breaks h s PureCall (Takes v f) = names (is_pure_in_view h s f) v
 -- U7: a static downcast from X to T, and the subobject is not that base of any T subobject of its complete object
-breaks h s BadDowncast (Downs v target i) = names (λ p. is_nowhere (derived_of h s target i p)) v
+breaks h s BadDowncast (Downs v target i) = names (λ p. is_none (derived_of h s target i p)) v
 -- U8: `delete` through a class whose destructor is not virtual, and the subobject is not the whole of its complete object
 breaks h s NonVirtualDelete (Deletes v false) = names (is_no_whole h s) v
 -- U9: `delete` of a subobject whose complete object is a member or element
@@ -161,14 +136,9 @@ is_broken h s uses rule = list_any (breaks h s rule) uses
 unfoldable pub refused : Classes → Objects → List StatementUse → Option Undefined
 refused h s uses = find (is_broken h s uses) rules
 
--- no rule
-abbrev pub is_nothing : Option Undefined → Bool
-is_nothing None = true
-is_nothing (Some r) = false
-
 -- the uses break no rule
 abbrev pub is_clear : Classes → Objects → List StatementUse → Bool
-is_clear h s uses = is_nothing (refused h s uses)
+is_clear h s uses = is_none (refused h s uses)
 
 -- the uses of a statement
 abbrev pub uses_of : Classes → Sight → Wanted → TypedKind → List StatementUse
@@ -180,14 +150,12 @@ statement_refusal h s w kind = refused h s.objects (uses_of h s w kind)
 
 -- the function has a result
 abbrev pub returns_value : Option (ReturnType ClassId) → Bool
-returns_value None = false
-returns_value (Some Void) = false
 returns_value (Some (ValueReturn t)) = true
+returns_value other = false
 
 -- the use that a closing step makes
 abbrev pub closes : Bool → List StatementUse
-closes true = Closes ∷ []
-closes false = []
+closes has_result = if has_result then Closes ∷ [] else []
 
 -- the rule that refuses the closing step of a function's body
 abbrev pub closing_refusal : Classes → Objects → FunctionId → Option Undefined

@@ -1,5 +1,6 @@
 -- A run, from its start to its end, with its limits.
-use Rattle.std.specs.Prelude.{◌≡◌, true, Bool, ◌<◌, ℕ, zero, suc, ◌+◌, ◌*◌, ◌/◌, nat_lt, nat_le, false, if◌then◌else◌, pos, Option, Some, None, List, [], ◌∷◌, ◌++◌, map, slice_get, sum_by}
+use Rattle.std.specs.Prelude.{◌≡◌, true, Bool, ◌<◌, ℕ, zero, suc, ◌+◌, ◌*◌, ◌/◌, nat_lt, nat_le, false, if◌then◌else◌, pos, Option, Some, None, List, [], ◌∷◌, ◌++◌, map, slice_get, sum_by, option_and_then}
+use Rattle.std.specs.Option.{option_map_or}
 use Rattle.cxx_hierarchy.specs.declared.records.ClassId.{ClassId}
 use Rattle.cxx_hierarchy.specs.declared.records.ValueType.{ValueType}
 use Rattle.cxx_hierarchy.specs.declared.records.ValueType.TheVariants.{Number as NumberType, Pointer as PointerType}
@@ -9,12 +10,11 @@ use Rattle.cxx_hierarchy.specs.Classes.{Classes}
 use Rattle.cxx_program.specs.declared.operand.Conversion.TheVariants.{Same as ToSame}
 use Rattle.cxx_program.specs.declared.statement.TypedRight.{TypedRight}
 use Rattle.cxx_program.specs.declared.statement.TypedRight.TheVariants.{Call as CallRight, New}
-use Rattle.cxx_program.specs.declared.statement.Converted.{Converted}
 use Rattle.cxx_program.specs.declared.statement.TypedKind.{TypedKind}
 use Rattle.cxx_program.specs.declared.statement.TypedKind.TheVariants.{Declare, Assign, Call, Delete}
 use Rattle.cxx_program.specs.declared.statement.TypedStatement.{TypedStatement}
 use Rattle.cxx_program.specs.declared.program.Owner.{Owner}
-use Rattle.cxx_program.specs.declared.program.Owner.TheVariants.{Main, Function, Constructor, Destructor}
+use Rattle.cxx_program.specs.declared.program.Owner.TheVariants.{Function}
 use Rattle.cxx_program.specs.declared.program.TypedBody.{TypedBody}
 use Rattle.cxx_program.specs.declared.program.TypedProgram.{TypedProgram}
 use Rattle.path_rules.specs.declared.Undefined.{Undefined}
@@ -38,8 +38,7 @@ no_objects = record { classes = []; is_closed = λ k. false; phases = record { p
 
 -- `main` at its first statement
 abbrev pub main_frames : Option TypedBody → List Frame
-main_frames None = []
-main_frames (Some body) = InBody (entered_body body Unset [] ToSame None) ∷ []
+main_frames main = option_map_or (λ body. InBody (entered_body body Unset [] ToSame None) ∷ []) main []
 
 -- the state in which a run begins
 abbrev pub start : TypedProgram → ProgramState
@@ -65,10 +64,8 @@ most_open = 4096
 
 -- the body of a constructor or destructor belongs to the `new` or `delete` below it
 abbrev pub opened_for : Owner → ℕ
-opened_for Main = 0
 opened_for (Function g) = 1
-opened_for (Constructor c) = 0
-opened_for (Destructor c) = 0
+opened_for other = 0
 
 -- what a frame counts as: a plan is a `new` or a `delete`
 abbrev pub opened_by : Frame → ℕ
@@ -91,11 +88,6 @@ right_demand (CallRight call) = asks_call
 right_demand (New c) = asks_object c
 right_demand other = asks_nothing
 
--- the same, of a right side that is there
-abbrev pub converted_demand : Option Converted → Demand
-converted_demand None = asks_nothing
-converted_demand (Some x) = right_demand x.right
-
 -- a `delete` of null opens nothing
 abbrev pub delete_demand : Value → Demand
 delete_demand (Pointer p) = asks_call
@@ -103,7 +95,7 @@ delete_demand other = asks_nothing
 
 -- what a statement asks for
 abbrev pub demand_of : Sight → TypedKind → Demand
-demand_of s (Declare n x) = converted_demand x
+demand_of s (Declare n right) = option_map_or (λ x. right_demand x.right) right asks_nothing
 demand_of s (Assign variable x) = right_demand x.right
 demand_of s (Call call) = asks_call
 demand_of s (Delete x c) = delete_demand (value_of_operand s x)
@@ -121,19 +113,16 @@ limit_of sizes s (asks_object c) = if nat_lt most_heap_bytes (heap_total sizes s
 
 -- the limit that a statement would pass
 abbrev pub statement_limit : (ClassId → ℕ) → ProgramState → RunningBody → Option TypedStatement → Option LimitNo
-statement_limit sizes s f None = None
-statement_limit sizes s f (Some statement) = limit_of sizes s (demand_of (sight s f) statement.kind)
+statement_limit sizes s f next = option_and_then (λ statement. limit_of sizes s (demand_of (sight s f) statement.kind)) next
 
 -- that of the next statement of a body
 abbrev pub body_limit : (ClassId → ℕ) → ProgramState → RunningBody → Option TypedBody → Option LimitNo
-body_limit sizes s f None = None
-body_limit sizes s f (Some body) = statement_limit sizes s f (slice_get body.statements f.next)
+body_limit sizes s f own = option_and_then (λ body. statement_limit sizes s f (slice_get body.statements f.next)) own
 
 -- that of the frame on top; an event asks for nothing
 abbrev pub frame_limit : (ClassId → ℕ) → TypedProgram → ProgramState → List Frame → Option LimitNo
-frame_limit sizes program s [] = None
 frame_limit sizes program s (InBody f ∷ below) = body_limit sizes s f (owned_body program f.owner)
-frame_limit sizes program s (InPlan f ∷ below) = None
+frame_limit sizes program s other = None
 
 -- the limit that the step would pass, by the size of each class in bytes
 abbrev pub limit_at : (ClassId → ℕ) → TypedProgram → ProgramState → Option LimitNo
@@ -151,8 +140,7 @@ pub data Move : Type 0 where
 
 -- a step that passes a limit is not taken
 abbrev pub within : Option LimitNo → ProgramState → List Out → Move
-within None s outs = Moves s outs
-within (Some limit) s outs = IsLimited limit
+within passed s outs = option_map_or IsLimited passed (Moves s outs)
 
 -- a refusal and the end of the run come before a limit
 abbrev pub move_by : Next → Option LimitNo → Move

@@ -1,5 +1,6 @@
 -- The state of a run: objects, globals, and frames of bodies and plans.
-use Rattle.std.specs.Prelude.{ℕ, ◌-◌, Bool, true, false, nat_eq, Option, Some, None, List, [], ◌∷◌, ◌++◌, find, length, slice_set, replicate}
+use Rattle.std.specs.Prelude.{ℕ, ◌-◌, Bool, false, nat_eq, Option, List, [], ◌∷◌, ◌++◌, find, length, slice_set, replicate, is_some}
+use Rattle.std.specs.Option.{option_map_or}
 use Rattle.cxx_hierarchy.specs.declared.records.ClassId.{ClassId}
 use Rattle.cxx_program.specs.declared.operand.Variable.{Variable}
 use Rattle.cxx_program.specs.declared.operand.Variable.TheVariants.{Global, Local}
@@ -28,19 +29,15 @@ same_owner a b = false
 -- the body of an owner
 abbrev pub owned_body : TypedProgram → Owner → Option TypedBody
 owned_body program Main = program.main
-owned_body program (Function f) = find (λ body. same_owner body.owner (Function f)) program.bodies
-owned_body program (Constructor c) = find (λ body. same_owner body.owner (Constructor c)) program.bodies
-owned_body program (Destructor c) = find (λ body. same_owner body.owner (Destructor c)) program.bodies
+owned_body program owner = find (λ body. same_owner body.owner owner) program.bodies
 
 -- there is a body
 abbrev pub is_body : Option TypedBody → Bool
-is_body None = false
-is_body (Some body) = true
+is_body own = is_some own
 
 -- the initializers of a constructor
 abbrev pub inits_in : Option TypedBody → List TypedInit
-inits_in None = []
-inits_in (Some body) = body.inits
+inits_in own = option_map_or (λ body. body.inits) own []
 
 -- the initializer of a member, in the constructor of class c
 abbrev pub member_init : TypedProgram → ClassId → ℕ → Option TypedInit
@@ -48,8 +45,7 @@ member_init program c m = find (λ init. nat_eq init.member m) (inits_in (owned_
 
 -- there is an initializer
 abbrev pub is_init : Option TypedInit → Bool
-is_init None = false
-is_init (Some init) = true
+is_init own = is_some own
 
 -- what the plans of objects look at
 abbrev pub plan_bodies : TypedProgram → Bodies
@@ -99,8 +95,7 @@ sight s f = record { objects = s.objects; globals = s.globals; this = f.this; lo
 
 -- how a result becomes a value of who takes it
 abbrev pub target_conversion : Option Target → Conversion
-target_conversion None = ToSame
-target_conversion (Some target) = target.conversion
+target_conversion taker = option_map_or (λ target. target.conversion) taker ToSame
 
 -- what a return of the frame does with its result
 abbrev pub wanted_result : RunningBody → Wanted
@@ -126,9 +121,8 @@ with_local f n v = record { owner = f.owner; this = f.this; locals = slice_set f
 
 -- a variable of the innermost frame takes a value; a plan has no locals
 abbrev pub with_local_in : List Frame → ℕ → Value → List Frame
-with_local_in [] n v = []
 with_local_in (InBody f ∷ below) n v = InBody (with_local f n v) ∷ below
-with_local_in (InPlan f ∷ below) n v = InPlan f ∷ below
+with_local_in other n v = other
 
 -- a variable takes a value
 abbrev pub assigned : ProgramState → Variable → Value → ProgramState

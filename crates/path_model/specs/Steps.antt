@@ -1,12 +1,13 @@
 -- One step of a run: a statement, a condition, an event of a plan, or the end of a body.
 use Rattle.std.specs.Prelude.{ℕ, Bool, true, false, if◌then◌else◌, Option, Some, None, List, [], ◌∷◌, slice_get}
+use Rattle.std.specs.Option.{option_map_or}
 use Rattle.cxx_hierarchy.specs.declared.records.ClassId.{ClassId}
 use Rattle.cxx_hierarchy.specs.Classes.{Classes}
 use Rattle.cxx_subobject.specs.Subobjects.{class_of}
 use Rattle.cxx_subobject.specs.Locations.{ObjectPart}
 use Rattle.cxx_overrider.specs.declared.FunctionId.{FunctionId}
 use Rattle.cxx_program.specs.declared.operand.TypedOperand.{TypedOperand}
-use Rattle.cxx_program.specs.declared.operand.TypedOperand.TheVariants.{Variable as VariableOperand, This, Number as NumberOperand}
+use Rattle.cxx_program.specs.declared.operand.TypedOperand.TheVariants.{Number as NumberOperand}
 use Rattle.cxx_program.specs.declared.operand.Conversion.TheVariants.{Same as ToSame}
 use Rattle.cxx_program.specs.declared.statement.TypedKind.{TypedKind}
 use Rattle.cxx_program.specs.declared.statement.TypedKind.TheVariants.{Declare}
@@ -18,7 +19,7 @@ use Rattle.cxx_program.specs.declared.program.TypedBody.{TypedBody}
 use Rattle.cxx_program.specs.declared.program.TypedProgram.{TypedProgram}
 use Rattle.path_rules.specs.declared.Undefined.{Undefined}
 use Rattle.path_plan.specs.Places.{same_part}
-use Rattle.path_plan.specs.Phases.{PartEvent, Begin, Ready, Init, Body, Done, Ending, Bases, End, phases_after}
+use Rattle.path_plan.specs.Phases.{PartEvent, Init, Body, Done, Ending, End, phases_after}
 use Rattle.path_plan.specs.Whole.{whole_part}
 use Rattle.path_model.specs.declared.outs.Out.{Out}
 use Rattle.path_model.specs.declared.outs.Out.TheVariants.{Built as BuiltOut, Ending as EndingOut}
@@ -33,14 +34,12 @@ use Rattle.path_model.specs.Effects.{Next, Goes, Refuses, Ends, Wrong, with_leaf
 
 -- an initializer is a number
 abbrev pub constant : TypedOperand → Value
-constant (VariableOperand x) = Unset
-constant This = Unset
 constant (NumberOperand z) = Number z
+constant other = Unset
 
 -- the value that an initializer gives (ISO C++03 12.6.2)
 abbrev pub init_value : Option TypedInit → Value
-init_value None = Unset
-init_value (Some init) = converted_to (constant init.operand) init.conversion
+init_value own = option_map_or (λ init. converted_to (constant init.operand) init.conversion) own Unset
 
 -- the class of a part
 abbrev pub class_of_part : ObjectPart → ClassId
@@ -48,25 +47,13 @@ class_of_part p = class_or_first (class_of p.at)
 
 -- the leaves after an event: an initializer sets one
 abbrev pub leaves_after : TypedProgram → (Leaf → Value) → PartEvent → Leaf → Value
-leaves_after program values (Begin p) = values
-leaves_after program values (Ready p) = values
 leaves_after program values (Init p m) = with_leaf values (leaf p m 0) (init_value (member_init program (class_of_part p) m))
-leaves_after program values (Body p) = values
-leaves_after program values (Done p) = values
-leaves_after program values (Ending p) = values
-leaves_after program values (Bases p) = values
-leaves_after program values (End p) = values
+leaves_after program values other = values
 
 -- a heap object is closed by the end of its whole
 abbrev pub ends_object : Objects → PartEvent → ℕ → Bool
-ends_object s (Begin p) k = false
-ends_object s (Ready p) k = false
-ends_object s (Init p m) k = false
-ends_object s (Body p) k = false
-ends_object s (Done p) k = false
-ends_object s (Ending p) k = false
-ends_object s (Bases p) k = false
 ends_object s (End p) k = same_part p (whole_part k (object_class s k))
+ends_object s other k = false
 
 -- the objects after an event
 abbrev pub objects_after : TypedProgram → Objects → PartEvent → Objects
@@ -79,14 +66,9 @@ objects_after program s e = record {
 
 -- what an event tells
 abbrev pub event_outs : Objects → PartEvent → List Out
-event_outs s (Begin p) = []
-event_outs s (Ready p) = []
-event_outs s (Init p m) = []
-event_outs s (Body p) = []
 event_outs s (Done p) = BuiltOut (class_of_part p) (location_of s p) ∷ []
 event_outs s (Ending p) = EndingOut (class_of_part p) (location_of s p) ∷ []
-event_outs s (Bases p) = []
-event_outs s (End p) = []
+event_outs s other = []
 
 -- whose body a plan runs
 abbrev pub body_owner : Bool → ClassId → Owner
@@ -94,8 +76,7 @@ body_owner is_building c = if is_building then Constructor c else Destructor c
 
 -- the body of a constructor or destructor, on top of its plan
 abbrev pub body_opened : ProgramState → ObjectPart → List Out → List Frame → Option TypedBody → Next
-body_opened s p outs frames None = Wrong
-body_opened s p outs frames (Some body) = Goes (with_frames s (InBody (entered_body body (Pointer p) [] ToSame None) ∷ frames)) outs
+body_opened s p outs frames own = option_map_or (λ body. Goes (with_frames s (InBody (entered_body body (Pointer p) [] ToSame None) ∷ frames)) outs) own Wrong
 
 -- the plan with these events left
 abbrev pub plan_left : Planned → List PartEvent → Frame
@@ -116,8 +97,7 @@ event_step program s f below (e ∷ events) = resumed program (with_objects s (o
 
 -- a step that a rule refuses is not taken
 abbrev pub unless : Option Undefined → ℕ → Next → Next
-unless None line next = next
-unless (Some rule) line next = Refuses rule line
+unless refusal line next = option_map_or (λ rule. Refuses rule line) refusal next
 
 -- the end of a body
 
@@ -127,9 +107,8 @@ function_closed h s g line below = unless (closing_refusal h s.objects g) line (
 
 -- the closing step of a constructor's body is its event
 abbrev pub constructor_closed : TypedProgram → ProgramState → List Frame → Next
-constructor_closed program s [] = Wrong
-constructor_closed program s (InBody f ∷ below) = Wrong
 constructor_closed program s (InPlan f ∷ below) = event_step program s f below f.events
+constructor_closed program s other = Wrong
 
 -- the closing step of a body
 abbrev pub body_closed : Classes → TypedProgram → ProgramState → Owner → ℕ → List Frame → Next
@@ -157,8 +136,7 @@ next_in_body h program s f below body (Some statement) = step_of_statement h pro
 
 -- the step of a body that is there
 abbrev pub body_step : Classes → TypedProgram → ProgramState → RunningBody → List Frame → Option TypedBody → Next
-body_step h program s f below None = Wrong
-body_step h program s f below (Some body) = next_in_body h program s f below body (slice_get body.statements f.next)
+body_step h program s f below own = option_map_or (λ body. next_in_body h program s f below body (slice_get body.statements f.next)) own Wrong
 
 -- the step of the innermost frame
 abbrev pub frame_step : Classes → TypedProgram → ProgramState → List Frame → Next

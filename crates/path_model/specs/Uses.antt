@@ -1,5 +1,6 @@
 -- The uses that a statement makes of values and of parts. The rules that refuse a step are asked of them.
-use Rattle.std.specs.Prelude.{ℕ, zero, suc, ◌+◌, Bool, true, false, ◌&&◌, ◌||◌, if◌then◌else◌, Option, Some, None, List, [], ◌∷◌, ◌++◌, find, length, slice_get}
+use Rattle.std.specs.Prelude.{ℕ, zero, suc, ◌+◌, Bool, true, false, ◌&&◌, ◌||◌, if◌then◌else◌, Option, Some, None, List, [], ◌∷◌, ◌++◌, find, length, slice_get, option_and_then}
+use Rattle.std.specs.Option.{option_map_or}
 use Rattle.std.specs.List.{flat_map}
 use Rattle.cxx_hierarchy.specs.declared.records.ClassId.{ClassId}
 use Rattle.cxx_hierarchy.specs.declared.records.Scalar.{Scalar}
@@ -16,7 +17,7 @@ use Rattle.cxx_overrider.specs.declared.FunctionId.{FunctionId}
 use Rattle.cxx_overrider.specs.Virtuals.{is_virtual}
 use Rattle.cxx_program.specs.declared.operand.Argument.{Argument}
 use Rattle.cxx_program.specs.declared.operand.Conversion.{Conversion}
-use Rattle.cxx_program.specs.declared.operand.Conversion.TheVariants.{Number as ToNumber, Bits as ToBits, Null as ToNull, Same as ToSame, Base as ToBase}
+use Rattle.cxx_program.specs.declared.operand.Conversion.TheVariants.{Base as ToBase}
 use Rattle.cxx_program.specs.declared.statement.PassedMember.{PassedMember}
 use Rattle.cxx_program.specs.declared.statement.TypedPlace.{TypedPlace}
 use Rattle.cxx_program.specs.declared.statement.TypedCast.{TypedCast}
@@ -25,14 +26,13 @@ use Rattle.cxx_program.specs.declared.statement.TypedCall.{TypedCall}
 use Rattle.cxx_program.specs.declared.statement.Arithmetic.{Arithmetic as Operator}
 use Rattle.cxx_program.specs.declared.statement.TypedRight.{TypedRight}
 use Rattle.cxx_program.specs.declared.statement.TypedRight.TheVariants.{Operand, Arithmetic, SamePointer, Not, Read, Address, Call as CallRight, New, Cast, TypeEqual}
-use Rattle.cxx_program.specs.declared.statement.Converted.{Converted}
 use Rattle.cxx_program.specs.declared.statement.TypedKind.{TypedKind}
 use Rattle.cxx_program.specs.declared.statement.TypedKind.TheVariants.{Declare, Assign, Write, Copy, Call, Delete, If, While, Return, Print, PrintType, PrintView, Dump}
 use Rattle.path_plan.specs.Places.{part, element}
 use Rattle.path_plan.specs.Phases.{Phases}
 use Rattle.path_plan.specs.Plans.{upto}
 use Rattle.path_plan.specs.Views.{view}
-use Rattle.path_model.specs.Values.{Value, Unset, Number, Null, Pointer, Objects, Sight, value_of_operand, converted_to, to_base, inner_part}
+use Rattle.path_model.specs.Values.{Value, Unset, Null, Pointer, Objects, Sight, value_of_operand, converted_to, to_base, inner_part}
 use Rattle.path_model.specs.Places.{passed_part, leaf_value, address_value, owner_class}
 use Rattle.cxx_search.specs.Searches.{is_within, is_of_class, cast_in, has_virtual_base, destructor_of, preorder_of}
 
@@ -67,8 +67,7 @@ class_of_owner h s p = owner_class h s.classes p.object p.owner
 
 -- its view, where the class is known
 abbrev pub view_in : Phases → ℕ → List Step → Option ClassId → Option Subobject
-view_in phases k o None = None
-view_in phases k o (Some d) = view phases k o d
+view_in phases k o class = option_and_then (view phases k o) class
 
 -- the view of the complete object that a part belongs to (ISO C++03 12.7)
 abbrev pub view_of : Classes → Objects → ObjectPart → Option Subobject
@@ -80,16 +79,12 @@ is_shared i = is_shared_root i.root
 
 -- the view is needed if so
 abbrev pub uses_of_view : Bool → Value → List StatementUse
-uses_of_view true v = Views v ∷ []
-uses_of_view false v = []
+uses_of_view needed v = if needed then Views v ∷ [] else []
 
 -- a conversion to another class is a guarded use; that to a subobject behind a virtual base needs the view (ISO C++03 4.10, 12.7 p2)
 abbrev pub convert : Value → Conversion → List StatementUse
-convert v (ToNumber t) = []
-convert v (ToBits t n) = []
-convert v ToNull = []
-convert v ToSame = []
 convert v (ToBase i) = Guards v ∷ uses_of_view (is_shared i) v
+convert v other = []
 
 -- `p->`, `*p` or `typeid(*p)`
 abbrev pub arrow : Value → List StatementUse
@@ -108,10 +103,8 @@ path_uses p (x ∷ rest) last = uses_of_view (is_shared x.base) (Pointer p) ++ (
 
 -- the uses of a part, where the value names one
 abbrev pub of_part : (ObjectPart → List StatementUse) → Value → List StatementUse
-of_part f Unset = []
-of_part f (Number z) = []
-of_part f Null = []
 of_part f (Pointer p) = f p
+of_part f other = []
 
 -- the uses of a place: its pointer and its path, not its leaf
 abbrev pub place_uses : Sight → TypedPlace → List StatementUse
@@ -125,27 +118,23 @@ derived_of h s target i p = find (λ t. is_of_class target t && same_subobject (
 
 -- a pointer to the subobject, or another value where there is none
 abbrev pub value_or : ObjectPart → Value → Option Subobject → Value
-value_or p other None = other
-value_or p other (Some t) = Pointer (part p.object p.owner t)
+value_or p other found = option_map_or (λ t. Pointer (part p.object p.owner t)) found other
 
 -- what a dynamic_cast gives in this view: null where the cast fails (ISO C++03 5.2.7 p9)
 abbrev pub view_cast : Classes → ClassId → ObjectPart → Option Subobject → Value
-view_cast h target p None = Unset
-view_cast h target p (Some x) = if is_within h x p.at then value_or p Null (cast_in h target x p.at) else Unset
+view_cast h target p view = option_map_or (λ x. if is_within h x p.at then value_or p Null (cast_in h target x p.at) else Unset) view Unset
 
 -- what a static downcast gives (ISO C++03 5.2.9 p8)
 abbrev pub down_value : Classes → Objects → ClassId → Subobject → Value → Value
-down_value h s target i Unset = Unset
-down_value h s target i (Number z) = Unset
-down_value h s target i Null = Null
 down_value h s target i (Pointer p) = value_or p Unset (derived_of h s target i p)
+down_value h s target i Null = Null
+down_value h s target i other = Unset
 
 -- what a dynamic_cast gives
 abbrev pub dynamic_value : Classes → Objects → ClassId → Value → Value
-dynamic_value h s target Unset = Unset
-dynamic_value h s target (Number z) = Unset
-dynamic_value h s target Null = Null
 dynamic_value h s target (Pointer p) = view_cast h target p (view_of h s p)
+dynamic_value h s target Null = Null
+dynamic_value h s target other = Unset
 
 -- what a cast gives: null of null, and no value where it is refused
 abbrev pub cast_value : Classes → Objects → TypedCast → Value → Value
@@ -170,13 +159,11 @@ element_uses inside p m indices (Object d) = flat_map (λ i. Passes (element p m
 
 -- the same, of a member that is there
 abbrev pub member_uses : (ClassId → ObjectPart → List StatementUse) → ObjectPart → ℕ → Option (Member ClassId) → List StatementUse
-member_uses inside p m None = []
-member_uses inside p m (Some member) = element_uses inside p m (upto (elements_of member.count)) member.ty
+member_uses inside p m declared = option_map_or (λ member. element_uses inside p m (upto (elements_of member.count)) member.ty) declared []
 
 -- the class members that a part's class declares
 abbrev pub own_members : Classes → (ClassId → ObjectPart → List StatementUse) → Option ClassId → ObjectPart → List StatementUse
-own_members h inside None p = []
-own_members h inside (Some b) p = flat_map (λ m. member_uses inside p m (slice_get (members_of h b) m)) (upto (length (members_of h b)))
+own_members h inside class p = option_map_or (λ b. flat_map (λ m. member_uses inside p m (slice_get (members_of h b) m)) (upto (length (members_of h b)))) class []
 
 -- the class members in a part, for classes of numbers below n
 abbrev pub covers : Classes → ℕ → ClassId → ObjectPart → List StatementUse
@@ -191,13 +178,11 @@ covered h c v = of_part (covers h (c.0 + 1) c) v
 
 -- the subobject to which a call's pointer goes
 abbrev pub goes_to : Option Subobject → Value → Value
-goes_to None v = v
-goes_to (Some i) v = to_base i v
+goes_to qualifier v = option_map_or (λ i. to_base i v) qualifier v
 
 -- the class before `::` is behind a virtual base
 abbrev pub is_shared_way : Option Subobject → Bool
-is_shared_way None = false
-is_shared_way (Some i) = is_shared i
+is_shared_way qualifier = option_map_or is_shared qualifier false
 
 -- the subobject of the class in which the function was found
 abbrev pub receiver_value : Sight → TypedCall → Value
@@ -205,8 +190,7 @@ receiver_value s call = to_base call.base (goes_to call.qualifier (value_of_oper
 
 -- the function is found by the view if the call is dispatched
 abbrev pub takes : Bool → Value → FunctionId → List StatementUse
-takes true v f = Takes v f ∷ []
-takes false v f = []
+takes is_dispatched v f = if is_dispatched then Takes v f ∷ [] else []
 
 -- the view is needed for dispatch, for the way to the class before `::`, and for the way from there to the function
 abbrev pub call_uses : Sight → TypedCall → List StatementUse
@@ -219,8 +203,7 @@ call_uses s call =
 
 -- the value of a leaf, and its conversion
 abbrev pub leaf_uses : Bool → Value → Conversion → List StatementUse
-leaf_uses false v c = []
-leaf_uses true v c = Reads v ∷ convert v c
+leaf_uses clear v c = if clear then Reads v ∷ convert v c else []
 
 -- the uses of a right side; a result of a call is converted in the step of its `return`, that of a `new` in its last event
 abbrev pub right_uses : Classes → (List StatementUse → Bool) → Sight → TypedRight → Conversion → List StatementUse
@@ -234,11 +217,6 @@ right_uses h clear s (CallRight call) c = call_uses s call
 right_uses h clear s (New d) c = []
 right_uses h clear s (Cast cast x) c = cast_uses cast (value_of_operand s x) ++ convert (cast_value h s.objects cast (value_of_operand s x)) c
 right_uses h clear s (TypeEqual x d) c = arrow (value_of_operand s x) ++ Views (value_of_operand s x) ∷ []
-
--- the uses of a declaration
-abbrev pub declared_uses : Classes → (List StatementUse → Bool) → Sight → Option Converted → List StatementUse
-declared_uses h clear s None = []
-declared_uses h clear s (Some x) = right_uses h clear s x.right x.conversion
 
 -- what a return does with a result: how it becomes one of the class of the declaration that was found, and then one of the
 -- type of the variable that takes it
@@ -254,7 +232,7 @@ return_uses s w (Some a) =
 
 -- the uses of a statement
 abbrev pub kind_uses : Classes → (List StatementUse → Bool) → Sight → Wanted → TypedKind → List StatementUse
-kind_uses h clear s w (Declare n x) = declared_uses h clear s x
+kind_uses h clear s w (Declare n right) = option_map_or (λ x. right_uses h clear s x.right x.conversion) right []
 kind_uses h clear s w (Assign variable x) = right_uses h clear s x.right x.conversion
 kind_uses h clear s w (Write place x) = place_uses s place ++ argument_uses s x
 kind_uses h clear s w (Copy to from c) =

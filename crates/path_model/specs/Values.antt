@@ -1,5 +1,8 @@
 -- Values, the objects of a run, and what a statement sees of them.
-use Rattle.std.specs.Prelude.{ℕ, ℤ, Bool, Option, Some, None, List, slice_get}
+--
+-- Here and behind, `option_map_or f o d` is f of what o has, or d where it has nothing; `option_map f o` and `option_and_then f o`
+-- have nothing there. A last clause of a name alone, such as `other`, holds of every case that no clause before it has.
+use Rattle.std.specs.Prelude.{ℕ, ℤ, Bool, List, slice_get, unwrap_or}
 use Rattle.cxx_hierarchy.specs.declared.records.ClassId.{ClassId}
 use Rattle.cxx_hierarchy.specs.Scalars.{stored_as, kept_in}
 use Rattle.cxx_subobject.specs.declared.Subobject.{Subobject}
@@ -42,15 +45,10 @@ pub record Sight : Type 0 where
   pub this : Value
   pub locals : List Value
 
--- a variable that is not there has no value
-abbrev pub or_unset : Option Value → Value
-or_unset None = Unset
-or_unset (Some v) = v
-
--- the value of a variable
+-- the value of a variable; one that is not there has none
 abbrev pub variable_value : Sight → Variable → Value
-variable_value s (Global n) = or_unset (slice_get s.globals n)
-variable_value s (Local n) = or_unset (slice_get s.locals n)
+variable_value s (Global n) = unwrap_or (slice_get s.globals n) Unset
+variable_value s (Local n) = unwrap_or (slice_get s.locals n) Unset
 
 -- the value of an operand
 abbrev pub value_of_operand : Sight → TypedOperand → Value
@@ -64,17 +62,13 @@ inner_part p i = part p.object p.owner (join p.at i)
 
 -- a pointer, moved to a base of its class (ISO C++03 4.10)
 abbrev pub to_base : Subobject → Value → Value
-to_base i Unset = Unset
-to_base i (Number z) = Number z
-to_base i Null = Null
 to_base i (Pointer p) = Pointer (inner_part p i)
+to_base i other = other
 
 -- a number, converted
 abbrev pub to_number : (ℤ → ℤ) → Value → Value
-to_number f Unset = Unset
 to_number f (Number z) = Number (f z)
-to_number f Null = Null
-to_number f (Pointer p) = Pointer p
+to_number f other = other
 
 -- a value, converted
 abbrev pub converted_to : Value → Conversion → Value

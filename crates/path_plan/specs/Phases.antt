@@ -16,23 +16,14 @@ pub data Phase : Type 0 where
 
 -- ready, but not complete: in its members or its own body
 abbrev pub is_half : Phase → Bool
-is_half Raw = false
-is_half InBases = false
 is_half ReadyBuilding = true
-is_half Complete = false
 is_half ReadyEnding = true
-is_half EndingBases = false
-is_half Ended = false
+is_half other = false
 
 -- constructed, and its destruction has not begun
 abbrev pub is_complete : Phase → Bool
-is_complete Raw = false
-is_complete InBases = false
-is_complete ReadyBuilding = false
 is_complete Complete = true
-is_complete ReadyEnding = false
-is_complete EndingBases = false
-is_complete Ended = false
+is_complete other = false
 
 -- all its bases are constructed and none has begun to end
 abbrev pub is_ready : Phase → Bool
@@ -40,13 +31,9 @@ is_ready x = is_half x || is_complete x
 
 -- among its bases, at their construction or at their end
 abbrev pub is_in_bases : Phase → Bool
-is_in_bases Raw = false
 is_in_bases InBases = true
-is_in_bases ReadyBuilding = false
-is_in_bases Complete = false
-is_in_bases ReadyEnding = false
 is_in_bases EndingBases = true
-is_in_bases Ended = false
+is_in_bases other = false
 
 -- its constructor or destructor runs
 abbrev pub is_running : Phase → Bool
@@ -107,12 +94,11 @@ popped running p k o = if same_complete_object p.object p.owner k o then rest_of
 abbrev pub phases_after : Phases → PartEvent → Phases
 phases_after s (Begin p) = record { phase = put s.phase p InBases; running = with_pushed_part s.running p }
 phases_after s (Ready p) = record { phase = put s.phase p ReadyBuilding; running = s.running }
-phases_after s (Init p m) = s
-phases_after s (Body p) = s
 phases_after s (Done p) = record { phase = put s.phase p Complete; running = popped s.running p }
 phases_after s (Ending p) = record { phase = put s.phase p ReadyEnding; running = with_pushed_part s.running p }
 phases_after s (Bases p) = record { phase = put s.phase p EndingBases; running = s.running }
 phases_after s (End p) = record { phase = put s.phase p Ended; running = popped s.running p }
+phases_after s other = s
 
 -- the phases after a list of events
 abbrev pub phases_after_all : Phases → List PartEvent → Phases

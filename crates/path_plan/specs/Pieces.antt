@@ -94,24 +94,14 @@ opened_pieces pieces p (Sub form c q ∷ left) below = pending q (pieces form c 
 -- the first event of a part
 abbrev pub begins_part : PartEvent → Bool
 begins_part (Begin p) = true
-begins_part (Ready p) = false
-begins_part (Init p m) = false
-begins_part (Body p) = false
-begins_part (Done p) = false
 begins_part (Ending p) = true
-begins_part (Bases p) = false
-begins_part (End p) = false
+begins_part other = false
 
 -- its last event
 abbrev pub ends : PartEvent → Bool
-ends (Begin p) = false
-ends (Ready p) = false
-ends (Init p m) = false
-ends (Body p) = false
 ends (Done p) = true
-ends (Ending p) = false
-ends (Bases p) = false
 ends (End p) = true
+ends other = false
 
 -- a frame that waits at its first event does not run yet
 abbrev pub is_begun : List Piece → Bool

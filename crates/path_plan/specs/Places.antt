@@ -50,9 +50,8 @@ same_step a b = same_subobject a.base b.base && (nat_eq a.member b.member && nat
 
 abbrev pub same_steps : List Step → List Step → Bool
 same_steps [] [] = true
-same_steps [] (b ∷ bs) = false
-same_steps (a ∷ as_) [] = false
 same_steps (a ∷ as_) (b ∷ bs) = same_step a b && same_steps as_ bs
+same_steps others more = false
 
 abbrev pub same_complete_object : ℕ → List Step → ℕ → List Step → Bool
 same_complete_object k o k' o' = nat_eq k k' && same_steps o o'

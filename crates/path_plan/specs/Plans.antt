@@ -1,5 +1,6 @@
 -- The plan of a part: the events of its construction and of its destruction, as flat lists (ISO C++03 12.6.2 p5, 12.4 p6, 12.6 p3).
-use Rattle.std.specs.Prelude.{ℕ, zero, suc, ◌+◌, Bool, true, false, nat_eq, ◌||◌, if◌then◌else◌, Option, Some, None, List, [], ◌∷◌, ◌++◌, length, slice_get}
+use Rattle.std.specs.Prelude.{ℕ, zero, suc, ◌+◌, Bool, false, nat_eq, ◌||◌, if◌then◌else◌, Option, List, [], ◌∷◌, ◌++◌, length, slice_get}
+use Rattle.std.specs.Option.{option_map_or}
 use Rattle.std.specs.List.{flat_map}
 use Rattle.cxx_hierarchy.specs.declared.records.ClassId.{ClassId}
 use Rattle.cxx_hierarchy.specs.declared.records.Base.{Base}
@@ -70,8 +71,7 @@ base_events inner p b = if b.is_virtual then [] else inner AsBase b.class (base_
 
 -- a member of a number or a pointer type is set only by an initializer
 abbrev pub init_events : Bool → ObjectPart → ℕ → List PartEvent
-init_events true p m = Init p m ∷ []
-init_events false p m = []
+init_events is_set p m = if is_set then Init p m ∷ [] else []
 
 -- a member by its type: the elements of an array one after the other (12.6 p3)
 abbrev pub typed_events : Inner → Bodies → ClassId → ObjectPart → ℕ → List ℕ → FieldType ClassId → List PartEvent
@@ -80,13 +80,11 @@ typed_events inner bodies c p m indices (Object d) = flat_map (λ i. inner InFul
 
 -- the body, where it is declared
 abbrev pub body_events : Bool → ObjectPart → List PartEvent
-body_events true p = Body p ∷ []
-body_events false p = []
+body_events is_declared p = if is_declared then Body p ∷ [] else []
 
 -- member number m, whose record is given
 abbrev pub member_events : Inner → Bodies → ClassId → ObjectPart → ℕ → Option (Member ClassId) → List PartEvent
-member_events inner bodies c p m None = []
-member_events inner bodies c p m (Some member) = typed_events inner bodies c p m (upto (elements_of member.count)) member.ty
+member_events inner bodies c p m declared = option_map_or (λ member. typed_events inner bodies c p m (upto (elements_of member.count)) member.ty) declared []
 
 -- a construction: it begins, virtual bases, direct bases, the part is ready, its members, its body, it is done (12.6.2 p5)
 abbrev pub built_by : Classes → Bodies → Inner → Inner
@@ -108,8 +106,7 @@ typed_ending inner p m indices (Object d) = flat_map (λ i. inner InFull d (elem
 
 -- the elements of a member from the last to the first (12.4 p6)
 abbrev pub member_ending : Inner → ObjectPart → ℕ → Option (Member ClassId) → List PartEvent
-member_ending inner p m None = []
-member_ending inner p m (Some member) = typed_ending inner p m (backwards (upto (elements_of member.count))) member.ty
+member_ending inner p m declared = option_map_or (λ member. typed_ending inner p m (backwards (upto (elements_of member.count))) member.ty) declared []
 
 -- a destruction: it begins, its body, its members, the part is no more ready, direct bases, virtual bases, it has ended, all backwards (12.4 p6)
 abbrev pub ended_by : Classes → Bodies → Inner → Inner

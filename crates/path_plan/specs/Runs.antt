@@ -2,7 +2,7 @@
 use Rattle.std.specs.Prelude.{◌≡◌, ℕ, nat_eq, if◌then◌else◌, Some, List, [], ◌∷◌, ◌++◌, length, slice_get}
 use Rattle.cxx_hierarchy.specs.declared.records.ClassId.{ClassId}
 use Rattle.cxx_hierarchy.specs.Classes.{Classes}
-use Rattle.path_plan.specs.Phases.{Raw, Complete, Phases, PartEvent, Begin, Ready, Init, Body, Done, Ending, Bases, End, phases_after}
+use Rattle.path_plan.specs.Phases.{Raw, Complete, Phases, PartEvent, Body, phases_after}
 use Rattle.path_plan.specs.Plans.{Bodies}
 use Rattle.path_plan.specs.Views.{Settled, Fits}
 use Rattle.path_plan.specs.Whole.{whole_part, construction, destruction}
@@ -23,14 +23,8 @@ renewed k s = record { phase = λ q. if nat_eq q.object k then Raw else s.phase 
 
 -- an event that is a body begins it
 abbrev pub entered : PartEvent → List EventFrame → List EventFrame
-entered (Begin p) frames = frames
-entered (Ready p) frames = frames
-entered (Init p m) frames = frames
 entered (Body p) frames = InBody ∷ frames
-entered (Done p) frames = frames
-entered (Ending p) frames = frames
-entered (Bases p) frames = frames
-entered (End p) frames = frames
+entered other frames = frames
 
 -- where the plan with these events left stands, and what is below it
 abbrev pub in_plan : List ClassId → Phases → ℕ → List PartEvent → List EventFrame → Run

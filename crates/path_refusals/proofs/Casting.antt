@@ -1,6 +1,6 @@
 -- What casts give, and what is asked of it.
 use Rattle.std.proofs.Common.{arith, ◌<◌, ◌≤◌, ◌≡◌, Bool, true, false, Option, Some, None, List, [], ◌∷◌, refl, sym, subst}
-use Rattle.std.specs.Prelude.{ℕ, ℤ, if◌then◌else◌}
+use Rattle.std.specs.Prelude.{ℕ, ℤ, if◌then◌else◌, is_none}
 use Rattle.foundation.proofs.Truth.{split}
 use Rattle.cxx_hierarchy.specs.declared.records.ClassId.{ClassId}
 use Rattle.cxx_hierarchy.specs.Classes.{Classes}
@@ -14,7 +14,7 @@ use Rattle.cxx_program.specs.Typed.{Casts, cast_same, cast_up, cast_down, cast_d
 use Rattle.path_rules.specs.declared.Undefined.TheVariants.{BadDowncast}
 use Rattle.path_model.specs.Values.{Value, Unset, Number, Null, Pointer, Objects}
 use Rattle.path_model.specs.Uses.{Reads, Guards, Downs, convert, derived_of, down_value, cast_value, value_or}
-use Rattle.path_model.specs.Rules.{refused, names, is_unready, is_nowhere}
+use Rattle.path_model.specs.Rules.{refused, names, is_unready}
 use Rattle.path_model.proofs.Ranks.{first_place, rank, rank_append}
 use Rattle.path_model.proofs.Single.{guard_rank}
 use Rattle.path_model.proofs.Conversions.{is_pointer, convert_off}
@@ -27,16 +27,16 @@ use Rattle.path_refusals.proofs.Reading.{full_none, read_early}
 
 -- a downcast of a part
 
-pub down_is : (h : Classes) (s : Objects) (p : ObjectPart) (target : ClassId) (i : Subobject) (b : Bool) → is_nowhere (derived_of h s target i p) ≡ b → refused h s (Downs (Pointer p) target i ∷ []) ≡ (if b then Some BadDowncast else None)
+pub down_is : (h : Classes) (s : Objects) (p : ObjectPart) (target : ClassId) (i : Subobject) (b : Bool) → is_none (derived_of h s target i p) ≡ b → refused h s (Downs (Pointer p) target i ∷ []) ≡ (if b then Some BadDowncast else None)
 unfolding refused
 down_is h s p target i true e = rw e refl
 down_is h s p target i false e = rw e refl
 
-nowhere_is : (h : Classes) (classes : List ClassId) (p : ObjectPart) (o : Option Subobject) (v : ValueCode) → v ≡ UnsetCode → Means h classes v (value_or p Unset o) → is_nowhere o ≡ true
+nowhere_is : (h : Classes) (classes : List ClassId) (p : ObjectPart) (o : Option Subobject) (v : ValueCode) → v ≡ UnsetCode → Means h classes v (value_or p Unset o) → is_none o ≡ true
 nowhere_is h classes p None v e m = refl
 nowhere_is h classes p (Some t) v e m = absurd (subst (λ (w : ValueCode). Means h classes w (value_or p Unset (Some t))) e m)
 
-somewhere_is : (h : Classes) (classes : List ClassId) (p : ObjectPart) (o : Option Subobject) (v : ValueCode) (n : ℕ) → v ≡ PointerCode n → Means h classes v (value_or p Unset o) → is_nowhere o ≡ false
+somewhere_is : (h : Classes) (classes : List ClassId) (p : ObjectPart) (o : Option Subobject) (v : ValueCode) (n : ℕ) → v ≡ PointerCode n → Means h classes v (value_or p Unset o) → is_none o ≡ false
 somewhere_is h classes p None v n e m = absurd (subst (λ (w : ValueCode). Means h classes w (value_or p Unset None)) e m)
 somewhere_is h classes p (Some t) v n e m = refl
 
@@ -67,7 +67,7 @@ off_down h s (Number z) target i e = refl
 off_down h s Null target i e = refl
 off_down h s (Pointer p) target i e = absurd (cc)
 
-at_rank : (h : Classes) (s : Objects) (p : ObjectPart) (target : ClassId) (i : Subobject) (b : Bool) → is_nowhere (derived_of h s target i p) ≡ b → rank h s (Downs (Pointer p) target i ∷ []) ≡ (if b then 6 else 12)
+at_rank : (h : Classes) (s : Objects) (p : ObjectPart) (target : ClassId) (i : Subobject) (b : Bool) → is_none (derived_of h s target i p) ≡ b → rank h s (Downs (Pointer p) target i ∷ []) ≡ (if b then 6 else 12)
 unfolding rank first_place
 at_rank h s p target i true e = rw e refl
 at_rank h s p target i false e = rw e refl
@@ -76,7 +76,7 @@ down_late : (h : Classes) (s : Objects) (x : Value) (target : ClassId) (i : Subo
 down_late h s Unset target i = let r = clear_rank h s (Downs Unset target i ∷ []) (off_down h s Unset target i refl) in omega (arith, r)
 down_late h s (Number z) target i = let r = clear_rank h s (Downs (Number z) target i ∷ []) (off_down h s (Number z) target i refl) in omega (arith, r)
 down_late h s Null target i = let r = clear_rank h s (Downs Null target i ∷ []) (off_down h s Null target i refl) in omega (arith, r)
-down_late h s (Pointer p) target i = split (is_nowhere (derived_of h s target i p)) (λ b. is_nowhere (derived_of h s target i p) ≡ b → 6 ≤ rank h s (Downs (Pointer p) target i ∷ []))
+down_late h s (Pointer p) target i = split (is_none (derived_of h s target i p)) (λ b. is_none (derived_of h s target i p) ≡ b → 6 ≤ rank h s (Downs (Pointer p) target i ∷ []))
     (λ _ e. let r = at_rank h s p target i true e in omega (arith, r)) (λ _ e. let r = at_rank h s p target i false e in omega (arith, r)) refl
 
 pub down_then : (h : Classes) (s : Objects) (x : Value) (target : ClassId) (i : Subobject) → rank h s (Reads x ∷ Guards x ∷ []) < 12 → rank h s (Reads x ∷ Guards x ∷ []) ≤ rank h s (Downs x target i ∷ [])

@@ -1,4 +1,5 @@
 -- What a typed statement is given, of its values and of the paths from them.
+use Rattle.std.specs.Prelude.{is_none}
 use Rattle.std.proofs.Common.{arith, ◌≡◌, true, false, Option, Some, None, List, [], ◌∷◌, ◌++◌, refl, ap, sym, subst, ◌∙◌, append-nil}
 use Rattle.foundation.proofs.Truth.{is_false}
 use Rattle.cxx_hierarchy.specs.declared.records.ClassId.{ClassId}
@@ -22,7 +23,7 @@ use Rattle.path_model.specs.Values.{Value, Unset, Number, Null, Pointer, Objects
 use Rattle.path_model.specs.Places.{passed_part}
 use Rattle.path_model.specs.TypedStates.{IsValue}
 use Rattle.path_model.specs.Uses.{StatementUse, Reads, Guards, Passes, uses_of_view, arrow, path_uses, is_shared, convert, leaf_uses, Wanted}
-use Rattle.path_model.specs.Rules.{refused, names, is_unready, is_clear, is_nothing}
+use Rattle.path_model.specs.Rules.{refused, names, is_unready, is_clear}
 use Rattle.path_model.specs.Typed.{IsOf, IsPath, IsReturn, ConvertsClass as Leads}
 use Rattle.path_model.proofs.Ranks.{rank, rank_append, rank_full}
 use Rattle.path_model.proofs.Single.{guard_rank, pass_rank}
@@ -129,7 +130,7 @@ open_path h heap s v p place a path e =
 -- what is read
 
 pub read_stops : (h : Classes) (s : Objects) (us : List StatementUse) (x : Value) (c : Conversion) (r : Undefined) → Some r ≡ refused h s us → Some r ≡ refused h s (us ++ leaf_uses (is_clear h s us) x c)
-read_stops h s us x c r e = subst (λ (o : Option Undefined). Some r ≡ refused h s (us ++ leaf_uses (is_nothing o) x c)) e (e ∙ sym (ap (λ vs. refused h s vs) (append-nil us)))
+read_stops h s us x c r e = subst (λ (o : Option Undefined). Some r ≡ refused h s (us ++ leaf_uses (is_none o) x c)) e (e ∙ sym (ap (λ vs. refused h s vs) (append-nil us)))
 
 pub read_goes_on : (h : Classes) (s : Objects) (us : List StatementUse) (x : Value) (c : Conversion) (rule : Option Undefined) → None ≡ refused h s us → rule ≡ refused h s (Reads x ∷ convert x c) → rule ≡ refused h s (us ++ leaf_uses (is_clear h s us) x c)
-read_goes_on h s us x c rule e f = subst (λ (o : Option Undefined). rule ≡ refused h s (us ++ leaf_uses (is_nothing o) x c)) e (goes_on h s us (Reads x ∷ convert x c) rule e f)
+read_goes_on h s us x c rule e f = subst (λ (o : Option Undefined). rule ≡ refused h s (us ++ leaf_uses (is_none o) x c)) e (goes_on h s us (Reads x ∷ convert x c) rule e f)

@@ -1,6 +1,7 @@
 -- What a `delete` and a dump ask: the destructor, the complete object and the heap object.
 use Rattle.std.proofs.Common.{arith, ◌<◌, ◌≤◌, ◌≡◌, ◌↔◌, Bool, true, false, Some, None, List, [], ◌∷◌, refl, ap, sym, subst, ◌∙◌}
 use Rattle.std.specs.Prelude.{ℕ, if◌then◌else◌, not, nat_eq, IsTrue, length, slice_get}
+use Rattle.std.specs.Option.{option_map_or}
 use Rattle.std.proofs.lemmas.Bool.{eqb-true, eq-eqb}
 use Rattle.foundation.proofs.Truth.{split, is_false}
 use Rattle.cxx_hierarchy.specs.declared.records.ClassId.{ClassId}
@@ -27,7 +28,7 @@ use Rattle.path_numbers.proofs.Heap.{heap_part, heap_number, at_good, at_object}
 use Rattle.path_model.specs.Values.{Value, Unset, Number, Null, Pointer, Objects}
 use Rattle.path_model.specs.Places.{owner_class}
 use Rattle.path_model.specs.Uses.{StatementUse, Reads, Follows, Guards, Deletes, Dumps, uses_of_view, class_of_owner}
-use Rattle.path_model.specs.Rules.{refused, names, is_unready, is_no_whole, is_whole_of, is_incomplete, is_whole_complete, is_in_heap_object, is_outside}
+use Rattle.path_model.specs.Rules.{refused, names, is_unready, is_no_whole, is_incomplete, is_whole_complete, is_in_heap_object, is_outside}
 use Rattle.std.proofs.Common.{ltb}
 use Rattle.std.proofs.lemmas.Bool.{ltb-true, ltb-false}
 use Rattle.path_model.proofs.Ranks.{first_place, rank, rank_append}
@@ -67,7 +68,7 @@ same_whole h s keeps p n k q w = split (nat_eq k n) (λ b. nat_eq k n ≡ b → 
 pub no_whole : (h : Classes) (s : Objects) → IsHierarchy h → (p : ObjectPart) (n k : ℕ) → Points h s.classes n p → PointsWhole h s.classes k p → is_no_whole h s p ≡ not (nat_eq k n)
 no_whole h s keeps p n k q w =
     let owner : class_of_owner h s p ≡ Some w.node.class = ap (λ k. owner_class h s.classes k p.owner) (sym w.object) ∙ (ap (λ o. owner_class h s.classes w.node.part.object o) (sym w.owner) ∙ whole_class h s.classes w.node w.at w.full) in
-    ap (λ o. not (is_whole_of o p.at)) owner ∙ ap not (same_whole h s keeps p n k q w)
+    ap (λ o. not (option_map_or (λ d. same_subobject p.at (whole_of d)) o false)) owner ∙ ap not (same_whole h s keeps p n k q w)
 
 -- heap objects
 

@@ -1,6 +1,6 @@
 -- What is told by the view, for the model's objects.
 use Rattle.std.proofs.Common.{◌≡◌, ℕ, ◌+◌, ◌^◌, ◌%◌, Bool, true, false, Option, Some, None, refl, ap, subst, sym, ◌∙◌}
-use Rattle.std.specs.Prelude.{◌&&◌, find, if◌then◌else◌}
+use Rattle.std.specs.Prelude.{◌&&◌, find, if◌then◌else◌, option_map}
 use Rattle.std.proofs.Math.Nat.{mod-eq_of_lt}
 use Rattle.foundation.proofs.Chosen.{find_passes}
 use Rattle.cxx_hierarchy.specs.declared.records.ClassId.{ClassId}
@@ -24,7 +24,7 @@ use Rattle.path_numbers.specs.Numbers.{subobject_number}
 use Rattle.path_model.specs.Values.{Value, Unset, Null, Pointer, Objects}
 use Rattle.path_model.specs.Uses.{view_of, value_or, view_cast, down_value, dynamic_value}
 use Rattle.path_model.specs.Rules.{is_pure_in_view}
-use Rattle.path_model.specs.Effects.{overrider_by, runs_at, overrider_in_view}
+use Rattle.path_model.specs.Effects.{overrider_by, overrider_in_view, at_part}
 use Rattle.path_model.proofs.RuleLaws.{pure_by}
 use Rattle.path_heap.specs.declared.state.Value.{Value as ValueCode}
 use Rattle.path_heap.specs.declared.state.Value.TheVariants.{Unset as UnsetCode, Null as NullCode}
@@ -85,7 +85,7 @@ points_to h heap s stands p at is x k valid e =
     subst (λ n. Points h s.classes n (part p.object p.owner x)) (sym (e ∙ mod-eq_of_lt lt)) q
 
 runs_told : (h : Classes) (heap : Heap) (s : Objects) → HeapStands h heap s → (p : ObjectPart) (at : Standing) → IsStanding h s p at → (o : Option Overrider) → ((a : Overrider) → o ≡ Some a → IsSubobject h at.class a.at) → (found : FinalAt) (this : ℕ) → Some found ≡ numbered_overrider h at.class o
-    → this ≡ (at.whole + found.at) % 2 ^ 32 → RunsByView h s.classes (Some (record { this = this; function = found.function })) (runs_at p o)
+    → this ≡ (at.whole + found.at) % 2 ^ 32 → RunsByView h s.classes (Some (record { this = this; function = found.function })) (option_map (at_part p) o)
 runs_told h heap s stands p at is None valid found this e told = absurd (cc)
 runs_told h heap s stands p at is (Some o) valid found this e told =
     let same : found ≡ record { at = subobject_number h at.class o.at; function = o.function } = cc in

@@ -1,6 +1,6 @@
 -- What a step tells of a typed state names parts that are there.
 use Rattle.std.proofs.Common.{◌≡◌, ℕ, ◌<◌, false, Option, Some, None, List, [], length, refl, subst}
-use Rattle.std.specs.Prelude.{slice_get}
+use Rattle.std.specs.Prelude.{slice_get, option_map}
 use Rattle.cxx_hierarchy.specs.declared.records.ClassId.{ClassId}
 use Rattle.cxx_hierarchy.specs.declared.records.ValueType.{ValueType}
 use Rattle.cxx_hierarchy.specs.declared.records.ValueType.TheVariants.{Number as NumberType, Pointer as PointerType}
@@ -14,7 +14,7 @@ use Rattle.path_model.specs.declared.outs.Out.{Out}
 use Rattle.path_model.specs.Values.{Value, Unset, Number, Null, Pointer, Leaf, Objects}
 use Rattle.path_model.specs.Outs.{location_of}
 use Rattle.path_model.specs.Uses.{view_of}
-use Rattle.path_model.specs.Effects.{value_out, part_out, part_in_same_object, view_out, class_out, typeid_class, type_out, object_out, dump_out}
+use Rattle.path_model.specs.Effects.{value_out, part_out, view_out, class_out, typeid_class, type_out, object_out, dump_out}
 use Rattle.path_model.specs.TypedStates.{IsLeafMade, IsPartMade, IsValue}
 use Rattle.path_model.proofs.TypedViews.{AreRunningParts, view_valid}
 use Rattle.text_told.specs.Fields.{NamesPart}
@@ -43,7 +43,7 @@ module _ (h : Classes) (x : Objects) (known : AreKnown h x.classes) where
   value_names (Pointer p) (NumberType t) a = absurd a
   value_names (Pointer p) (PointerType c) a = (part_names p c a, refl)
 
-  view_names_at : (runs : AreRunningParts h x) (p : ObjectPart) (c : ClassId) → IsPartMade h x.classes p c → (o : Option Subobject) → view_of h x p ≡ o → IfTold h (part_out x (part_in_same_object p o))
+  view_names_at : (runs : AreRunningParts h x) (p : ObjectPart) (c : ClassId) → IsPartMade h x.classes p c → (o : Option Subobject) → view_of h x p ≡ o → IfTold h (part_out x (option_map (part p.object p.owner) o))
   view_names_at runs p c a None e = tt
   view_names_at runs p c a (Some view) e = (told_part h x (part p.object p.owner view) a.class (known p.object a.class a.made) a.made (a.inside.0, a.inside.1, view_valid h x runs p c a view e), refl)
 

@@ -63,8 +63,7 @@ stored_text h l size (Pointer at) = part_text h l at
 abbrev pub kept_text : Value → List ℕ
 kept_text Unset = codes "--"
 kept_text (Number z) = signed_decimal z
-kept_text Null = []
-kept_text (Pointer at) = []
+kept_text other = []
 
 -- how a leaf is shown: its bytes, and of a bit-field its first bit, its width and its number (ISO C++03 9.6)
 abbrev pub held_text : Classes → Places → Option ℕ → ℕ → ValueType ClassId → Value → List ℕ

@@ -1,7 +1,7 @@
 -- Where a location lies by a layout, and the name, type and bits of a leaf.
-use Rattle.std.specs.Prelude.{ℕ, ◌<◌, Option, Some, None, List, [], ◌∷◌, ◌++◌, codes, length, slice_get}
+use Rattle.std.specs.Prelude.{ℕ, ◌<◌, Option, Some, None, List, [], ◌∷◌, ◌++◌, codes, length, slice_get, option_and_then}
 use Rattle.std.specs.Fmt.{decimal}
-use Rattle.std.specs.Option.{option_or}
+use Rattle.std.specs.Option.{option_or, option_map_or}
 use Rattle.cxx_hierarchy.specs.declared.records.ClassId.{ClassId}
 use Rattle.cxx_hierarchy.specs.declared.records.Member.{Member}
 use Rattle.cxx_hierarchy.specs.declared.records.FieldType.{FieldType}
@@ -37,8 +37,7 @@ part_text h l at = location_text at.object (location_place h l at)
 
 -- the member of a number of a class
 abbrev pub member_at : Classes → Option ClassId → ℕ → Option (Member ClassId)
-member_at h None m = None
-member_at h (Some d) m = slice_get (members_of h d) m
+member_at h class m = option_and_then (λ d. slice_get (members_of h d) m) class
 
 -- the subobject that declares a field, and nothing where that is the whole
 abbrev pub before_field : List ℕ → List ℕ
@@ -46,13 +45,11 @@ before_field [] = []
 before_field (x ∷ text) = x ∷ text ++ codes "::"
 
 abbrev pub index_text : Option ℕ → ℕ → List ℕ
-index_text None i = []
-index_text (Some count) i = codes "[" ++ decimal i ++ codes "]"
+index_text array i = option_map_or (λ count. codes "[" ++ decimal i ++ codes "]") array []
 
 -- a member by its name, and an element of an array by its index behind that
 abbrev pub element_name_text : Option (Member ClassId) → ℕ → List ℕ
-element_name_text None i = []
-element_name_text (Some member) i = member.name ++ index_text member.count i
+element_name_text declared i = option_map_or (λ member. member.name ++ index_text member.count i) declared []
 
 -- the field to which the hops lead from what is of class c: inside a member it follows a `.`
 abbrev pub inner_text : Classes → Option ClassId → List Hop → List ℕ
@@ -62,9 +59,8 @@ inner_text h c (MemberHop m i ∷ hops) = element_name_text (member_at h c m) i 
 
 -- a field of a complete object
 abbrev pub field_name_text : Classes → List Hop → List ℕ
-field_name_text h [] = []
 field_name_text h (Inherit s ∷ hops) = before_field (subobject_text h s) ++ inner_text h (class_of s) hops
-field_name_text h (MemberHop m i ∷ hops) = []
+field_name_text h other = []
 
 -- the type of the leaf to which the hops lead from what is of class c
 abbrev pub type_behind : Classes → Option ClassId → List Hop → Option (ValueType ClassId)
@@ -74,10 +70,8 @@ type_behind h c (MemberHop m i ∷ hops) = option_or (type_behind h (element_cla
 
 -- the width of a member, by the class that declares it and its number there, where it is a bit-field (ISO C++03 9.6)
 abbrev pub bit_field_width : Classes → Option (ClassId × ℕ) → Option ℕ
-bit_field_width h None = None
-bit_field_width h (Some member) = width_of_member h member.0 member.1
+bit_field_width h leaf = option_and_then (λ member. width_of_member h member.0 member.1) leaf
 
 -- the first bit of the value of a member, in the byte at its place
 abbrev pub first_value_bit : Places → Option (ClassId × ℕ) → ℕ
-first_value_bit l None = 0
-first_value_bit l (Some member) = l.first member.0 member.1
+first_value_bit l leaf = option_map_or (λ member. l.first member.0 member.1) leaf 0

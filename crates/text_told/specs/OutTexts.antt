@@ -1,5 +1,6 @@
 -- The text of what a run of the whole language tells.
-use Rattle.std.specs.Prelude.{Bool, true, false, not, Option, Some, None, List, ℕ, [], ◌∷◌, ◌++◌, codes, filter}
+use Rattle.std.specs.Prelude.{Bool, not, Option, Some, None, List, ℕ, [], ◌∷◌, ◌++◌, codes, filter, if◌then◌else◌}
+use Rattle.std.specs.Option.{option_map_or}
 use Rattle.std.specs.List.{flat_map}
 use Rattle.std.specs.Fmt.{signed_decimal}
 use Rattle.cxx_hierarchy.specs.Classes.{Classes}
@@ -29,8 +30,7 @@ IsTold h (Ending c at) = NamesPart h at
 
 -- a pointer: `null`, or the object and the place in it to which it points
 abbrev pub pointer_text : Classes → Places → Option Location → List ℕ
-pointer_text h l None = codes "null"
-pointer_text h l (Some at) = part_text h l at
+pointer_text h l to = option_map_or (λ at. part_text h l at) to (codes "null")
 
 -- what is told, without the line feed at its end
 abbrev pub line_text : Classes → Places → Out → List ℕ
@@ -52,8 +52,7 @@ printed outs = filter (λ out. not (is_traced out)) outs
 
 -- what a run shows: all that it tells where it is traced, else what is printed
 abbrev pub outs_to_show : Bool → List Out → List Out
-outs_to_show true outs = outs
-outs_to_show false outs = printed outs
+outs_to_show trace outs = if trace then outs else printed outs
 
 -- the text of what is shown, in order
 abbrev pub text_of : Classes → Places → List Out → List ℕ

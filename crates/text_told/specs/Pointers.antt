@@ -1,5 +1,6 @@
 -- The virtual pointers of an object (Itanium C++ ABI 2.5).
-use Rattle.std.specs.Prelude.{ℕ, zero, suc, ◌+◌, ◌*◌, Option, Some, None, List, [], ◌∷◌, ◌++◌, map, length, slice_get}
+use Rattle.std.specs.Prelude.{ℕ, zero, suc, ◌+◌, ◌*◌, Option, List, [], ◌∷◌, ◌++◌, map, length, slice_get}
+use Rattle.std.specs.Option.{option_map_or}
 use Rattle.std.specs.List.{flat_map, range_with_len}
 use Rattle.cxx_hierarchy.specs.declared.records.ClassId.{ClassId}
 use Rattle.cxx_hierarchy.specs.declared.records.Member.{Member}
@@ -28,13 +29,11 @@ objects_by_type place count (Value type) = []
 objects_by_type place count (Object d) = record { class = d; place = place; count = count } ∷ []
 
 abbrev pub objects_by_member : ℕ → Option (Member ClassId) → List MemberObjects
-objects_by_member place None = []
-objects_by_member place (Some member) = objects_by_type place (elements_of member.count) member.ty
+objects_by_member place declared = option_map_or (λ member. objects_by_type place (elements_of member.count) member.ty) declared []
 
 -- the members that are objects, of a subobject that lies at a place
 abbrev pub objects_in : Classes → Places → ℕ → Option ClassId → List MemberObjects
-objects_in h l place None = []
-objects_in h l place (Some b) = flat_map (λ m. objects_by_member (place + l.member b m) (slice_get (members_of h b) m)) (range_with_len 0 (length (members_of h b)))
+objects_in h l place class = option_map_or (λ b. flat_map (λ m. objects_by_member (place + l.member b m) (slice_get (members_of h b) m)) (range_with_len 0 (length (members_of h b)))) class []
 
 -- the members that are objects, of all subobjects of an object of class c
 abbrev pub member_objects : Classes → Places → ClassId → List MemberObjects

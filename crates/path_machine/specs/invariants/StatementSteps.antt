@@ -1,5 +1,6 @@
 -- What the machine does for statements and bodies, said of every state from which the frame was taken.
-use Rattle.std.specs.Prelude.{◌≡◌, ℕ, ◌+◌, Option, Some, List, ◌∷◌, true, []}
+use Rattle.std.specs.Prelude.{◌≡◌, ℕ, ◌+◌, Option, Some, List, ◌∷◌, true, [], option_map}
+use Rattle.std.specs.Option.{option_map_or}
 use Rattle.cxx_hierarchy.specs.declared.records.ClassId.{ClassId}
 use Rattle.cxx_hierarchy.specs.declared.records.ValueType.{ValueType}
 use Rattle.cxx_hierarchy.specs.declared.records.ReturnType.TheVariants.{Value as ValueReturn}
@@ -17,12 +18,12 @@ use Rattle.cxx_program.specs.Typed.{Scope, IsArgument}
 use Rattle.path_model.specs.declared.outs.Out.{Out}
 use Rattle.path_model.specs.Values.{Value, value_of_operand, argument_value, converted_to}
 use Rattle.path_model.specs.States.{Target, RunningBody, Frame, InBody, ProgramState, assigned, owned_body, sight, wanted_result, with_frames}
-use Rattle.path_model.specs.Effects.{Next, Goes, branched, copied_at, local_declared, effect, given_to_target, result_given, returned, returned_value, right_side_value, taken, telling, type_out, view_out, dump_out, written}
+use Rattle.path_model.specs.Effects.{Next, Goes, branched, copied_at, local_declared, effect, given_to_target, result_given, returned, right_side_value, taken, telling, type_out, view_out, dump_out, written}
 use Rattle.path_model.specs.Steps.{body_step, function_closed, step_of_statement}
 use Rattle.path_model.specs.Rules.{statement_refusal}
 use Rattle.path_rules.specs.declared.Undefined.{Undefined}
 use Rattle.cxx_overrider.specs.declared.FunctionId.{FunctionId}
-use Rattle.path_model.specs.Runs.{body_limit, converted_demand, demand_of, move, move_by, right_demand}
+use Rattle.path_model.specs.Runs.{body_limit, demand_of, move, move_by, right_demand, asks_nothing}
 use Rattle.path_heap.specs.declared.state.Value.{Value as ValueCode}
 use Rattle.path_heap.specs.Stands.{Means}
 use Rattle.path_values.specs.Given.{IsGiven}
@@ -76,7 +77,7 @@ TakesSide run old new frame next variable x before after done = (e : Scope) (s :
 abbrev pub DeclaresLocal : Run → (old new : Machine) → BodyFrame → (next n : ℕ) → Option Converted → (before after : Telling) → NextCode → Type 0
 DeclaresLocal run old new frame next n x before after done = (e : Scope) (s : ProgramState) (f : RunningBody) (below : List Frame) →
     IsTakenIn run old frame s f below → IsDeclaring run.world.h.now e (sight s f) x →
-    MoveAgreesIn run (move_by (local_declared run.world.h.now run.program.now (sight s f) (gone_on s f next below) n x) (limit_met run s f below (converted_demand x))) new before after done
+    MoveAgreesIn run (move_by (local_declared run.world.h.now run.program.now (sight s f) (gone_on s f next below) n x) (limit_met run s f below (option_map_or (λ y. right_demand y.right) x asks_nothing))) new before after done
 
 -- a leaf takes a value, by a write that no rule refuses
 abbrev pub WritesPlace : Run → (old new : Machine) → BodyFrame → (next : ℕ) → TypedPlace → Argument → NextCode → Type 0
@@ -100,13 +101,13 @@ GivesResult run old new frame a = (e : Scope) (s : ProgramState) (f : RunningBod
 abbrev pub LeavesFunction : Run → (old new : Machine) → BodyFrame → Option Argument → NextCode → Type 0
 LeavesFunction run old new frame x done = (e : Scope) (s : ProgramState) (f : RunningBody) (below : List Frame) →
     IsTakenIn run old frame s f below → IsClear run.world.h.now e s f (Return x) →
-    (done ≡ GoesCode) × MachineStands run.world.h.now (size_in run.sizes.now) run.program.now new (result_given (with_frames s below) f.found f.target (returned_value (sight s f) x))
+    (done ≡ GoesCode) × MachineStands run.world.h.now (size_in run.sizes.now) run.program.now new (result_given (with_frames s below) f.found f.target (option_map (argument_value (sight s f)) x))
 
 -- a `return` that no rule refuses leaves the body, wherever control stood in it
 abbrev pub LeavesBody : Run → (old new : Machine) → BodyFrame → Option Argument → NextCode → Type 0
 LeavesBody run old new frame x done = (e : Scope) (s : ProgramState) (f : RunningBody) (below : List Frame) (n : ℕ) (outs : Telling) →
     IsTakenIn run old frame s f below → IsClear run.world.h.now e s f (Return x) →
-    StepAgreesIn run (returned (gone_on s f n below) f below (returned_value (sight s f) x)) new outs outs done
+    StepAgreesIn run (returned (gone_on s f n below) f below (option_map (argument_value (sight s f)) x)) new outs outs done
 
 -- the class of the object is printed, where no rule refuses that
 abbrev pub PrintsType : Run → (old new : Machine) → BodyFrame → (next : ℕ) → TypedOperand → (before after : Telling) → NextCode → Type 0

@@ -1,7 +1,9 @@
+use Rattle.std.specs.Prelude.{option_map}
+use Rattle.path_model.specs.Values.{argument_value}
 use Rattle.std.proofs.Common.{refl, subst, sym, Some}
 use Rattle.cxx_program.specs.declared.statement.TypedKind.TheVariants.{Return}
 use Rattle.path_model.specs.States.{sight, with_frames}
-use Rattle.path_model.specs.Effects.{result_given, returned_value}
+use Rattle.path_model.specs.Effects.{result_given}
 use Rattle.path_frames.specs.Machines.{MachineStands}
 use Rattle.path_machine.specs.invariants.Steps.{size_in, IsClear}
 use Rattle.path_machine.proofs.Effecting.{gives}
@@ -17,4 +19,4 @@ returns-in-Some c = λ e s f below t clear.
     let a = c.in-Some.a in
     let within : IsClear h e s f (Return (Some a)) = subst (λ o. IsClear h e s f (Return o)) c.in-Some.is clear in
     let g = gives h e (Return (Some a)) within.given.typed a refl in
-    (refl, subst (λ o. MachineStands h sizes program c.give_result.new.machine (result_given (with_frames s below) f.found f.target (returned_value see o))) (sym c.in-Some.is) (c.give_result.ensures e s f below g.type t within g.returns g.argument))
+    (refl, subst (λ o. MachineStands h sizes program c.give_result.new.machine (result_given (with_frames s below) f.found f.target (option_map (argument_value see) o))) (sym c.in-Some.is) (c.give_result.ensures e s f below g.type t within g.returns g.argument))
