@@ -56,3 +56,12 @@ words_before_class h l (suc n) = words_before_class h l n + class_words h l (rec
 -- the words of all groups and VTTs
 abbrev pub words_of_all_classes : Classes → Places → ℕ
 words_of_all_classes h l = words_before_class h l (length h)
+
+-- the words of the VTTs of the first n classes
+abbrev pub vtts_before_class : Classes → Places → ℕ → ℕ
+vtts_before_class h l zero = 0
+vtts_before_class h l (suc n) = vtts_before_class h l n + vtt_words h l (record { 0 = n })
+
+-- the words of all VTTs, without those of groups
+abbrev pub words_of_all_vtts : Classes → Places → ℕ
+words_of_all_vtts h l = vtts_before_class h l (length h)

@@ -5,7 +5,7 @@ ghost use Rattle.cxx_subobject.specs.Subobjects.{IsSubobject, class_of};
 ghost use Rattle.abi_sound.specs.Places.{Places, places_of};
 ghost use Rattle.abi_slots.specs.Slots.{AreSlots};
 ghost use Rattle.abi_vtt.specs.Vtts.{HasDynamicClass};
-ghost use Rattle.abi_tables.specs.Counts.{AreVttLengths, words_of_all_classes, class_words, most_words, words_of_view};
+ghost use Rattle.abi_tables.specs.Counts.{AreVttLengths, words_of_all_classes, words_of_all_vtts, class_words, most_words, words_of_view};
 ghost use Rattle.abi_tables.specs.invariants.Weights.{AreNumbers, cut, head_words, sides_of};
 
 use crate::numbers::{MOST_WORDS, capped, sides_of};
@@ -122,7 +122,7 @@ fn all_words<L: SoundLayout>(
 
 /// The words of the VTTs of all classes, as far as the limit.
 fn vtt_words(h: &Hierarchy, lengths: &VttLengths) -> u32
-    ensures { (l : Places) → AreVttLengths h.now l lengths.now.lengths → result ≤ words_of_all_classes h.now l }
+    ensures { (l : Places) → AreVttLengths h.now l lengths.now.lengths → result ≡ cut (words_of_all_vtts h.now l) }
 {
     let mut sum = 0;
     for n in 0..h.len() {
@@ -134,10 +134,13 @@ fn vtt_words(h: &Hierarchy, lengths: &VttLengths) -> u32
 /// Whether the words of the VTTs alone are within the limit on all words. It asks for nothing that classes list, so that a
 /// hierarchy which passes the limit by far is refused at little cost.
 ///
-/// Errors: the limit L7, only where the words of all groups and VTTs are more than 1,048,576; want of memory.
+/// Errors: the limit L7 exactly where the words of the VTTs, without those of groups, are more than 1,048,576, so that the words
+/// of all groups and VTTs are more too; want of memory.
 pub fn check_vtts<L: SoundLayout>(alloc: Global, h: &Hierarchy, layout: &L) -> Result<(), Stop>
     requires { L.lays_out layout.now h.now }
-    ensures { IfErr result (λ stop. (stop ≡ Stop.NoMemory) ⊎ ((stop ≡ Stop.Limit LimitNo.L7) × (most_words < words_of_all_classes h.now (places_of h.now (L.rows layout.now))))) }
+    ensures few { OnOk result (words_of_all_vtts h.now (places_of h.now (L.rows layout.now)) ≤ most_words) }
+    ensures many { IfErr result (λ stop. (stop ≡ Stop.NoMemory) ⊎ ((stop ≡ Stop.Limit LimitNo.L7) × (most_words < words_of_all_vtts h.now (places_of h.now (L.rows layout.now))))) }
+    ensures right { IfErr result (λ stop. (stop ≡ Stop.NoMemory) ⊎ ((stop ≡ Stop.Limit LimitNo.L7) × (most_words < words_of_all_classes h.now (places_of h.now (L.rows layout.now))))) }
 {
     let lengths = VttLengths::new(alloc, h, layout)?;
     if vtt_words(h, &lengths) > MOST_WORDS {

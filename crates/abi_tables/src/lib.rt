@@ -5,8 +5,8 @@
 //! is made: a few numbers a class tell them. Only for a class with virtual bases are its views listed.
 //!
 //! This crate owns which groups a source has, and in which order (`Tables`), how many words they have by the heads of views
-//! (`Counts`), and the limit L7. The layer above may rely on: `check_words` refuses exactly where all words together pass the limit, and `check_vtts` only where
-//! they do, at the cost of a few numbers a class;
+//! (`Counts`), and the limit L7. The layer above may rely on: `check_words` refuses exactly where all words together pass the limit, and `check_vtts` exactly where
+//! those of the VTTs alone do, at the cost of a few numbers a class;
 //! `VttLengths` has the length of each class's VTT; `group_views` lists the views of a class that have a group; `class_tables` gives
 //! the tables of a class, and `build_tables` the groups of all classes, or the limit L7 exactly where they and the VTTs have too many
 //! words. By `counted` the numbers are those of the tables and of the VTTs themselves, and by `one_tables` and `some_tables` a class
