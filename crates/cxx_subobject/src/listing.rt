@@ -19,7 +19,9 @@ pub type SubobjectList = Sequence<Subobject>;
 pub fn longer_path(alloc: Global, path: &[ClassId], more: &[ClassId]) -> Result<ClassPath, NoMemory>
     ensures { IfOk result (λ p. p ≡ path.now ++ more.now) }
 {
-    let mut classes = Vec::from_slice(alloc, path)?;
+    // Room for all at once: a path that grows afterwards is copied twice.
+    let mut classes = Vec::with_capacity(alloc, path.len() + more.len())?;
+    classes.extend_from_slice(path)?;
     classes.extend_from_slice(more)?;
     Ok(Sequence::from_vec(classes))
 }
