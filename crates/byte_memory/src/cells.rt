@@ -86,8 +86,9 @@ fn cell_at(cells: &[Cell], number: usize) -> Cell
     cells[number]
 }
 
-/// The word in n cells from one on.
-pub fn read_word(cells: &[Cell], at: usize, n: u8) -> Word
+/// The word in n cells from one on, by a loop over the cells.
+#[inline(always)]
+fn gather(cells: &[Cell], at: usize, n: u8) -> Word
     requires within { at + n ≤ length cells.now }
     requires small { n ≤ 8 }
     ensures bits { (place : ℕ) → place < 8 * n → word_bit result place ≡ bits_in cells.now (8 * at + place) }
@@ -107,8 +108,25 @@ pub fn read_word(cells: &[Cell], at: usize, n: u8) -> Word
     }
 }
 
-/// Writes the low n bytes of a word into the cells from one on.
-pub fn write_word(cells: &mut [Cell], at: usize, n: u8, word: Word)
+/// The word in n cells from one on. The loop over the cells of a pointer or an `int` has a known end.
+#[inline(always)]
+pub fn read_word(cells: &[Cell], at: usize, n: u8) -> Word
+    requires within { at + n ≤ length cells.now }
+    requires small { n ≤ 8 }
+    ensures bits { (place : ℕ) → place < 8 * n → word_bit result place ≡ bits_in cells.now (8 * at + place) }
+    ensures value { result.value < 256 ^ n }
+    ensures set { result.set < 256 ^ n }
+{
+    match n {
+        8 => gather(cells, at, 8),
+        4 => gather(cells, at, 4),
+        _ => gather(cells, at, n),
+    }
+}
+
+/// Writes the low n bytes of a word into the cells from one on, by a loop over the cells.
+#[inline(always)]
+fn scatter(cells: &mut [Cell], at: usize, n: u8, word: Word)
     requires within { at + n ≤ length cells.old }
     requires small { n ≤ 8 }
     ensures { bits_in cells.new ≡ with_word (bits_in cells.old) at n word }
@@ -122,6 +140,20 @@ pub fn write_word(cells: &mut [Cell], at: usize, n: u8, word: Word)
             value: values[i],
             set: sets[i],
         };
+    }
+}
+
+/// Writes the low n bytes of a word into the cells from one on. The loop over the cells of a pointer or an `int` has a known end.
+#[inline(always)]
+pub fn write_word(cells: &mut [Cell], at: usize, n: u8, word: Word)
+    requires within { at + n ≤ length cells.old }
+    requires small { n ≤ 8 }
+    ensures { bits_in cells.new ≡ with_word (bits_in cells.old) at n word }
+{
+    match n {
+        8 => scatter(cells, at, 8, word),
+        4 => scatter(cells, at, 4, word),
+        _ => scatter(cells, at, n, word),
     }
 }
 

@@ -82,14 +82,14 @@ impl Memory for FlatMemory {
 
     fn load_bits(&self, at: u64, first: u8, bits: u8) -> Result<u64, MemoryFault> {
         let span = byte_span(first, bits);
-        check(&self.regions, at, span as u64)?;
+        check(&self.regions, 0, at, span as u64)?;
         let word = read_word(&self.cells, at as usize, span);
         number_in(word, first, bits).ok_or(MemoryFault::Unset(at))
     }
 
     fn store_bits(&mut self, at: u64, first: u8, bits: u8, value: u64) -> Result<(), MemoryFault> {
         let span = byte_span(first, bits);
-        check(&self.regions, at, span as u64)?;
+        check(&self.regions, 0, at, span as u64)?;
         let word = read_word(&self.cells, at as usize, span);
         let new = with_bits(word, first, bits, all_set(value));
         write_word(&mut self.cells, at as usize, span, new);
@@ -98,8 +98,8 @@ impl Memory for FlatMemory {
 
     fn copy_bits(&mut self, from: u64, to: u64, first: u8, bits: u8) -> Result<(), MemoryFault> {
         let span = byte_span(first, bits);
-        check(&self.regions, from, span as u64)?;
-        check(&self.regions, to, span as u64)?;
+        check(&self.regions, 0, from, span as u64)?;
+        check(&self.regions, 0, to, span as u64)?;
         let source = read_word(&self.cells, from as usize, span);
         let word = read_word(&self.cells, to as usize, span);
         let new = with_bits(word, first, bits, from_bit(source, first));

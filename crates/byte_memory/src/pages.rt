@@ -21,6 +21,10 @@ pub struct PageMemory {
     alloc: Global,
     regions: Vec<Region>,
     pages: Vec<Page>,
+    /// The number of the region that a copy read last. It is looked at first.
+    read: usize,
+    /// The number of the region that was written last. It is looked at first.
+    written: usize,
     ghost ascending: { IsAscending regions.items },
     ghost sizes: { All (λ region. 0 < region.size) regions.items },
     ghost total: { next_start regions.items ≤ 4096 + total_of regions.items },
@@ -44,6 +48,8 @@ impl PageMemory {
             alloc,
             regions: Vec::new(alloc),
             pages: Vec::new(alloc),
+            read: 0,
+            written: 0,
         }
     }
 
@@ -116,27 +122,30 @@ impl Memory for PageMemory {
 
     fn load_bits(&self, at: u64, first: u8, bits: u8) -> Result<u64, MemoryFault> {
         let span = byte_span(first, bits);
-        check(&self.regions, at, span as u64)?;
+        check(&self.regions, self.written, at, span as u64)?;
         let word = read_pages(&self.pages, at, span);
         number_in(word, first, bits).ok_or(MemoryFault::Unset(at))
     }
 
     fn store_bits(&mut self, at: u64, first: u8, bits: u8, value: u64) -> Result<(), MemoryFault> {
         let span = byte_span(first, bits);
-        check(&self.regions, at, span as u64)?;
+        let region = check(&self.regions, self.written, at, span as u64)?;
         let rest = read_rest(&self.pages, at, span, first, bits);
         let new = with_bits(rest, first, bits, all_set(value));
+        self.written = region;
         write_pages(&mut self.pages, at, span, new);
         Ok(())
     }
 
     fn copy_bits(&mut self, from: u64, to: u64, first: u8, bits: u8) -> Result<(), MemoryFault> {
         let span = byte_span(first, bits);
-        check(&self.regions, from, span as u64)?;
-        check(&self.regions, to, span as u64)?;
+        let read = check(&self.regions, self.read, from, span as u64)?;
+        let written = check(&self.regions, self.written, to, span as u64)?;
         let source = read_pages(&self.pages, from, span);
         let rest = read_rest(&self.pages, to, span, first, bits);
         let new = with_bits(rest, first, bits, from_bit(source, first));
+        self.read = read;
+        self.written = written;
         write_pages(&mut self.pages, to, span, new);
         Ok(())
     }

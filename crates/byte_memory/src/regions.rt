@@ -1,6 +1,6 @@
 //! Regions in the order of their addresses, and how one of them is found.
 
-ghost use Rattle.std.specs.Prelude.{◌≡◌, ℕ, ◌+◌, ◌<◌, ◌≤◌, All, length, map, slice_get, nat_le, Some, None, MatchResult, MatchOption};
+ghost use Rattle.std.specs.Prelude.{◌≡◌, ℕ, ◌+◌, ◌<◌, ◌≤◌, All, length, map, slice_get, nat_le, Some, None, MatchResult, MatchOption, true};
 ghost use Rattle.std.specs.List.{find};
 ghost use Rattle.byte_memory.specs.declared.memory.Region.{Region};
 ghost use Rattle.byte_memory.specs.Regions.{holds_bytes, starts, shut, fault_at, IsAscending, CountsStarts};
@@ -14,12 +14,17 @@ fn is_within(region: Region, at: u64, n: u64) -> bool
     region.start <= at && at - region.start <= region.size && n <= region.size - (at - region.start)
 }
 
-/// How many regions start there or below: a binary search.
+/// How many regions start there or below: all where the last one does, or else by a binary search.
 fn count_up_to(regions: &[Region], at: u64) -> usize
     requires { IsAscending regions.now }
     ensures bound { result ≤ length regions.now }
     ensures count { CountsStarts (λ region. region.start) regions.now at result }
 {
+    if let Some(last) = regions.last() {
+        if last.start <= at {
+            return regions.len();
+        }
+    }
     regions.partition_point(
         |region: &Region| -> bool
             ensures { result ≡ nat_le region.now.start at }
@@ -27,11 +32,13 @@ fn count_up_to(regions: &[Region], at: u64) -> usize
     )
 }
 
-/// The region that holds the n bytes from an address on.
-fn region_of(regions: &[Region], at: u64, n: u64) -> Option<Region>
+/// The number of the region that holds the n bytes from an address on, and the region.
+fn region_of(regions: &[Region], at: u64, n: u64) -> Option<(usize, Region)>
     requires ascending { IsAscending regions.now }
     requires some { 0 < n }
-    ensures { result ≡ find (holds_bytes at n) regions.now }
+    ensures { MatchOption result
+        (find (holds_bytes at n) regions.now ≡ None)
+        (λ found. find (holds_bytes at n) regions.now ≡ Some found.1) }
 {
     let count = count_up_to(regions, at);
     if count == 0 {
@@ -39,14 +46,29 @@ fn region_of(regions: &[Region], at: u64, n: u64) -> Option<Region>
     }
     let region = regions[count - 1];
     if is_within(region, at, n) {
-        Some(region)
+        Some((count - 1, region))
     } else {
         None
     }
 }
 
-/// Why the n bytes from an address on can't be reached, if so.
-pub fn check(regions: &[Region], at: u64, n: u64) -> Result<(), MemoryFault>
+/// Whether the region of that number is open, and holds the n bytes from an address on.
+#[inline(always)]
+fn is_reached_in(regions: &[Region], number: usize, at: u64, n: u64) -> bool
+    requires ascending { IsAscending regions.now }
+    requires some { 0 < n }
+    ensures { result ≡ true → fault_at regions.now at n ≡ None }
+{
+    if number >= regions.len() {
+        return false;
+    }
+    let region = regions[number];
+    is_within(region, at, n) && region.is_open
+}
+
+/// The number of the region in which the n bytes from an address on can be reached, or why they can't: by a search.
+#[inline(never)]
+fn search(regions: &[Region], at: u64, n: u64) -> Result<usize, MemoryFault>
     requires ascending { IsAscending regions.now }
     requires some { 0 < n }
     ensures { MatchResult result
@@ -55,14 +77,30 @@ pub fn check(regions: &[Region], at: u64, n: u64) -> Result<(), MemoryFault>
 {
     match region_of(regions, at, n) {
         None => Err(MemoryFault::Range(at)),
-        Some(region) => {
+        Some((number, region)) => {
             if region.is_open {
-                Ok(())
+                Ok(number)
             } else {
                 Err(MemoryFault::Closed(at))
             }
         }
     }
+}
+
+/// The number of the region in which the n bytes from an address on can be reached, or why they can't. The region of the number
+/// `hint` is looked at first.
+#[inline(always)]
+pub fn check(regions: &[Region], hint: usize, at: u64, n: u64) -> Result<usize, MemoryFault>
+    requires ascending { IsAscending regions.now }
+    requires some { 0 < n }
+    ensures { MatchResult result
+        (λ _. fault_at regions.now at n ≡ None)
+        (λ fault. fault_at regions.now at n ≡ Some fault) }
+{
+    if is_reached_in(regions, hint, at, n) {
+        return Ok(hint);
+    }
+    search(regions, at, n)
 }
 
 /// The number of the region that starts there, and the region.

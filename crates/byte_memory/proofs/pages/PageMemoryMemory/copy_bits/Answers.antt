@@ -9,13 +9,13 @@ use Rattle.byte_memory.proofs.pages.PageMemoryMemory.copy_bits.Goals as goal
 
 pub write_pages-requires-clause-there : goal.write_pages-requires-clause-there
 write_pages-requires-clause-there c k less =
-    let reach = rw c.deref-2.ensures.value at c.in_ok-check-2.ensures in
+    let reach = rw c.deref-2.ensures.value at c.in_ok-written.ensures in
     reached-kept c.args.self.now.regions.items c.args.self.now.pages.items c.args.to c.byte_span-span.result k c.args.self.now.kept reach less
 
 pub invariant_of-self : goal.invariant_of-self
 invariant_of-self c =
     let self = c.args.self.now in
-    let reach = rw c.deref-2.ensures.value at c.in_ok-check-2.ensures in
+    let reach = rw c.deref-2.ensures.value at c.in_ok-written.ensures in
     record {
       ascending = self.ascending;
       sizes = self.sizes;
@@ -34,8 +34,8 @@ returns c =
     let bit = reached_bits regions kept in
     let up = c.args.self.now.ascending in
     let span = c.byte_span-span.ensures in
-    let reach = rw c.deref.ensures.value at c.in_ok-check.ensures in
-    let reach' = rw c.deref-2.ensures.value at c.in_ok-check-2.ensures in
+    let reach = rw c.deref.ensures.value at c.in_ok-read.ensures in
+    let reach' = rw c.deref-2.ensures.value at c.in_ok-written.ensures in
     let from = ap (fault_at regions c.args.from) (sym span) ∙ reach in
     let to = ap (fault_at regions c.args.to) (sym span) ∙ reach' in
     let inside : copy_fault regions c.args.from c.args.to (byte_span c.args.first c.args.bits) ≡ None = rw (from, to) refl in

@@ -9,13 +9,13 @@ use Rattle.byte_memory.proofs.pages.PageMemoryMemory.store_bits.Goals as goal
 
 pub write_pages-requires-clause-there : goal.write_pages-requires-clause-there
 write_pages-requires-clause-there c k less =
-    let reach = rw c.deref.ensures.value at c.in_ok-check.ensures in
+    let reach = rw c.deref.ensures.value at c.in_ok-region.ensures in
     reached-kept c.args.self.now.regions.items c.args.self.now.pages.items c.args.at c.byte_span-span.result k c.args.self.now.kept reach less
 
 pub invariant_of-self : goal.invariant_of-self
 invariant_of-self c =
     let self = c.args.self.now in
-    let reach = rw c.deref.ensures.value at c.in_ok-check.ensures in
+    let reach = rw c.deref.ensures.value at c.in_ok-region.ensures in
     record {
       ascending = self.ascending;
       sizes = self.sizes;
@@ -34,7 +34,7 @@ returns c =
     let bit = reached_bits regions kept in
     let up = c.args.self.now.ascending in
     let span = c.byte_span-span.ensures in
-    let reach = rw c.deref.ensures.value at c.in_ok-check.ensures in
+    let reach = rw c.deref.ensures.value at c.in_ok-region.ensures in
     let inside : fault_at regions c.args.at (byte_span c.args.first c.args.bits) ≡ None = ap (fault_at regions c.args.at) (sym span) ∙ reach in
     let read = rw c.deref-2.ensures.value at c.read_rest-rest.ensures in
     let made = rw c.all_set.ensures at c.with_bits-new.ensures in
