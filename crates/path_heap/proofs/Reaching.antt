@@ -24,7 +24,7 @@ use Rattle.path_plan.proofs.Order.{order_has}
 use Rattle.path_numbers.specs.Sizes.{sizes_of, member_offset, shared_offset}
 use Rattle.path_numbers.specs.Nodes.{Node, node, shared_kid, element_kid, Under, here, deeper, LeafAt}
 use Rattle.path_numbers.specs.Heap.{IsAt, root_at}
-use Rattle.path_numbers.specs.Numbers.{base_number, shared_number, path_number}
+use Rattle.path_numbers.specs.Numbers.{base_number, shared_number, path_number, rooted_number, subobject_number}
 use Rattle.path_numbers.proofs.Sized.{sizes_are}
 use Rattle.path_numbers.proofs.Ways.{under_through, path_arrives}
 use Rattle.path_numbers.proofs.Leaves.{leaf_own}
@@ -177,6 +177,43 @@ shared_reached h heap s stands n p q begun c class cell is _ (shared w path has 
     shared_base_reached h heap s stands n p q begun c class cell is w path has leads far step k
     (subst (λ t. HasVirtualBase h cell.owner t → far ≡ shared_number h cell.owner t) (sym same) far_told)
     (subst (λ t. Leads h t path → step ≡ path_number h t path % 2 ^ 32) (sym same) (subst (λ t. Leads h v t → step ≡ path_number h v t % 2 ^ 32) list_is told)) k_is
+
+-- a number below 2 ^ 32, and one that is behind another
+in_range : (x a : ℕ) → x < 2 ^ 32 → x ≡ a → x ≡ a % 2 ^ 32
+in_range x a lt is = omega arith
+
+behind : (x near a b : ℕ) → x < 2 ^ 32 → near ≡ a → x ≡ a + b → x - near ≡ b % 2 ^ 32
+behind x near a b lt near_is is = omega arith
+
+-- the class that the cell of a part tells
+cell_class : (h : Classes) (heap : Heap) (s : Objects) → HeapStands h heap s → (n : ℕ) (p : ObjectPart) → Points h s.classes n p → HasBegun s p → (c : ClassId) → class_of p.at ≡ Some c → (cell : Cell) → cell ≡ cell_at heap n → cell.class ≡ c
+cell_class h heap s stands n p q begun c class cell is =
+    let y = q.node in
+    let own : class_of y.part.at ≡ Some y.class = (at_good h (sizes_of h) s.classes y q.at).class in
+    let same : y.class ≡ c = let f = ap (λ (t : ObjectPart). class_of t.at) q.is_part in cc in
+    class_node h heap s stands n p q begun cell is ∙ same
+
+-- a base by its number in a complete object of the part's class
+pub numbered_whole : (h : Classes) (heap : Heap) (s : Objects) → HeapStands h heap s → (n : ℕ) (p : ObjectPart) → Points h s.classes n p → HasBegun s p → (c : ClassId) → class_of p.at ≡ Some c
+    → (i : Subobject) → IsSubobject h c i → i.root ≡ Whole → (x k : ℕ) → x < 2 ^ 32 → x ≡ subobject_number h c i → k ≡ (n + x) % 2 ^ 32 → Points h s.classes k (inner_part p i)
+numbered_whole h heap s stands n p q begun c class i sub root x k small x_is k_is =
+    let cell = cell_at heap n in
+    let same = cell_class h heap s stands n p q begun c class cell refl in
+    let e : subobject_number h c i ≡ path_number h c (tail_of i.path) = ap (λ r. rooted_number h c r (tail_of i.path)) root in
+    let f : path_number h c (tail_of i.path) ≡ path_number h cell.class (tail_of i.path) = ap (λ d. path_number h d (tail_of i.path)) (sym same) in
+    let t : x ≡ path_number h cell.class (tail_of i.path) % 2 ^ 32 = in_range x (path_number h cell.class (tail_of i.path)) small (x_is ∙ (e ∙ f)) in
+    base_reached h heap s stands n p q begun c class cell refl i sub root (tail_of i.path) refl x k (λ leads. t) k_is
+
+pub numbered_shared : (h : Classes) (heap : Heap) (s : Objects) → HeapStands h heap s → (n : ℕ) (p : ObjectPart) → Points h s.classes n p → HasBegun s p → (c : ClassId) → class_of p.at ≡ Some c → (cell : Cell) → cell ≡ cell_at heap n
+    → (i : Subobject) → IsSubobject h c i → (v : ClassId) → i.root ≡ Shared v → (far near x k : ℕ) → (HasVirtualBase h cell.owner v → far ≡ shared_number h cell.owner v) → (HasVirtualBase h c v → near ≡ shared_number h c v) → x < 2 ^ 32 → x ≡ subobject_number h c i
+    → k ≡ (cell.whole + (far + (x - near)) % 2 ^ 32) % 2 ^ 32 → Points h s.classes k (inner_part p i)
+numbered_shared h heap s stands n p q begun c class cell is _ (whole path leads) v root far near x k far_told near_told small x_is k_is = absurd (cc)
+numbered_shared h heap s stands n p q begun c class cell is _ (shared w path has leads) v root far near x k far_told near_told small x_is k_is =
+    let same : w ≡ v = cc in
+    let near_is = near_told (subst (λ t. HasVirtualBase h c t) same has) in
+    let x_sum : x ≡ shared_number h c v + path_number h v path = x_is ∙ ap (λ t. shared_number h c t + path_number h t path) same in
+    let t : x - near ≡ path_number h v path % 2 ^ 32 = behind x near (shared_number h c v) (path_number h v path) small near_is x_sum in
+    shared_reached h heap s stands n p q begun c class cell is (subobject (Shared w) (w ∷ path)) (shared w path has leads) v root path refl far (x - near) k far_told (λ more. t) k_is
 
 whole_turns : (x y a b n : ℕ) → x ≡ a → y ≡ b % 2 ^ 32 → n ≡ (x + y) % 2 ^ 32 → n ≡ (a + b) % 2 ^ 32
 whole_turns x y a b n e f is = omega arith

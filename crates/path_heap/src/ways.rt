@@ -9,7 +9,7 @@ ghost use Rattle.cxx_subobject.specs.Locations.{IsElement};
 ghost use Rattle.path_plan.specs.Places.{ObjectPart, element};
 ghost use Rattle.path_plan.specs.Plans.{InFull};
 ghost use Rattle.path_numbers.specs.Sizes.{sizes_of, member_offset};
-ghost use Rattle.path_numbers.specs.Numbers.{AreClassNumbers};
+ghost use Rattle.path_numbers.specs.Numbers.{AreClassNumbers, subobject_number};
 ghost use Rattle.path_model.specs.Values.{Objects, inner_part};
 ghost use Rattle.path_model.specs.Places.{leaf};
 ghost use Rattle.path_heap.specs.Points.{Points, PointsLeaf};
@@ -132,6 +132,32 @@ impl Heap {
             Root::Shared(v) => cell.whole.wrapping_add(shared_distance(
                 numbers, h, cell.owner, v,
             ).wrapping_add(path_distance(numbers, h, v, path))),
+        }
+    }
+
+    /// The number of a subobject of a part that has begun, by its number x in a complete object of the part's class c. No path is
+    /// walked: only a virtual base may stand elsewhere, behind the complete object that the part belongs to.
+    pub fn numbered_base(
+        &self,
+        numbers: &Numbers,
+        h: &Hierarchy,
+        n: u32,
+        c: ClassId,
+        i: &Subobject,
+        x: u32,
+    ) -> u32
+        requires { AreClassNumbers h.now numbers.now }
+        ensures { (s : Objects) (p : ObjectPart) → HeapStands h.now self.now s → Points h.now s.classes n p → HasBegun s p → class_of p.at ≡ Some c → IsSubobject h.now c i.now → x ≡ subobject_number h.now c i.now → Points h.now s.classes result (inner_part p i.now) }
+    {
+        match i.root {
+            Root::Whole => n.wrapping_add(x),
+            Root::Shared(v) => {
+                let cell = self.cell(n);
+                let far = shared_distance(numbers, h, cell.owner, v);
+                let near = shared_distance(numbers, h, c, v);
+                cell.whole
+                    .wrapping_add(far.wrapping_add(x.saturating_sub(near)))
+            }
         }
     }
 

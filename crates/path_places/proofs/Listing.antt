@@ -2,7 +2,7 @@
 use Rattle.std.proofs.Common.{◌≡◌, ℕ, ◌+◌, ◌*◌, ◌%◌, ◌^◌, ◌<◌, ◌≤◌, Option, Some, List, [], ◌++◌, length, take, get_or, map, refl, ap, subst, sym, ◌∙◌, arith}
 use Rattle.std.specs.Prelude.{slice_get}
 use Rattle.std.specs.List.{AllZip, flat_map}
-use Rattle.std.proofs.lemmas.List.{take_more, take_all}
+use Rattle.std.proofs.lemmas.List.{get_or-map, take_more, take_all}
 use Rattle.std.proofs.Math.Nat.{mod-eq_of_lt}
 use Rattle.cxx_hierarchy.specs.declared.records.ClassId.{ClassId}
 use Rattle.cxx_hierarchy.specs.declared.records.Member.{Member}
@@ -34,6 +34,8 @@ use Rattle.path_heap.specs.declared.heap.Heap.{Heap}
 use Rattle.path_heap.specs.Points.{Points, PointsLeaf}
 use Rattle.path_heap.specs.Stands.{HeapStands, HasBegun}
 use Rattle.path_heap.proofs.Viewing.{at_less}
+use Rattle.path_tables.specs.declared.parts.PartList.{PartList}
+use Rattle.path_tables.specs.Parts.{IsPartList}
 use Rattle.path_heap.proofs.Reaching.{at_below}
 use Rattle.path_places.specs.invariants.Leaves.{Grows, base_leaves, element_leaves, leaves_in, IsNumberedPart, ListsBases, ListsMembers, IsMemberAt, ListsMember, ListsElements, ListsWhole, ListsOwn, ListsPart}
 use Rattle.path_places.proofs.Growing.{zip_map, grows_none, grows_pushed, grows_next, grows_counted, flat_more}
@@ -213,14 +215,22 @@ bases_step h keeps c k list j x is lt at d told number number_told old mid new b
 pub part_none : (h : Classes) (heap : Heap) (n : ℕ) (c : ClassId) (leaves : List ℕ) → leaves ≡ [] → ListsPart h heap n c [] leaves
 part_none h heap n c leaves e = record { lists = λ s p stands q begun class. subst (λ (l : List ℕ). AllZip (PointsLeaf h s.classes) l []) (sym e) tt }
 
+-- what stands at a place among the numbers of a list is the number of the subobject at that place
+pub number_listed : (h : Classes) (c : ClassId) (list : PartList) (parts : List Subobject) (numbers : List ℕ) → IsPartList h c list → parts ≡ list.parts → numbers ≡ list.numbers.items
+    → (i : ℕ) (x : Subobject) → i < length parts → x ≡ get_or parts i x → (k : ℕ) → k ≡ get_or numbers i 0 → k ≡ subobject_number h c x
+number_listed h c list parts numbers told e f i x lt at k k_is =
+    let here : x ≡ get_or (preorder h c) i x = at ∙ ap (λ (l : List Subobject). get_or l i x) (e ∙ told.parts) in
+    let within : i < length (preorder h c) = subst (λ (l : List Subobject). i < length l) (e ∙ told.parts) lt in
+    k_is ∙ (ap (λ (l : List ℕ). get_or l i 0) (f ∙ told.numbers) ∙ (get_or-map (subobject_number h c) (preorder h c) i x 0 within ∙ ap (subobject_number h c) (sym here)))
+
 pub part_next : (h : Classes) (heap : Heap) (n : ℕ) (c : ClassId) (list : List Subobject) (j : ℕ) (x : Subobject) → list ≡ preorder h c → j < length list → x ≡ get_or list j x → (d : ClassId) → ((e : ClassId) → class_of x ≡ Some e → d ≡ e)
-    → (start : ℕ) → ((s : Objects) (p : ObjectPart) (e : ClassId) → HeapStands h heap s → Points h s.classes n p → HasBegun s p → class_of p.at ≡ Some e → IsSubobject h e x → Points h s.classes start (inner_part p x))
+    → (start : ℕ) → ((s : Objects) (p : ObjectPart) → HeapStands h heap s → Points h s.classes n p → HasBegun s p → class_of p.at ≡ Some c → IsSubobject h c x → Points h s.classes start (inner_part p x))
     → (mid new : List ℕ) → ListsPart h heap n c (take j list) mid → ListsOwn h d start mid new → ListsPart h heap n c (take (j + 1) list) new
 part_next h heap n c list j x is lt at d told start reached mid new before one = record {
   lists = λ s p stands q begun p_class.
       let valid = valid_at h c list j x is lt at in
       let class = class_found h c d x valid told in
-      let z = reached s p c stands q begun p_class valid in
+      let z = reached s p stands q begun p_class valid in
       let z_class : Some z.node.class ≡ Some d =
       sym (at_good h (sizes_of h) s.classes z.node z.at).class ∙ (ap (λ (t : ObjectPart). class_of t.at) z.is_part ∙ (join_class h c p.at x p_class valid ∙ class)) in
       let there : IsNumberedPart h s.classes d start z.node = record { few = stands.counts.few; at = z.at; class = cc; number = z.is_number } in

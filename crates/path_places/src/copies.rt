@@ -1,17 +1,16 @@
 //! The copy of a part.
 
-ghost use Rattle.std.specs.Prelude.{◌≡◌, IfOk, OnOk};
-ghost use Rattle.cxx_subobject.specs.Preorder.{preorder};
+ghost use Rattle.std.specs.Prelude.{IfOk, OnOk};
+ghost use Rattle.path_tables.specs.Parts.{IsPartList};
 ghost use Rattle.path_tables.specs.Worlds.{IsWorld};
 ghost use Rattle.path_places.specs.invariants.Stores.{ReadsAll, StoresAll};
 ghost use Rattle.path_places.specs.PartCopies.{CopiesPart};
 
 use crate::leaves::leaf_numbers;
 use cxx_hierarchy::ClassId;
-use cxx_subobject::Subobject;
 use foundation::NoMemory;
 use path_heap::{Heap, Value};
-use path_tables::World;
+use path_tables::{PartList, World};
 use std::alloc::Global;
 
 /// The values of some leaves.
@@ -39,8 +38,8 @@ fn store_all(heap: &mut Heap, leaves: &[u32], values: &[Value]) -> Result<(), No
     Ok(())
 }
 
-/// Each leaf of one part takes the old value of the same leaf of another one, both of class c, whose subobjects in preorder these
-/// are: `*to = *from` (ISO C++03 12.8 p13).
+/// Each leaf of one part takes the old value of the same leaf of another one, both of class c, whose subobjects with their numbers
+/// these are: `*to = *from` (ISO C++03 12.8 p13).
 ///
 /// Errors: want of memory. The heap is then of no use.
 pub fn copy(
@@ -50,14 +49,14 @@ pub fn copy(
     c: ClassId,
     to: u32,
     from: u32,
-    bases: &[Subobject],
+    list: &PartList,
 ) -> Result<(), NoMemory>
     requires world { IsWorld world.now }
-    requires bases { bases.now ≡ preorder world.now.h.now c }
+    requires list { IsPartList world.now.h.now c list.now }
     ensures { OnOk result (CopiesPart world.now.h.now heap.old heap.new c to from) }
 {
-    let leaves = leaf_numbers(alloc, world, heap, to, c, bases)?;
-    let sources = leaf_numbers(alloc, world, heap, from, c, bases)?;
+    let leaves = leaf_numbers(alloc, world, heap, to, c, list)?;
+    let sources = leaf_numbers(alloc, world, heap, from, c, list)?;
     let values = values_of(alloc, heap, &sources)?;
     store_all(heap, &leaves, &values)?;
     Ok(())

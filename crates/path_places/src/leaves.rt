@@ -1,17 +1,17 @@
 //! The numbers of the leaves of a part.
 
-ghost use Rattle.std.specs.Prelude.{◌≡◌, ◌+◌, ◌<◌, ◌%◌, ◌^◌, ◌++◌, Some, IfOk, OnOk, length, map};
+ghost use Rattle.std.specs.Prelude.{◌≡◌, ◌+◌, ◌<◌, ◌%◌, ◌^◌, ◌++◌, Some, IfOk, OnOk, get_or, length, map};
 ghost use Rattle.std.specs.List.{AllZip};
 ghost use Rattle.cxx_hierarchy.specs.declared.records.ClassId.{ClassId};
 ghost use Rattle.cxx_hierarchy.specs.declared.records.FieldType.TheVariants.{Object};
 ghost use Rattle.cxx_subobject.specs.Subobjects.{class_of};
-ghost use Rattle.cxx_subobject.specs.Preorder.{preorder};
 ghost use Rattle.path_plan.specs.Places.{ObjectPart};
 ghost use Rattle.path_plan.specs.Plans.{upto};
 ghost use Rattle.path_model.specs.Values.{Objects};
 ghost use Rattle.path_model.specs.Places.{leaves_of};
 ghost use Rattle.path_heap.specs.Points.{Points, PointsLeaf};
 ghost use Rattle.path_heap.specs.Stands.{HeapStands, HasBegun};
+ghost use Rattle.path_tables.specs.Parts.{IsPartList};
 ghost use Rattle.path_tables.specs.Worlds.{IsWorld};
 ghost use Rattle.path_places.specs.invariants.Leaves.{ListsWhole, ListsOwn, ListsMember, ListsElements};
 
@@ -19,7 +19,7 @@ use cxx_hierarchy::{ClassId, FieldType, Member};
 use cxx_subobject::{Subobject, class_of, put_subobjects};
 use foundation::{NoMemory, Sequence};
 use path_heap::Heap;
-use path_tables::World;
+use path_tables::{PartList, World};
 use std::alloc::Global;
 
 /// The class of a subobject; the first one where there is none.
@@ -132,8 +132,15 @@ fn push_whole(
     Ok(())
 }
 
-/// The numbers of the leaves of a part that has begun, of class c, whose subobjects in preorder these are: those of each subobject,
-/// each virtual base once, and in each the members and elements in order.
+/// A number of a list; 0 past its end.
+fn number_at(numbers: &[u32], i: usize) -> u32
+    ensures { result ≡ get_or numbers.now i 0 }
+{
+    numbers.get(i).copied().unwrap_or(0)
+}
+
+/// The numbers of the leaves of a part that has begun, of class c, whose subobjects with their numbers these are: those of each
+/// subobject, each virtual base once, and in each the members and elements in order.
 ///
 /// Errors: want of memory.
 pub fn leaf_numbers(
@@ -142,10 +149,10 @@ pub fn leaf_numbers(
     heap: &Heap,
     n: u32,
     c: ClassId,
-    bases: &[Subobject],
+    list: &PartList,
 ) -> Result<Vec<u32>, NoMemory>
     requires world { IsWorld world.now }
-    requires bases { bases.now ≡ preorder world.now.h.now c }
+    requires list { IsPartList world.now.h.now c list.now }
     ensures { IfOk result (λ leaves. (s : Objects) (p : ObjectPart) → HeapStands world.now.h.now heap.now s → Points world.now.h.now s.classes n p → HasBegun s p → class_of p.at ≡ Some c → AllZip (PointsLeaf world.now.h.now s.classes) leaves.items (leaves_of world.now.h.now c p)) }
 {
     let mut leaves = Vec::new(alloc);
@@ -153,9 +160,10 @@ pub fn leaf_numbers(
         return Ok(leaves);
     }
     world.h.keeps();
-    for base in bases {
+    for (i, base) in list.parts.as_slice().iter().enumerate() {
         let d = class_or_first(base);
-        let start = heap.base(world.numbers, world.h, n, base);
+        let number = number_at(&list.numbers, i);
+        let start = heap.numbered_base(world.numbers, world.h, n, c, base, number);
         push_own(alloc, world, d, start, &mut leaves)?;
     }
     Ok(leaves)

@@ -9,7 +9,7 @@ ghost use Rattle.cxx_subobject.specs.Subobjects.{class_of};
 ghost use Rattle.cxx_subobject.specs.Preorder.{preorder};
 ghost use Rattle.cxx_search.specs.Searches.{is_within, is_of_class, cast_in, final_in};
 ghost use Rattle.cxx_overrider.specs.Overriding.{IsVirtual};
-ghost use Rattle.path_tables.specs.Parts.{IsNumbered, number_where_found, numbered_overrider, derived_in};
+ghost use Rattle.path_tables.specs.Parts.{IsNumbered, IsPartList, number_where_found, numbered_overrider, derived_in};
 ghost use Rattle.path_tables.specs.Kept.{IsDownAnswer};
 ghost use Rattle.path_tables.specs.Asked.{AreAnswers, IsListed};
 ghost use Rattle.path_tables.specs.Worlds.{IsWorld};
@@ -22,6 +22,7 @@ use crate::kept::{
     CastKey, CastTable, DownKey, DownTable, FinalKey, FinalTable, WithinKey, WithinTable,
 };
 use crate::lists::ListTable;
+use crate::parts::PartList;
 use crate::ways::{below_first, path_at};
 use crate::world::World;
 use cxx_hierarchy::ClassId;
@@ -250,11 +251,11 @@ impl Answers {
         Ok(())
     }
 
-    /// The subobjects of a class in preorder, of which the list was made.
-    pub fn listed(&self, c: ClassId) -> &[Subobject]
+    /// The subobjects of a class in preorder, with their numbers, of which the list was made.
+    pub fn listed(&self, c: ClassId) -> &PartList
         requires { IsListed self.now c }
-        ensures { (h : Classes) → AreAnswers h self.now → result.now ≡ preorder h c }
+        ensures { (h : Classes) → AreAnswers h self.now → IsPartList h c result.now }
     {
-        self.lists.list(c).parts.as_slice()
+        self.lists.list(c)
     }
 }

@@ -1,5 +1,4 @@
-use Rattle.std.proofs.Common.{◌∙◌}
 use Rattle.path_tables.proofs.asked.Answers.listed.Goals as goal
 
 pub returns : goal.returns
-returns c = λ h right. c.as_slice.ensures ∙ (right.lists_right.right c.args.c.0 c.list.result.now c.list.ensures).parts
+returns c = λ h right. right.lists_right.right c.args.c.0 c.list.result.now c.list.ensures
