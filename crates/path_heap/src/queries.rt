@@ -1,6 +1,6 @@
 //! What the heap tells of a part.
 
-ghost use Rattle.std.specs.Prelude.{◌≡◌, Some, Option, length, slice_get};
+ghost use Rattle.std.specs.Prelude.{◌≡◌, ◌<◌, Some, Option, length, slice_get};
 ghost use Rattle.cxx_hierarchy.specs.declared.records.ClassId.{ClassId};
 ghost use Rattle.cxx_hierarchy.specs.Classes.{Classes};
 ghost use Rattle.cxx_subobject.specs.Subobjects.{class_of};
@@ -56,9 +56,10 @@ impl Heap {
         }
     }
 
-    /// The number of the heap object of a part.
+    /// The number of the heap object of a part. Fewer than 2 ^ 32 objects are kept (`few` of the heap), so that a number is left behind it.
     pub fn object(&self, n: u32) -> u32
-        ensures { (h : Classes) (s : Objects) (p : ObjectPart) → HeapStands h self.now s → Points h s.classes n p → p.object ≡ result }
+        ensures is { (h : Classes) (s : Objects) (p : ObjectPart) → HeapStands h self.now s → Points h s.classes n p → p.object ≡ result }
+        ensures small { result < 4294967295 }
     {
         self.object_at(n)
     }

@@ -270,15 +270,12 @@ fn dump_whole(
 
 /// The dump of the whole heap object of a part: its number from 1, its class, and each of its leaves with its value.
 ///
-/// Errors: want of memory, also for the heap object behind which no number of 32 bits is left.
+/// Errors: want of memory.
 pub fn dump(alloc: Global, world: &World, heap: &Heap, n: u32) -> Result<Out, NoMemory>
     requires { IsWorld world.now }
     ensures { IfOk result (λ told. (s : Objects) (p : ObjectPart) → HeapStands world.now.h.now heap.now s → Points world.now.h.now s.classes n p → Some told ≡ object_out world.now.h.now s p.object (slice_get s.classes p.object)) }
 {
     let object = heap.object(n);
-    if object == u32::MAX {
-        return Err(NoMemory);
-    }
     let class = heap.object_class(n);
     let site = Site {
         world,

@@ -103,15 +103,12 @@ fn walk(
 
 /// The location of a part.
 ///
-/// Errors: want of memory, also for the heap object behind which no number of 32 bits is left.
+/// Errors: want of memory.
 pub fn location(alloc: Global, world: &World, heap: &Heap, n: u32) -> Result<Location, NoMemory>
     requires { IsWorld world.now }
     ensures { IfOk result (λ location. (s : Objects) (p : ObjectPart) → HeapStands world.now.h.now heap.now s → Points world.now.h.now s.classes n p → location ≡ location_of s p) }
 {
     let object = heap.object(n);
-    if object == u32::MAX {
-        return Err(NoMemory);
-    }
     let class = heap.object_class(n);
     let rest = n.wrapping_sub(heap.heap_object(n));
     let whole = complete(alloc, class)?;
