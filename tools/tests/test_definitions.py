@@ -9,9 +9,7 @@ from lib import program
 
 CRATES = os.path.join(program.TOP, "crates")
 DEFINED = r"^(?:unfoldable |abbrev )?pub (?:abbrev |record |data )?(\S+?)(?= (?::|\(|\{))"
-LONGEST = 380
-LONG = 300
-FEW = 5
+LONGEST = 300
 
 
 def crate_of(path):
@@ -48,7 +46,6 @@ class Definitions(unittest.TestCase):
         lengths = [(len(clause), path) for path, text in texts(os.path.join("src", "**", "*.rt")) for clause in clauses(text)]
         self.assertGreater(len(lengths), 4000)
         self.assertLessEqual(max(lengths)[0], LONGEST, max(lengths)[1])
-        self.assertLessEqual(sum(length > LONG for length, _ in lengths), FEW, [path for length, path in sorted(lengths)[-FEW - 2:]])
 
 
 if __name__ == "__main__":

@@ -17,8 +17,7 @@ ghost use Rattle.abi_slots.specs.Images.{point_words};
 ghost use Rattle.abi_slots.specs.Seen.{PlacedTables};
 ghost use Rattle.abi_vtt.specs.Vtts.{VttEntry, item, needs_word, extended_by, ends_in_primary, vtt_items};
 ghost use Rattle.abi_vtt.specs.Blocks.{block, StandsIn, block_distance, shared_distance, item_number, table_run, run_distance, IsFirstRun, IsFoundByClass};
-ghost use Rattle.abi_vtt.specs.VttImages.{PlacedGroups, HasSubVtt};
-ghost use Rattle.abi_vtt.specs.VttLaws.{FirstRunsHavePoints, WholeVttsStand, SharedVttsStand};
+ghost use Rattle.abi_vtt.specs.VttLaws.{FirstRunsHavePoints, WholeVttsStand, BaseVttsStand, SharedVttsStand};
 
 /// The law on which construction rests, in any hierarchy and for any places. In the VTT of a class its own sub-VTT stands
 /// first (`whole`). Wherever the sub-VTT of a view stands, that of a direct non-virtual base with virtual bases stands a
@@ -61,6 +60,6 @@ pub fn each_found()
 /// table that serves its subobject in the group of its view (`HasItem`).
 pub fn vtt_in_image()
     ensures whole { (h : Classes) (l : Places) → WholeVttsStand h l }
-    ensures base { (h : Classes) (l : Places) (placed : PlacedGroups) (c : ClassId) (x : Subobject) (d b v : ClassId) (at : ℕ) → IsHierarchy h → IsDirectBase h d false b → HasVirtualBase h b v → HasSubVtt h l placed c x d at → HasSubVtt h l placed c (extended_by x b) b (at + 8 * block_distance h l d b) }
+    ensures base { (h : Classes) (l : Places) → BaseVttsStand h l }
     ensures shared { (h : Classes) (l : Places) → SharedVttsStand h l }
 {}

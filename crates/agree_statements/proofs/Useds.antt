@@ -16,7 +16,7 @@ use Rattle.cxx_program.specs.declared.operand.TypedOperand.TheVariants.{Variable
 use Rattle.cxx_program.specs.declared.operand.Conversion.{Conversion}
 use Rattle.cxx_program.specs.declared.operand.Argument.{Argument}
 use Rattle.cxx_program.specs.declared.statement.Arithmetic.{Arithmetic as Operator}
-use Rattle.cxx_program.specs.Typed.{Scope, HasType, of_variable, of_this, of_number, Converts, to_number, to_same, to_base, IsArgument, a_value, a_null, IsKept, whole, in_bits}
+use Rattle.cxx_program.specs.Typed.{Scope, HasType, of_variable, of_this, of_number, Converts, to_number, to_same, to_base, IsArgument, a_value, a_null, IsKept, whole as kept_whole, in_bits}
 use Rattle.path_rules.specs.declared.Undefined.{Undefined}
 use Rattle.path_rules.specs.declared.Undefined.TheVariants.{NullUse, Dangling, NotReady, OutsideView, Unset as UnsetUse, Overflow}
 use Rattle.path_rules.specs.Rules.{undefined_no}
@@ -205,7 +205,7 @@ module _ (w : World) (see : Sight) (b : Running) (P : Running → Stop → Type 
   -- and of one that a leaf of some width keeps
   pub along_kept : (block : Block) (r : ℕ) (width : Option ℕ) (a : Argument) (t : ValueType ClassId) → IsTypedSight (world_classes w) block.scope see → TellsViews w see.objects b → Within (argument_uses see a) → IsKept (world_classes w) block.scope width a t → Holds (operand_register r a.operand) (value_of_operand see a.operand) →
       Goes (argument_uses see a) (argument_used block a r)
-  along_kept block r _ _ _ typed tells within (whole a t is) holds = along_argument block r a t typed tells within is holds
+  along_kept block r _ _ _ typed tells within (kept_whole a t is) holds = along_argument block r a t typed tells within is holds
   along_kept block r _ _ _ typed tells within (in_bits a n u t has is) holds =
       along_append (fixed w) b P (world_classes w) see.objects all (Reads (value_of_operand see a.operand) ∷ []) (convert (value_of_operand see a.operand) a.conversion) (reads block.scope r a.operand) (convert_used (operand_class block.scope a.operand) a.conversion (operand_register r a.operand))
       (along_reads block.scope r a.operand (NumberType u) typed has holds)

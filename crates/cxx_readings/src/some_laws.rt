@@ -1,24 +1,21 @@
 //! Laws: the tokens of a text are those of a source, or they have a first event; and what a source says of its bodies and names.
 
-ghost use Rattle.std.specs.Prelude.{◌≡◌, ◌≤◌, ◌⊎◌, List, Option, Some, ℕ, length, slice_get};
+ghost use Rattle.std.specs.Prelude.{◌≡◌, ◌≤◌, List, Option, Some, ℕ, length, slice_get};
 ghost use Rattle.cxx_text.specs.declared.token.Token.{Token};
 ghost use Rattle.cxx_text.specs.declared.token.Kind.TheVariants.{Word};
 ghost use Rattle.cxx_text.specs.OneToken.{IsToken};
 ghost use Rattle.cxx_text.specs.Cover.{AreTokens, max_text_bytes};
 ghost use Rattle.cxx_grammar.specs.declared.sort.Lexeme.{Lexeme};
-ghost use Rattle.cxx_grammar.specs.Grammar.{source_form};
 ghost use Rattle.cxx_grammar.specs.Lexemes.{lexemes, source_start};
-ghost use Rattle.cxx_grammar.specs.Event.{Event, DerivesPrefix, at_start};
 ghost use Rattle.cxx_hierarchy.specs.declared.records.ClassRec.{ClassRec};
-ghost use Rattle.cxx_hierarchy.specs.declared.stop.Stop.{Stop};
 ghost use Rattle.cxx_syntax.specs.declared.source_text.SourceText.{SourceText};
 ghost use Rattle.cxx_syntax.specs.Parts.{Spelled};
-ghost use Rattle.cxx_syntax.specs.Sources.{SourceReads};
+ghost use Rattle.cxx_syntax.specs.Sources.{SourceReads, ReadsOrStops};
 ghost use Rattle.cxx_syntax.specs.Owners.{AreBodiesOf};
 
 /// The tokens of a text of at most 262,144 bytes are those of a source, or they have a first event.
 pub fn some_source_text()
-    ensures { (text : List ℕ) (ts : List Token) (bad : Option ℕ) → length text ≤ max_text_bytes → AreTokens text ts bad → ((s : SourceText) × (rest : List Lexeme) × SourceReads text s (lexemes text source_start ts bad) rest × DerivesPrefix source_form at_start (lexemes text source_start ts bad) rest) ⊎ ((e : Stop) × Event source_form at_start (lexemes text source_start ts bad) e) }
+    ensures { (text : List ℕ) (ts : List Token) (bad : Option ℕ) → length text ≤ max_text_bytes → AreTokens text ts bad → ReadsOrStops text (lexemes text source_start ts bad) }
 {}
 
 /// The bodies of a source are those of its records: record by record, one for each function that is not pure, each

@@ -1,10 +1,13 @@
 -- Which tokens a source stands for: each case is a form of a production.
-use Rattle.std.specs.Prelude.{◌≡◌, ℕ, Bool, true, false, List, [], ◌∷◌, Option, Some, None, length, filter_map, flat_map, ◌++◌}
+use Rattle.std.specs.Prelude.{◌≡◌, ◌⊎◌, ℕ, Bool, true, false, List, [], ◌∷◌, Option, Some, None, length, filter_map, flat_map, ◌++◌}
 use Rattle.cxx_grammar.specs.declared.sort.Sort.{Sort}
 use Rattle.cxx_grammar.specs.declared.sort.Sort.TheVariants.{Struct, Class, Int, Main, Semicolon, OpenBrace, CloseBrace, OpenParen, CloseParen, End}
 use Rattle.cxx_grammar.specs.declared.sort.Lexeme.{Lexeme}
 use Rattle.cxx_grammar.specs.Front.{Is, IsName}
 use Rattle.cxx_grammar.specs.Lexemes.{bytes_of}
+use Rattle.cxx_grammar.specs.Grammar.{source_form}
+use Rattle.cxx_grammar.specs.Event.{Event, DerivesPrefix, at_start}
+use Rattle.cxx_hierarchy.specs.declared.stop.Stop.{Stop}
 use Rattle.cxx_hierarchy.specs.declared.records.Base.{Base}
 use Rattle.cxx_hierarchy.specs.declared.records.ValueType.{ValueType}
 use Rattle.cxx_hierarchy.specs.declared.records.ClassRec.{ClassRec}
@@ -100,3 +103,9 @@ pub record AreItemsOf (s : SourceText) (is : List Item) : Type 0 where
 pub data SourceReads (text : List ℕ) (s : SourceText) : List Lexeme → List Lexeme → Type 0 where
   a_source : {is : List Item} {ts a rest : List Lexeme} {e : Lexeme} →
       ItemsRead text is ts a → Is End e a rest → AreItemsOf s is → SourceReads text s ts rest
+
+-- the tokens are those of a source, which the grammar has, or they have a first event
+abbrev pub ReadsOrStops : List ℕ → List Lexeme → Type 0
+ReadsOrStops text ts =
+    ((s : SourceText) × (rest : List Lexeme) × SourceReads text s ts rest × DerivesPrefix source_form at_start ts rest) ⊎
+    ((e : Stop) × Event source_form at_start ts e)

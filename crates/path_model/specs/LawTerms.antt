@@ -44,6 +44,10 @@ IsBodyOnTop h sizes program n g below = (state_at h sizes program n).frames ≡ 
 abbrev pub FitsAfter : Classes → (ClassId → ℕ) → TypedProgram → (n : ℕ) → PartEvent → Type 0
 FitsAfter h sizes program n e = Fits h (state_at h sizes program n).objects.phases e
 
+-- the next event of the plan under a body on top can happen
+abbrev pub FitsBehindBody : Classes → (ClassId → ℕ) → TypedProgram → (n : ℕ) → RunningBody → Planned → PartEvent → List PartEvent → List Frame → Type 0
+FitsBehindBody h sizes program n g f e es below = IsBodyOnTop h sizes program n g (InPlan f ∷ below) → f.events ≡ e ∷ es → FitsAfter h sizes program n e
+
 -- what runs first, if anything does, is the body of `main`
 abbrev pub MainIsMain : TypedProgram → Type 0
 MainIsMain program = (body : TypedBody) → program.main ≡ Some body → body.owner ≡ Main

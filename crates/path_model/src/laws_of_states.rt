@@ -15,13 +15,13 @@ ghost use Rattle.path_model.specs.States.{RunningBody, Planned, Frame, InPlan, o
 ghost use Rattle.path_model.specs.Typed.{AllSettled};
 ghost use Rattle.path_model.specs.Steps.{body_owner, class_of_part};
 ghost use Rattle.path_model.specs.Runs.{state_at};
-ghost use Rattle.path_model.specs.LawTerms.{WasMade, IsPlanAtWork, IsFreeOfPlans, IsBodyOnTop, FitsAfter, MainIsMain, StandsOnConstruction, StandsOnDestruction, IsStillOpen, WasClosed};
+ghost use Rattle.path_model.specs.LawTerms.{WasMade, IsPlanAtWork, IsFreeOfPlans, IsBodyOnTop, FitsAfter, FitsBehindBody, MainIsMain, StandsOnConstruction, StandsOnDestruction, IsStillOpen, WasClosed};
 
 /// The next event of the plan on top fits, and so does that of a plan whose body is on top. The events of a plan are
 /// those of parts of its frame's heap object, which was made.
 pub fn plans_fit()
     ensures next { (h : Classes) (sizes : ClassId → ℕ) (program : TypedProgram) (n : ℕ) (f : Planned) (e : PartEvent) (es : List PartEvent) (below : List Frame) → IsHierarchy h → (state_at h sizes program n).frames ≡ InPlan f ∷ below → f.events ≡ e ∷ es → FitsAfter h sizes program n e }
-    ensures behind_body { (h : Classes) (sizes : ClassId → ℕ) (program : TypedProgram) (n : ℕ) (g : RunningBody) (f : Planned) (e : PartEvent) (es : List PartEvent) (below : List Frame) → IsHierarchy h → IsBodyOnTop h sizes program n g (InPlan f ∷ below) → f.events ≡ e ∷ es → FitsAfter h sizes program n e }
+    ensures behind_body { (h : Classes) (sizes : ClassId → ℕ) (program : TypedProgram) (n : ℕ) (g : RunningBody) (f : Planned) (e : PartEvent) (es : List PartEvent) (below : List Frame) → IsHierarchy h → FitsBehindBody h sizes program n g f e es below }
     ensures made { (h : Classes) (sizes : ClassId → ℕ) (program : TypedProgram) (n : ℕ) (f : Planned) → IsHierarchy h → IsPlanAtWork h sizes program n f → (c : ClassId) × WasMade h sizes program n f.object c }
     ensures inside { (h : Classes) (sizes : ClassId → ℕ) (program : TypedProgram) (n : ℕ) (f : Planned) (e : PartEvent) → IsHierarchy h → IsPlanAtWork h sizes program n f → Contains f.events e → (c : ClassId) × WasMade h sizes program n f.object c × IsPartWithin h (part_of e) (whole_part f.object c) }
 {}

@@ -10,7 +10,7 @@ use Rattle.cxx_hierarchy.specs.Classes.{Classes, bases_of, members_of}
 use Rattle.cxx_subobject.specs.declared.Subobject.{Subobject}
 use Rattle.cxx_hierarchy.specs.Declarations.{elements_of}
 use Rattle.path_plan.specs.Places.{Step, ObjectPart, base_part, shared_part, element, same_complete_object}
-use Rattle.path_plan.specs.Phases.{Phases, PartEvent, Begin, Ready, Init, Body, Done, Ending, Bases, End, part_of}
+use Rattle.path_plan.specs.Phases.{Phases, PartEvent, Begin, Ready, Init, Body, Done, Ending, Bases, End, part_of, phases_after}
 use Rattle.path_plan.specs.Plans.{Bodies, Form, InFull, AsBase, Inner, upto, backwards, virtual_order}
 
 -- an event of the part itself, or the plan of another part
@@ -139,3 +139,9 @@ AreWaiting (f ∷ frames) = IsWaiting f.part f.left × AreWaiting frames
 -- the stacks of all complete objects are the frames that run
 abbrev pub IsStackOf : List Pending → Phases → Type 0
 IsStackOf frames s = (k : ℕ) (o : List Step) → s.running k o ≡ stack_of frames k o
+
+-- Where the pieces of e's part wait above those below, and the frames that run are the stacks: they are so again after e,
+-- when the pieces behind it are opened.
+abbrev pub StackGoesOn : (Form → ClassId → ObjectPart → List Piece) → ObjectPart → PartEvent → List Piece → List Pending → Phases → Type 0
+StackGoesOn pieces p e left below s =
+    AreWaiting (own_next p e left below) → IsStackOf (own_next p e left below) s → IsStackOf (opened_pieces pieces p left below) (phases_after s e)

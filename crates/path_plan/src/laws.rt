@@ -8,13 +8,13 @@ ghost use Rattle.cxx_subobject.specs.declared.Subobject.{Subobject};
 ghost use Rattle.cxx_subobject.specs.Subobjects.{IsSubobject, class_of, join, whole_of};
 ghost use Rattle.cxx_subobject.specs.Locations.{IsPartOf};
 ghost use Rattle.path_plan.specs.Places.{Step, ObjectPart, IsPartWithin, part};
-ghost use Rattle.path_plan.specs.Phases.{Phases, PartEvent, phases_after, is_complete, is_ready};
+ghost use Rattle.path_plan.specs.Phases.{Phases, PartEvent, is_complete, is_ready};
 ghost use Rattle.path_plan.specs.Plans.{Bodies, Form, built_by, ended_by, plan, unplan};
 ghost use Rattle.path_plan.specs.Mirrors.{exchanged, mirrored};
 ghost use Rattle.path_plan.specs.Views.{Settled, view};
 ghost use Rattle.path_plan.specs.Whole.{IsNew, StandsWhole, IsBuilt, IsUnbuilt, construction, destruction, whole_part};
 ghost use Rattle.path_plan.specs.Runs.{Run, Reached, SettledAt, FitsAt};
-ghost use Rattle.path_plan.specs.Pieces.{Piece, Pending, pending, own_next, AreWaiting, IsStackOf, built_pieces, ended_pieces, opened_pieces, rest_of_plan};
+ghost use Rattle.path_plan.specs.Pieces.{Piece, Pending, pending, own_next, AreWaiting, IsStackOf, built_pieces, ended_pieces, opened_pieces, rest_of_plan, StackGoesOn};
 ghost use Rattle.path_plan.specs.Worked.{declared_in_three, diamond, diamond_built, diamond_ended, holder, holder_built, holder_ended, nth_class};
 
 /// The plans of a heap object are coherent and settled, and do what they are for: a construction completes all parts of
@@ -65,7 +65,7 @@ pub fn constructions_by_frames()
     ensures first { (h : Classes) (bodies : Bodies) (form : Form) (c : ClassId) (p : ObjectPart) (below : List Pending) → AreWaiting below → AreWaiting (pending p (built_pieces h bodies form c p) ∷ below) }
     ensures waiting { (h : Classes) (bodies : Bodies) (p : ObjectPart) (e : PartEvent) (left : List Piece) (below : List Pending) → AreWaiting (own_next p e left below) → AreWaiting (opened_pieces (built_pieces h bodies) p left below) }
     ensures idle { (h : Classes) (bodies : Bodies) (form : Form) (c : ClassId) (p : ObjectPart) (below : List Pending) (s : Phases) → IsStackOf below s → IsStackOf (pending p (built_pieces h bodies form c p) ∷ below) s }
-    ensures stack { (h : Classes) (bodies : Bodies) (p : ObjectPart) (e : PartEvent) (left : List Piece) (below : List Pending) (s : Phases) → AreWaiting (own_next p e left below) → IsStackOf (own_next p e left below) s → IsStackOf (opened_pieces (built_pieces h bodies) p left below) (phases_after s e) }
+    ensures stack { (h : Classes) (bodies : Bodies) (p : ObjectPart) (e : PartEvent) (left : List Piece) (below : List Pending) (s : Phases) → StackGoesOn (built_pieces h bodies) p e left below s }
 {}
 
 /// The same of a destruction.
@@ -75,7 +75,7 @@ pub fn destructions_by_frames()
     ensures first { (h : Classes) (bodies : Bodies) (form : Form) (c : ClassId) (p : ObjectPart) (below : List Pending) → AreWaiting below → AreWaiting (pending p (ended_pieces h bodies form c p) ∷ below) }
     ensures waiting { (h : Classes) (bodies : Bodies) (p : ObjectPart) (e : PartEvent) (left : List Piece) (below : List Pending) → AreWaiting (own_next p e left below) → AreWaiting (opened_pieces (ended_pieces h bodies) p left below) }
     ensures idle { (h : Classes) (bodies : Bodies) (form : Form) (c : ClassId) (p : ObjectPart) (below : List Pending) (s : Phases) → IsStackOf below s → IsStackOf (pending p (ended_pieces h bodies form c p) ∷ below) s }
-    ensures stack { (h : Classes) (bodies : Bodies) (p : ObjectPart) (e : PartEvent) (left : List Piece) (below : List Pending) (s : Phases) → AreWaiting (own_next p e left below) → IsStackOf (own_next p e left below) s → IsStackOf (opened_pieces (ended_pieces h bodies) p left below) (phases_after s e) }
+    ensures stack { (h : Classes) (bodies : Bodies) (p : ObjectPart) (e : PartEvent) (left : List Piece) (below : List Pending) (s : Phases) → StackGoesOn (ended_pieces h bodies) p e left below s }
 {}
 
 /// Two worked objects: a diamond, and an array of a class with a virtual base. Virtual bases come first and once in each
