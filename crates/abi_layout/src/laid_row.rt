@@ -61,7 +61,7 @@ fn holder_list(
     requires { (v n : ℕ) → get_or holders.now v None ≡ Some n → n < length list.now }
     ensures { IfOk result (λ held. held ≡ map (λ (v : ClassId). held_at list.now (get_or holders.now v.0 None)) virtuals.now) }
 {
-    let mut held = Sequence::new(alloc);
+    let mut held = Sequence::from_vec(Vec::with_capacity(alloc, virtuals.len())?);
     for v in virtuals {
         held.push(holder_at(alloc, list, holders, *v)?)?;
     }

@@ -147,7 +147,7 @@ fn put_frees(free: &[PlacedBase], places: &[u32], table: &mut [u32])
 fn table_places(alloc: Global, table: &[u32], virtuals: &[ClassId]) -> Result<PlaceList, NoMemory>
     ensures { IfOk result (λ places. places ≡ map (λ (v : ClassId). get_or table.now v.0 0) virtuals.now) }
 {
-    let mut places = Sequence::new(alloc);
+    let mut places = Sequence::from_vec(Vec::with_capacity(alloc, virtuals.len())?);
     for v in virtuals {
         places.push(table_place(table, *v))?;
     }
