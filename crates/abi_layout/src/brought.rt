@@ -1,7 +1,8 @@
 //! What a base brings where it is placed (Itanium C++ ABI 2.4).
 
-ghost use Rattle.std.specs.Prelude.{◌≡◌, ◌+◌, ◌<◌, ◌≤◌, ◌++◌, ◌∷◌, [], false, Contains, IfOk, OnOk, map, length, slice_get};
+ghost use Rattle.std.specs.Prelude.{◌≡◌, ◌+◌, ◌<◌, ◌≤◌, ◌++◌, ◌∷◌, [], false, Contains, IfOk, OnOk, IsTrue, IfSome, map, length, slice_get};
 ghost use Rattle.cxx_hierarchy.specs.Classes.{bases_of};
+ghost use Rattle.cxx_subobject.specs.Subobjects.{shared_base};
 ghost use Rattle.abi_emptybase.specs.Table.{moved_part};
 ghost use Rattle.abi_sound.specs.Places.{direct_base_place};
 ghost use Rattle.abi_layout.specs.Placements.{nvsize_in};
@@ -11,7 +12,7 @@ ghost use Rattle.abi_layout.specs.Brought.{base_brings, virtual_brings, brought_
 ghost use Rattle.abi_layout.specs.invariants.Scenes.{IsLayoutScene};
 
 use crate::component::{PartList, push_moved};
-use crate::scene::{Scene, held_base};
+use crate::scene::{Scene, held_base, holder};
 use abi_emptybase::Part;
 use abi_sound::ClassLayout;
 use abi_sound::places::{number_of_base, place_of_number};
@@ -19,6 +20,28 @@ use cxx_hierarchy::{Base, ClassId, Hierarchy};
 use cxx_subobject::{Root, Subobject, put_below, put_shared};
 use foundation::{NoMemory, Sequence};
 use std::alloc::Global;
+
+/// Whether a subobject is the one that a virtual base is.
+fn is_shared_base(s: &Subobject, v: ClassId) -> bool
+    ensures { IsTrue result → s.now ≡ shared_base v }
+{
+    match s.root {
+        Root::Whole => false,
+        Root::Shared(w) => match s.path.as_slice() {
+            [c] => w.0 == v.0 && c.0 == v.0,
+            _ => false,
+        },
+    }
+}
+
+/// The subobject behind the holder of a virtual base in the list, where it is that virtual base.
+fn behind_holder<'a>(scene: &Scene<'a>, v: ClassId) -> Option<&'a Subobject>
+    ensures { IfSome result (λ s. s.now ≡ shared_base v) }
+{
+    let number = holder(scene.holders, v)?.checked_add(1)?;
+    let s = scene.list.get(number)?;
+    if is_shared_base(s, v) { Some(s) } else { None }
+}
 
 /// The place of a direct non-virtual base in its class.
 pub(crate) fn base_place(h: &Hierarchy, rows: &[ClassLayout], d: ClassId, b: ClassId) -> u32
@@ -79,6 +102,10 @@ fn bring_virtual(
 {
     match held_base(scene, s, d) {
         Some(v) => {
+            if let Some(listed) = behind_holder(scene, v) {
+                bring(alloc, scene, listed, v, at, parts)?;
+                return Ok(());
+            }
             let mut inner = Subobject {
                 root: Root::Whole,
                 path: Sequence::new(alloc),
