@@ -9,3 +9,4 @@ pub mod Steps
 pub mod EntryRuns
 pub mod Offsets
 pub mod TableWords
+pub mod Paths

@@ -1,6 +1,6 @@
 //! The subobjects of a view: where they lie, and the next of each one's chain.
 
-ghost use Rattle.std.specs.Prelude.{◌≡◌, ◌<◌, ◌≤◌, ◌↔◌, ◌++◌, ◌∷◌, [], ℕ, IsTrue, IfOk, IfSome, MatchOption, Some, None, length, slice_get, slice_index_or};
+ghost use Rattle.std.specs.Prelude.{◌≡◌, ◌<◌, ◌≤◌, ◌↔◌, ◌++◌, ◌∷◌, [], ◌&&◌, nat_eq, take, ℕ, IsTrue, IfOk, IfSome, MatchOption, Some, None, length, slice_get, slice_index_or};
 ghost use Rattle.cxx_hierarchy.specs.declared.records.ClassId.{ClassId};
 ghost use Rattle.cxx_hierarchy.specs.Classes.{Classes};
 ghost use Rattle.cxx_subobject.specs.declared.Subobject.{Subobject};
@@ -74,20 +74,48 @@ fn number_of(list: &[Subobject], target: &Subobject, near: usize) -> Option<usiz
     }
 }
 
+/// A truth value, and false where two classes differ. It has no branch, so that many classes of two paths are compared at a time.
+fn and_same(same: bool, c: ClassId, d: ClassId) -> bool
+    ensures { result ≡ (same && nat_eq c.0 d.0) }
+{
+    if c.0 == d.0 { same } else { false }
+}
+
+/// The class at a place of a path.
+fn class_in(path: &[ClassId], n: usize) -> ClassId
+    requires { n < length path.now }
+    ensures { slice_get path.now n ≡ Some result }
+{
+    path[n]
+}
+
+/// Whether a path begins as another one, which is no longer. Both are read to the end of that one.
+fn begins_as(path: &[ClassId], front: &[ClassId]) -> bool
+    requires { length front.now ≤ length path.now }
+    ensures { result ≡ same_path (take (length front.now) path.now) front.now }
+{
+    let mut same = true;
+    for i in 0..front.len() {
+        let c = class_in(path, i);
+        let d = class_in(front, i);
+        same = and_same(same, c, d);
+    }
+    same
+}
+
 /// Whether one path is another with a class behind it.
 fn is_path_below(path: &[ClassId], front: &[ClassId], last: ClassId) -> bool
     ensures { result ≡ same_path path.now (front.now ++ last ∷ []) }
 {
-    match front {
-        [] => match path {
-            [] => false,
-            [c, rest @ ..] => c.0 == last.0 && rest.is_empty(),
-        },
-        [d, front @ ..] => match path {
-            [] => false,
-            [c, path @ ..] => c.0 == d.0 && is_path_below(path, front, last),
-        },
+    let count = front.len();
+    if path.len() != count + 1 {
+        return false;
     }
+    let end = class_in(path, count);
+    if end.0 != last.0 {
+        return false;
+    }
+    begins_as(path, front)
 }
 
 /// Whether a subobject is the base of a class that another one has for its own. It takes no memory.
