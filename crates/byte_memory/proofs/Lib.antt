@@ -9,6 +9,7 @@ pub mod BitNumbers
 pub mod Numbers
 pub mod Copies
 pub mod ByteViews
+pub mod WordBits
 pub mod PageBits
 pub mod Tables
 pub mod Adding

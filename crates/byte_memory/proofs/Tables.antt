@@ -10,7 +10,7 @@ use Rattle.std.proofs.lemmas.Option.{slice_get_within, get_or_from_slice_get}
 use Rattle.byte_memory.specs.declared.cells.Word.{Word}
 use Rattle.byte_memory.specs.declared.page.Page.{Page}
 use Rattle.byte_memory.specs.Bits.{has_bit, is_among_places}
-use Rattle.byte_memory.specs.Words.{word_bit, bits_in, with_word}
+use Rattle.byte_memory.specs.Words.{word_bit, words_bits, with_word}
 use Rattle.byte_memory.specs.Regions.{IsAscendingBy}
 use Rattle.byte_memory.specs.Pages.{numbered, page_bit, bits_of, users_of, released, AreUsedAs, AreFresh}
 use Rattle.byte_memory.proofs.BitLists.{has_bit-shifted}
@@ -105,7 +105,7 @@ find-remove (p ∷ pages) (suc at) old number up here = by_test (numbered number
 
 -- the bits after a word was written into a page
 pub bits_of-set : (pages : List Page) (at : ℕ) (old new : Page) (from n : ℕ) (word : Word) → AreOrdered pages → slice_get pages at ≡ Some old → find (numbered old.number) pages ≡ Some old → new.number ≡ old.number → from + n ≤ 4096 →
-    bits_in new.cells.items ≡ with_word (bits_in old.cells.items) from n word →
+    words_bits new.words.items ≡ with_word (words_bits old.words.items) from n word →
     bits_of (set pages at new) ≡ with_word (bits_of pages) (4096 * old.number + from) n word
 bits_of-set pages at old new from n word up here found same inside e = λ j place. pointwise place j
   where
@@ -113,14 +113,14 @@ bits_of-set pages at old new from n word up here found same inside e = λ j plac
     in_page place number true t =
         let test : is_among_places (8 * (4096 * old.number + from)) (8 * n) place ≡ true = grind (arith, nat_tests) in
         let there : place % 32768 - 8 * from ≡ place - 8 * (4096 * old.number + from) = omega arith in
-        let new_bit : bits_in new.cells.items (place % 32768) ≡ with_word (bits_in old.cells.items) from n word (place % 32768) = ap (λ f. f (place % 32768)) e in
-        let written : bits_in new.cells.items (place % 32768) ≡ word_bit word (place % 32768 - 8 * from) = rw t at new_bit in
+        let new_bit : words_bits new.words.items (place % 32768) ≡ with_word (words_bits old.words.items) from n word (place % 32768) = ap (λ f. f (place % 32768)) e in
+        let written : words_bits new.words.items (place % 32768) ≡ word_bit word (place % 32768 - 8 * from) = rw t at new_bit in
         rw test (written ∙ ap (word_bit word) there)
     in_page place number false t =
         let test : is_among_places (8 * (4096 * old.number + from)) (8 * n) place ≡ false = grind (arith, nat_tests) in
-        let new_bit : bits_in new.cells.items (place % 32768) ≡ with_word (bits_in old.cells.items) from n word (place % 32768) = ap (λ f. f (place % 32768)) e in
-        let kept : bits_in new.cells.items (place % 32768) ≡ bits_in old.cells.items (place % 32768) = rw t at new_bit in
-        let before : bits_of pages place ≡ bits_in old.cells.items (place % 32768) = ap (λ q. page_bit (find (numbered q) pages) (place % 32768)) number ∙ ap (λ p. page_bit p (place % 32768)) found in
+        let new_bit : words_bits new.words.items (place % 32768) ≡ with_word (words_bits old.words.items) from n word (place % 32768) = ap (λ f. f (place % 32768)) e in
+        let kept : words_bits new.words.items (place % 32768) ≡ words_bits old.words.items (place % 32768) = rw t at new_bit in
+        let before : bits_of pages place ≡ words_bits old.words.items (place % 32768) = ap (λ q. page_bit (find (numbered q) pages) (place % 32768)) number ∙ ap (λ p. page_bit p (place % 32768)) found in
         rw test (kept ∙ sym before)
 
     by_test : (place : ℕ) (z : Bool) → nat_eq (place / 32768) old.number ≡ z → page_bit (if z then Some new else find (numbered (place / 32768)) pages) (place % 32768) ≡ with_word (bits_of pages) (4096 * old.number + from) n word place
@@ -146,12 +146,12 @@ found_number (p ∷ pages) number page e = by_test (numbered number p) refl (fou
     by_test false t rest e = rest e
 
 -- a page with other users is the same whatever the proofs of its bounds
-pub page_same : (page : Page) (users : ℕ) (short : length page.cells.items ≤ 4096) (room : 4096 ≤ vec_capacity page.cells) →
-    record page { users = users } ≡ record { number = page.number; users = users; cells = page.cells; short = short; room = room }
+pub page_same : (page : Page) (users : ℕ) (short : length page.words.items ≤ 512) (room : 512 ≤ vec_capacity page.words) →
+    record page { users = users } ≡ record { number = page.number; users = users; words = page.words; short = short; room = room }
 page_same page users short room =
-    let one : IsProp (length page.cells.items ≤ 4096) = hlevel props in
-    let other : IsProp (4096 ≤ vec_capacity page.cells) = hlevel props in
-    λ i. record { number = page.number; users = users; cells = page.cells; short = one page.short short i; room = other page.room room i }
+    let one : IsProp (length page.words.items ≤ 512) = hlevel props in
+    let other : IsProp (512 ≤ vec_capacity page.words) = hlevel props in
+    λ i. record { number = page.number; users = users; words = page.words; short = one page.short short i; room = other page.room room i }
 
 -- what is found after the page of a number was changed as f says
 pub changed-set : (f : Option Page → Option Page) (pages : List Page) (at : ℕ) (old new : Page) (number other : ℕ) → AreOrdered pages → slice_get pages at ≡ Some old → find (numbered number) pages ≡ Some old → new.number ≡ old.number → f (Some old) ≡ Some new →
@@ -218,8 +218,8 @@ pub release-none : (first other : ℕ) (old : Option Page) → old ≡ (if is_am
 release-none first other old = let test : is_among_places first 0 other ≡ false = grind (arith, nat_tests) in rw test refl
 
 -- one more fresh page
-pub AreFresh-push : (pages : List Page) (first k : ℕ) (page : Page) → AreFresh pages first k → page.number ≡ first + k → page.users ≡ 1 → page.cells.items ≡ [] → AreFresh (pages ++ page ∷ []) first (k + 1)
-AreFresh-push pages first k page fresh number users cells = record {
+pub AreFresh-push : (pages : List Page) (first k : ℕ) (page : Page) → AreFresh pages first k → page.number ≡ first + k → page.users ≡ 1 → page.words.items ≡ [] → AreFresh (pages ++ page ∷ []) first (k + 1)
+AreFresh-push pages first k page fresh number users words = record {
   count = length_push pages page ∙ ap (λ n. n + 1) fresh.count;
   each = λ i p there. ⊎_elim
       (λ new. let same : page.number ≡ p.number = ap (λ (q : Page). q.number) new.1 in omega (arith, new.0, same, fresh.count))
@@ -231,7 +231,7 @@ AreFresh-push pages first k page fresh number users cells = record {
 }
   where
     empty : (place : ℕ) → page_bit (Some page) place ≡ None
-    empty place = rw cells refl
+    empty place = rw words refl
 
     unset : (i place : ℕ) (found : Option Page) → slice_get (pages ++ page ∷ []) i ≡ found → page_bit found place ≡ None
     unset i place None e = refl

@@ -2,7 +2,7 @@ use Rattle.std.specs.Prelude.{◌≡◌, ℕ, ◌+◌, ◌-◌, ◌*◌, ◌/◌
 use Rattle.std.specs.List.{find, list_any}
 use Rattle.byte_memory.specs.declared.memory.Region.{Region}
 use Rattle.byte_memory.specs.declared.page.Page.{Page}
-use Rattle.byte_memory.specs.Words.{bits_in}
+use Rattle.byte_memory.specs.Words.{words_bits}
 use Rattle.byte_memory.specs.Regions.{fault_at, rounded, IsAscendingBy}
 use Rattle.byte_memory.specs.Bits.{is_among_places}
 
@@ -31,7 +31,7 @@ numbered number page = nat_eq page.number number
 -- a bit of a page, None where it is unset or there is no page
 abbrev pub page_bit : Option Page → ℕ → Option Bool
 page_bit None place = None
-page_bit (Some page) place = bits_in page.cells.items place
+page_bit (Some page) place = words_bits page.words.items place
 
 -- the bits of pages, where bit i of the byte at an address a has the place 8 * a + i
 abbrev pub bits_of : List Page → ℕ → Option Bool

@@ -21,6 +21,7 @@ pub struct Word {
 }
 
 /// The word of a value, with each of its bits set.
+#[inline(always)]
 pub fn all_set(value: u64) -> Word
     ensures { result ≡ record { value = value; set = 18446744073709551615 } }
 {
@@ -31,6 +32,7 @@ pub fn all_set(value: u64) -> Word
 }
 
 /// A number with so many of its bits, from one on, as the lowest of another number are.
+#[inline(always)]
 fn replaced(word: u64, first: u8, bits: u8, from: u64) -> u64
     requires some { 0 < bits }
     requires word { first + bits ≤ 64 }
@@ -41,6 +43,7 @@ fn replaced(word: u64, first: u8, bits: u8, from: u64) -> u64
 }
 
 /// The word with so many of its bits, from one on, as the lowest of another word are.
+#[inline(always)]
 pub fn with_bits(word: Word, first: u8, bits: u8, from: Word) -> Word
     requires some { 0 < bits }
     requires word { first + bits ≤ 64 }
@@ -53,6 +56,7 @@ pub fn with_bits(word: Word, first: u8, bits: u8, from: Word) -> Word
 }
 
 /// The number in so many bits of a word, from one on, or None where one of them is unset.
+#[inline(always)]
 pub fn number_in(word: Word, first: u8, bits: u8) -> Option<u64>
     requires some { 0 < bits }
     requires word { first + bits ≤ 64 }
@@ -68,8 +72,9 @@ pub fn number_in(word: Word, first: u8, bits: u8) -> Option<u64>
 }
 
 /// The bits of a word from one on, as the lowest of a word.
+#[inline(always)]
 pub fn from_bit(word: Word, first: u8) -> Word
-    requires { first < 8 }
+    requires { first < 64 }
     ensures { (place : ℕ) → word_bit result place ≡ word_bit word (first + place) }
 {
     Word {
@@ -86,9 +91,8 @@ fn cell_at(cells: &[Cell], number: usize) -> Cell
     cells[number]
 }
 
-/// The word in n cells from one on, by a loop over the cells.
-#[inline(always)]
-fn gather(cells: &[Cell], at: usize, n: u8) -> Word
+/// The word in n cells from one on.
+pub fn read_word(cells: &[Cell], at: usize, n: u8) -> Word
     requires within { at + n ≤ length cells.now }
     requires small { n ≤ 8 }
     ensures bits { (place : ℕ) → place < 8 * n → word_bit result place ≡ bits_in cells.now (8 * at + place) }
@@ -108,25 +112,8 @@ fn gather(cells: &[Cell], at: usize, n: u8) -> Word
     }
 }
 
-/// The word in n cells from one on. The loop over the cells of a pointer or an `int` has a known end.
-#[inline(always)]
-pub fn read_word(cells: &[Cell], at: usize, n: u8) -> Word
-    requires within { at + n ≤ length cells.now }
-    requires small { n ≤ 8 }
-    ensures bits { (place : ℕ) → place < 8 * n → word_bit result place ≡ bits_in cells.now (8 * at + place) }
-    ensures value { result.value < 256 ^ n }
-    ensures set { result.set < 256 ^ n }
-{
-    match n {
-        8 => gather(cells, at, 8),
-        4 => gather(cells, at, 4),
-        _ => gather(cells, at, n),
-    }
-}
-
-/// Writes the low n bytes of a word into the cells from one on, by a loop over the cells.
-#[inline(always)]
-fn scatter(cells: &mut [Cell], at: usize, n: u8, word: Word)
+/// Writes the low n bytes of a word into the cells from one on.
+pub fn write_word(cells: &mut [Cell], at: usize, n: u8, word: Word)
     requires within { at + n ≤ length cells.old }
     requires small { n ≤ 8 }
     ensures { bits_in cells.new ≡ with_word (bits_in cells.old) at n word }
@@ -140,20 +127,6 @@ fn scatter(cells: &mut [Cell], at: usize, n: u8, word: Word)
             value: values[i],
             set: sets[i],
         };
-    }
-}
-
-/// Writes the low n bytes of a word into the cells from one on. The loop over the cells of a pointer or an `int` has a known end.
-#[inline(always)]
-pub fn write_word(cells: &mut [Cell], at: usize, n: u8, word: Word)
-    requires within { at + n ≤ length cells.old }
-    requires small { n ≤ 8 }
-    ensures { bits_in cells.new ≡ with_word (bits_in cells.old) at n word }
-{
-    match n {
-        8 => scatter(cells, at, 8, word),
-        4 => scatter(cells, at, 4, word),
-        _ => scatter(cells, at, n, word),
     }
 }
 

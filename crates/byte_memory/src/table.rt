@@ -8,7 +8,7 @@ ghost use Rattle.byte_memory.specs.Words.{word_bit, with_word};
 ghost use Rattle.byte_memory.specs.Regions.{IsAscendingBy, CountsStarts};
 ghost use Rattle.byte_memory.specs.Pages.{numbered, bits_of, users_of, claimed, released, AreFresh, AreAdded, AreUsedAs};
 
-use crate::cells::Word;
+use crate::cells::{Word, with_bits};
 use crate::page::{PAGE_BYTES, Page, read_page, write_page};
 use std::alloc::{AllocError, Global};
 
@@ -79,9 +79,7 @@ fn read_part(pages: &[Page], number: u64, at: usize, n: u8) -> Word
     requires ascending { IsAscendingBy (λ page. page.number) (λ page. 1) pages.now }
     requires short { n ≤ 8 }
     requires inside { at + n ≤ 4096 }
-    ensures bits { (place : ℕ) → place < 8 * n → word_bit result place ≡ bits_of pages.now (32768 * number + 8 * at + place) }
-    ensures value { result.value < 256 ^ n }
-    ensures set { result.set < 256 ^ n }
+    ensures { (place : ℕ) → place < 8 * n → word_bit result place ≡ bits_of pages.now (32768 * number + 8 * at + place) }
 {
     match index_of(pages, number) {
         None => Word { value: 0, set: 0 },
@@ -125,15 +123,10 @@ pub fn read_rest(pages: &[Page], at: u64, n: u8, first: u8, bits: u8) -> Word
 fn joined(low: Word, high: Word, n: u8) -> Word
     requires some { 0 < n }
     requires short { n < 8 }
-    requires value { low.value < 256 ^ n }
-    requires set { low.set < 256 ^ n }
     ensures low { (place : ℕ) → place < 8 * n → word_bit result place ≡ word_bit low place }
     ensures high { (place : ℕ) → 8 * n ≤ place → place < 64 → word_bit result place ≡ word_bit high (place - 8 * n) }
 {
-    Word {
-        value: low.value | (high.value << (8 * n)),
-        set: low.set | (high.set << (8 * n)),
-    }
+    with_bits(low, 8 * n, 64 - 8 * n, high)
 }
 
 /// Writes the low n bytes of a word into one page, from a byte on.
@@ -143,6 +136,7 @@ fn write_part(pages: &mut Vec<Page>, number: u64, at: usize, n: u8, word: Word)
     requires there { is_some (find (numbered number) pages.old.items) ≡ true }
     requires inside { at + n ≤ 4096 }
     requires short { n ≤ 8 }
+    requires some { 0 < n }
     ensures ascending { IsAscendingBy (λ page. page.number) (λ page. 1) pages.new.items }
     ensures same { AreUsedAs pages.old.items pages.new.items }
     ensures bits { bits_of pages.new.items ≡ with_word (bits_of pages.old.items) (4096 * number + at) n word }

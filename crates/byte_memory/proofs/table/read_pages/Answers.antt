@@ -13,10 +13,10 @@ returns c =
       bits = λ place inside. ⊎_elim
           (λ (less : place < 8 * here).
           let there : 32768 * number + 8 * first + place ≡ 8 * c.args.at + place = omega arith in
-          c.joined.ensures.low place less ∙ (c.read_part-low.ensures.bits place less ∙ ap (bits_of pages) there))
+          c.joined.ensures.low place less ∙ (c.read_part-low.ensures place less ∙ ap (bits_of pages) there))
           (λ (more : 8 * here ≤ place).
           let less : place - 8 * here < 8 * (c.args.n - here) = omega (arith, inside) in
           let there : 32768 * (number + 1) + 8 * 0 + (place - 8 * here) ≡ 8 * c.args.at + place = omega arith in
-          c.joined.ensures.high place more (omega (arith, inside)) ∙ (c.read_part-high.ensures.bits (place - 8 * here) less ∙ ap (bits_of pages) there))
+          c.joined.ensures.high place more (omega (arith, inside)) ∙ (c.read_part-high.ensures (place - 8 * here) less ∙ ap (bits_of pages) there))
           (cases_lt place (8 * here));
     }

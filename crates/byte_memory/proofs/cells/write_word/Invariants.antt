@@ -1,6 +1,6 @@
 use Rattle.std.proofs.Common.{◌≡◌, length}
 use Rattle.byte_memory.specs.Words.{bits_in, with_word}
-use Rattle.byte_memory.proofs.cells.scatter.Given as goal
+use Rattle.byte_memory.proofs.cells.write_word.Given as goal
 
 abbrev pub invariant-loop-i : goal.invariant-loop-i
 invariant-loop-i l = record {

@@ -1,6 +1,6 @@
 use Rattle.std.proofs.Common.{◌≡◌, ◌<◌, refl, rules, arith, subst}
 use Rattle.byte_memory.proofs.WordBytes.{AreFirst, read-bits, read-below, value_of, mask_of, first-none, first-more}
-use Rattle.byte_memory.proofs.cells.gather.Goals as goal
+use Rattle.byte_memory.proofs.cells.read_word.Goals as goal
 
 pub loop-i-init : goal.loop-i-init
 loop-i-init c = record { value = first-none value_of c.args.cells.now c.args.at _ refl; mask = first-none mask_of c.args.cells.now c.args.at _ refl }

@@ -2,7 +2,7 @@ use Rattle.std.proofs.lemmas.List.{length-set}
 use Rattle.std.proofs.Common.{◌≡◌, ◌<◌, ◌∙◌, arith, refl}
 use Rattle.byte_memory.proofs.CellBits.{write-none}
 use Rattle.byte_memory.proofs.WordBytes.{written-more, written_byte}
-use Rattle.byte_memory.proofs.cells.scatter.Goals as goal
+use Rattle.byte_memory.proofs.cells.write_word.Goals as goal
 
 pub loop-i-init : goal.loop-i-init
 loop-i-init c = record { bits = write-none _ c.args.at c.args.word 0 refl; len = refl }

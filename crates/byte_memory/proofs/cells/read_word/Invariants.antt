@@ -1,5 +1,5 @@
 use Rattle.byte_memory.proofs.WordBytes.{AreFirst, value_of, mask_of}
-use Rattle.byte_memory.proofs.cells.gather.Given as goal
+use Rattle.byte_memory.proofs.cells.read_word.Given as goal
 
 abbrev pub invariant-loop-i : goal.invariant-loop-i
 invariant-loop-i l = record {
