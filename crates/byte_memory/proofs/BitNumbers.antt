@@ -90,3 +90,15 @@ copied-word bit from to span first bits source word new shifted fits short read 
 
     pointwise : (place : ℕ) → with_word bit to span new place ≡ with_bits_copied bit (8 * from + first) (8 * to + first) bits place
     pointwise place = with_word-bits bit to span first bits word new shifted fits short read' made place ∙ by_test place (is_among_places (8 * to + first) bits place) refl
+
+-- a copy of whole bytes by a word
+pub copied-bytes : (bit : ℕ → Option Bool) (from to n : ℕ) (word : Word) → ((place : ℕ) → place < 8 * n → word_bit word place ≡ bit (8 * from + place)) →
+    with_word bit to n word ≡ with_bits_copied bit (8 * from) (8 * to) (8 * n)
+copied-bytes bit from to n word read = λ j place. pointwise place j
+  where
+    by_test : (place : ℕ) (z : Bool) → is_among_places (8 * to) (8 * n) place ≡ z → (if z then word_bit word (place - 8 * to) else bit place) ≡ (if z then bit (8 * from + (place - 8 * to)) else bit place)
+    by_test place true t = let less : place - 8 * to < 8 * n = grind (arith, nat_tests) in read (place - 8 * to) less
+    by_test place false t = refl
+
+    pointwise : (place : ℕ) → with_word bit to n word place ≡ with_bits_copied bit (8 * from) (8 * to) (8 * n) place
+    pointwise place = by_test place (is_among_places (8 * to) (8 * n) place) refl

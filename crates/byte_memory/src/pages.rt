@@ -8,7 +8,7 @@ ghost use Rattle.byte_memory.specs.Pages.{meets, next_start, numbered, users_of,
 use crate::cells::{all_set, from_bit, number_in, with_bits};
 use crate::memory::{Memory, MemoryFault, Region, byte_span};
 use crate::page::{PAGE_BYTES, Page};
-use crate::regions::{check, region_from, shut_region};
+use crate::regions::{check, check_both, region_from, shut_region};
 use crate::table::{claim_pages, read_pages, read_rest, release_pages, write_pages};
 use std::alloc::Global;
 
@@ -122,7 +122,7 @@ impl Memory for PageMemory {
 
     fn load_bits(&self, at: u64, first: u8, bits: u8) -> Result<u64, MemoryFault> {
         let span = byte_span(first, bits);
-        check(&self.regions, self.written, at, span as u64)?;
+        check_both(&self.regions, self.written, self.read, at, span as u64)?;
         let word = read_pages(&self.pages, at, span);
         number_in(word, first, bits).ok_or(MemoryFault::Unset(at))
     }
@@ -147,6 +147,16 @@ impl Memory for PageMemory {
         self.read = read;
         self.written = written;
         write_pages(&mut self.pages, to, span, new);
+        Ok(())
+    }
+
+    fn copy(&mut self, from: u64, to: u64, bytes: u8) -> Result<(), MemoryFault> {
+        let read = check(&self.regions, self.read, from, bytes as u64)?;
+        let written = check(&self.regions, self.written, to, bytes as u64)?;
+        let word = read_pages(&self.pages, from, bytes);
+        self.read = read;
+        self.written = written;
+        write_pages(&mut self.pages, to, bytes, word);
         Ok(())
     }
 }

@@ -103,6 +103,28 @@ pub fn check(regions: &[Region], hint: usize, at: u64, n: u64) -> Result<usize, 
     search(regions, at, n)
 }
 
+/// The number of the region in which the n bytes from an address on can be reached, or why they can't. The regions of the two
+/// numbers are looked at first.
+#[inline(always)]
+pub fn check_both(
+    regions: &[Region],
+    hint: usize,
+    other: usize,
+    at: u64,
+    n: u64,
+) -> Result<usize, MemoryFault>
+    requires ascending { IsAscending regions.now }
+    requires some { 0 < n }
+    ensures { MatchResult result
+        (λ _. fault_at regions.now at n ≡ None)
+        (λ fault. fault_at regions.now at n ≡ Some fault) }
+{
+    if is_reached_in(regions, hint, at, n) {
+        return Ok(hint);
+    }
+    check(regions, other, at, n)
+}
+
 /// The number of the region that starts there, and the region.
 pub fn region_from(regions: &[Region], at: u64) -> Option<(usize, Region)>
     requires ascending { IsAscending regions.now }

@@ -1,4 +1,4 @@
-use Rattle.std.proofs.Common.{refl, length, arith}
+use Rattle.std.proofs.Common.{arith}
 use Rattle.std.proofs.lemmas.Option.{slice_get-get_or}
 use Rattle.byte_memory.proofs.WordBits.{words_bits-there, words_bits-past}
 use Rattle.byte_memory.proofs.page.word_at.Goals as goal
