@@ -12,13 +12,13 @@
 //! `proofs/ByteViews.antt`.
 #![tactic(auto)]
 
-pub mod cells;
+mod cells;
 pub mod flat;
-pub mod memory;
-pub mod page;
-pub mod pages;
-pub mod regions;
-pub mod table;
+mod memory;
+mod page;
+mod pages;
+mod regions;
+mod table;
 
 pub use crate::flat::FlatMemory;
 pub use crate::memory::{Memory, MemoryFault, Region};
