@@ -85,8 +85,10 @@ impl<M: Memory> Heap<M> {
             return Err(NoMemory);
         }
         let number = self.objects.len() as u32 + 1;
-        let Ok(start) = self.memory.open(size as u64) else {
-            return Err(NoMemory);
+        let start = match self.memory.open(size as u64) {
+            Ok(start) => start,
+            Err(MemoryFault::NoMemory) => return Err(NoMemory),
+            Err(_) => unreachable!(),
         };
         let object = Opened {
             number,
@@ -208,12 +210,17 @@ impl<M: Memory> Heap<M> {
     }
 }
 
-/// How many heap objects start there or below: a binary search.
+/// How many heap objects start there or below: all where the last one does, or else by a binary search.
 fn count_up_to(objects: &[Opened], at: u64) -> usize
     requires { AreObjectsInOrder objects.now }
     ensures bound { result ≤ length objects.now }
     ensures count { CountsStarts (λ object. object.start) objects.now at result }
 {
+    if let Some(last) = objects.last() {
+        if last.start <= at {
+            return objects.len();
+        }
+    }
     objects.partition_point(
         |object: &Opened| -> bool
             ensures { result ≡ nat_le object.now.start at }
