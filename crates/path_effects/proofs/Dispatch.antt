@@ -12,8 +12,8 @@ use Rattle.path_model.specs.Values.{Sight}
 use Rattle.path_model.specs.Effects.{overrider_in_view, runs}
 use Rattle.path_heap.specs.declared.heap.Heap.{Heap}
 use Rattle.path_heap.specs.Stands.{HeapStands}
-use Rattle.path_views.specs.declared.views.Found.{Found}
-use Rattle.path_views.specs.Views.{IsPartAt, IsCallable, RunsByView}
+use Rattle.path_values.specs.declared.views.Found.{Found}
+use Rattle.path_values.specs.Views.{IsPartAt, IsCallable, RunsByView}
 use Rattle.path_effects.proofs.Pointers.{IsAt}
 
 pub by_view : (h : Classes) (heap : Heap) (e : Scope) (s : Sight) (call : TypedCall) (f : Function ClassId) (p : ObjectPart) (n : ℕ) → IsCall h e call f → call.is_dispatched ≡ true → HeapStands h heap s.objects → IsAt h s.objects n p call.function.class

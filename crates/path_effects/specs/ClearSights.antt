@@ -24,8 +24,8 @@ use Rattle.path_heap.specs.Stands.{HeapStands, Means}
 use Rattle.path_values.specs.declared.scene.Scene.{Scene}
 use Rattle.path_values.specs.Scenes.{SceneStands}
 use Rattle.path_values.specs.Given.{HasTypesOfScope}
-use Rattle.path_views.specs.declared.views.Found.{Found}
-use Rattle.path_views.specs.Views.{RunsByView}
+use Rattle.path_values.specs.declared.views.Found.{Found}
+use Rattle.path_values.specs.Views.{RunsByView}
 
 -- the value of an argument, whatever keeps it
 abbrev pub IsArgumentValue : Classes → Heap → Scene → Argument → ValueCode → Type 0

@@ -9,8 +9,7 @@ use cxx_program::TypedCall;
 use foundation::NoMemory;
 use path_heap::{Heap, Value};
 use path_tables::{Answers, World};
-use path_values::{Scene, receiver};
-use path_views::{Found, dispatched};
+use path_values::{Found, Scene, dispatched, receiver};
 use std::alloc::Global;
 
 /// The function that a call runs, and its `this`: the final overrider in the view, or without dispatch the function that was

@@ -15,8 +15,7 @@ use cxx_subobject::Subobject;
 use foundation::NoMemory;
 use path_heap::{Heap, Value};
 use path_tables::{Answers, World};
-use path_values::{Scene, to_base, value};
-use path_views::{cast, down};
+use path_values::{Scene, cast, down, to_base, value};
 use std::alloc::Global;
 
 /// What a static downcast gives: null of null.

@@ -22,7 +22,7 @@ use path_heap::{Heap, Part, Value};
 use path_model::Out;
 use path_places::{dump, location};
 use path_tables::World;
-use path_views::{Found, view_type};
+use path_values::{Found, view_type};
 use std::alloc::Global;
 
 /// What `print` of a value tells; none where it is not set.

@@ -12,7 +12,7 @@ use cxx_overrider::signatures::declaration;
 use cxx_program::Conversion;
 use foundation::NoMemory;
 use path_tables::{Answers, World};
-use path_views::conversion;
+use path_values::conversion;
 use std::alloc::Global;
 
 /// The class to which a function returns a pointer.

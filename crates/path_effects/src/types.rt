@@ -8,8 +8,7 @@ ghost use Rattle.path_effects.specs.invariants.Begun.{IsBegun};
 
 use cxx_hierarchy::ClassId;
 use path_heap::{Heap, Value};
-use path_values::truth;
-use path_views::view_type;
+use path_values::{truth, view_type};
 
 /// `typeid(*pointer) == typeid(class)` (ISO C++03 5.2.8).
 pub(crate) fn type_equal(heap: &Heap, v: Value, d: ClassId) -> Value

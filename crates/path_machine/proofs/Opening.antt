@@ -30,8 +30,8 @@ use Rattle.path_heap.specs.Stands.{Means}
 use Rattle.path_heap.specs.declared.heap.Heap.{Heap}
 use Rattle.path_values.specs.Scenes.{SceneStands}
 use Rattle.path_values.specs.Given.{HasTypesOfScope}
-use Rattle.path_views.specs.declared.views.Found.{Found}
-use Rattle.path_views.specs.Views.{RunsByView}
+use Rattle.path_values.specs.declared.views.Found.{Found}
+use Rattle.path_values.specs.Views.{RunsByView}
 use Rattle.path_effects.proofs.Clear.{clear_front, clear_back}
 use Rattle.path_frames.specs.Frames.{BodyStands}
 use Rattle.path_frames.specs.declared.frames.BodyFrame.{BodyFrame}

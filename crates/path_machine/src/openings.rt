@@ -23,8 +23,7 @@ use path_effects::{argument_values, call_told, found_conversion};
 use path_frames::{BodyFrame, Target};
 use path_heap::{Heap, Value};
 use path_tables::Answers;
-use path_values::Scene;
-use path_views::Found;
+use path_values::{Found, Scene};
 
 /// So many locals: the given values, and unset ones behind them.
 #[tactic(auto, using(crate::proofs::Locals::one_longer))]

@@ -12,7 +12,7 @@ ghost use Rattle.path_heap.specs.Points.{Points};
 ghost use Rattle.path_heap.specs.Stands.{HeapStands, HasBegun, Means};
 ghost use Rattle.path_tables.specs.Asked.{AreAnswers};
 ghost use Rattle.path_tables.specs.Worlds.{IsWorld};
-ghost use Rattle.path_views.specs.Views.{IsCallable};
+ghost use Rattle.path_values.specs.Views.{IsCallable};
 ghost use Rattle.path_refusals.specs.invariants.Pieces.{SightStands, CanTake};
 ghost use Rattle.path_refusals.specs.invariants.SideRules.{FoundRefuses, WayRefuses, CallPointerRefuses};
 
@@ -27,8 +27,7 @@ use cxx_subobject::Subobject;
 use path_heap::Value;
 use path_rules::Undefined;
 use path_tables::Answers;
-use path_values::{Scene, goes_to, to_base, value};
-use path_views::is_pure;
+use path_values::{Scene, goes_to, is_pure, to_base, value};
 
 /// What a dispatched call on a part breaks: the final overrider is pure (ISO C++03 10.4 p6).
 ///

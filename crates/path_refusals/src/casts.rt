@@ -22,7 +22,7 @@ use foundation::NoMemory;
 use path_heap::Value;
 use path_rules::Undefined;
 use path_tables::Answers;
-use path_views::{cast, down};
+use path_values::{cast, down};
 
 /// What a static downcast of a part that is ready breaks: it is that base of no subobject of the class (ISO C++03 5.2.9 p8).
 ///

@@ -14,7 +14,7 @@ use cxx_subobject::{Root, Subobject};
 use path_heap::Value;
 use path_rules::Undefined;
 use path_tables::Answers;
-use path_views::is_outside;
+use path_values::is_outside;
 
 /// Whether a subobject is a virtual base or lies behind one.
 pub(crate) fn is_shared(i: &Subobject) -> bool

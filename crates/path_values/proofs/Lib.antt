@@ -4,3 +4,5 @@ pub mod Reading
 pub mod Meaning
 pub mod Following
 pub mod Seen
+pub mod PartNumbers
+pub mod Viewed

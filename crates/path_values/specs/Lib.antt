@@ -3,3 +3,5 @@ pub mod Given
 pub mod Conversions
 pub mod Open
 pub mod Landings
+pub mod Views
+pub mod invariants

@@ -11,7 +11,7 @@ use Rattle.cxx_overrider.specs.declared.FunctionId.{FunctionId}
 use Rattle.cxx_overrider.specs.Virtuals.{is_virtual}
 use Rattle.cxx_program.specs.declared.statement.TypedCall.{TypedCall}
 use Rattle.path_rules.specs.declared.Undefined.TheVariants.{NotReady}
-use Rattle.path_views.specs.Views.{IsCallable}
+use Rattle.path_values.specs.Views.{IsCallable}
 use Rattle.path_model.specs.Values.{Value, Unset, Number, Null, Pointer, Objects, Sight, to_base}
 use Rattle.path_model.specs.Uses.{StatementUse, arrow, of_part, path_uses, uses_of_view, is_shared, is_shared_way, goes_to, takes, convert, cast_value}
 use Rattle.path_model.specs.Order.{asked_members, first_name_base}

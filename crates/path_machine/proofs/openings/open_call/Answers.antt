@@ -11,7 +11,7 @@ use Rattle.path_model.specs.States.{owned_body, sight}
 use Rattle.path_model.specs.Effects.{runs, result_conversion}
 use Rattle.path_heap.specs.declared.state.Value.TheVariants.{Pointer}
 use Rattle.path_heap.specs.Stands.{Means}
-use Rattle.path_views.specs.Views.{RunsByView}
+use Rattle.path_values.specs.Views.{RunsByView}
 use Rattle.path_frames.specs.Frames.{target_of_code}
 use Rattle.path_frames.specs.declared.frames.BodyFrame.{BodyFrame}
 use Rattle.path_machine.specs.Tellings.{TellsMore}

@@ -3,7 +3,7 @@ use Rattle.std.proofs.lemmas.Result.{IfOk-weaker}
 use Rattle.cxx_subobject.specs.Locations.{ObjectPart}
 use Rattle.path_heap.specs.Points.{Points}
 use Rattle.path_heap.specs.Stands.{HeapStands, HasBegun, Means}
-use Rattle.path_views.specs.Views.{IsCallable}
+use Rattle.path_values.specs.Views.{IsCallable}
 use Rattle.path_model.specs.Values.{Value, Unset, Number, Null, Pointer, Objects}
 use Rattle.path_model.specs.Uses.{Takes, takes}
 use Rattle.path_model.specs.Rules.{refused}

@@ -10,7 +10,7 @@ use Rattle.path_model.specs.Values.{Objects}
 use Rattle.path_heap.specs.declared.heap.Heap.{Heap}
 use Rattle.path_heap.specs.Points.{Points}
 use Rattle.path_heap.specs.Stands.{HeapStands, HasBegun}
-use Rattle.path_views.specs.declared.views.Found.{Found}
+use Rattle.path_values.specs.declared.views.Found.{Found}
 
 -- the heap stands for the objects, and n is the number of the part p, whose construction has begun
 pub record IsPartAt (h : Classes) (heap : Heap) (s : Objects) (n : ℕ) (p : ObjectPart) : Type 0 where

@@ -12,8 +12,8 @@ ghost use Rattle.path_tables.specs.Parts.{numbered_overrider};
 ghost use Rattle.path_heap.specs.Stands.{Means};
 ghost use Rattle.path_tables.specs.Asked.{AreAnswers};
 ghost use Rattle.path_tables.specs.Worlds.{IsWorld};
-ghost use Rattle.path_views.specs.Views.{IsPartAt, IsCallable, RunsByView};
-ghost use Rattle.path_views.specs.invariants.Standing.{IsStanding, pointer_or};
+ghost use Rattle.path_values.specs.Views.{IsPartAt, IsCallable, RunsByView};
+ghost use Rattle.path_values.specs.invariants.Standing.{IsStanding, pointer_or};
 
 use crate::standing::{Standing, number_behind, standing_of};
 use cxx_hierarchy::{ClassId, Hierarchy};

@@ -23,8 +23,8 @@ use Rattle.path_model.specs.Uses.{class_of_owner, view_of}
 use Rattle.path_heap.specs.Points.{Points, PointsWhole, PointsView}
 use Rattle.path_heap.proofs.Asking.{whole_class}
 use Rattle.path_heap.proofs.Reaching.{at_below}
-use Rattle.path_views.specs.declared.standing.Standing.{Standing}
-use Rattle.path_views.specs.invariants.Standing.{IsBehind, IsWholeOf, IsViewNumber, IsStanding}
+use Rattle.path_values.specs.declared.standing.Standing.{Standing}
+use Rattle.path_values.specs.invariants.Standing.{IsBehind, IsWholeOf, IsViewNumber, IsStanding}
 
 pub whole_told : (h : Classes) (s : Objects) (p : ObjectPart) (n : ℕ) (c : ClassId) → PointsWhole h s.classes n p → class_of_owner h s p ≡ Some c → IsWholeOf h s.classes n c p
 whole_told h s p n c w class =

@@ -33,10 +33,10 @@ use Rattle.path_heap.specs.Points.{Points}
 use Rattle.path_heap.specs.Stands.{HeapStands, Means}
 use Rattle.path_tables.specs.declared.finals.FinalAt.{FinalAt}
 use Rattle.path_tables.specs.Parts.{IsNumbered, number_where_found, numbered_overrider, derived_in}
-use Rattle.path_views.specs.declared.standing.Standing.{Standing}
-use Rattle.path_views.specs.Views.{RunsByView}
-use Rattle.path_views.specs.invariants.Standing.{IsViewNumber, IsStanding, pointer_or}
-use Rattle.path_views.proofs.Places.{points_behind, is_small}
+use Rattle.path_values.specs.declared.standing.Standing.{Standing}
+use Rattle.path_values.specs.Views.{RunsByView}
+use Rattle.path_values.specs.invariants.Standing.{IsViewNumber, IsStanding, pointer_or}
+use Rattle.path_values.proofs.PartNumbers.{points_behind, is_small}
 
 -- the view, by its number
 view_none : (h : Classes) (c : ClassId) (v : Option ℕ) (x : Option Subobject) → v ≡ None → IsViewNumber h c v x → x ≡ None

@@ -3,8 +3,8 @@ use Rattle.path_heap.specs.declared.state.Value.{Value}
 use Rattle.path_heap.specs.Stands.{Means}
 use Rattle.path_model.specs.Values.{Pointer}
 use Rattle.path_model.specs.Uses.{dynamic_value}
-use Rattle.path_views.proofs.Seen.{cast_outside, cast_some}
-use Rattle.path_views.proofs.views.cast.Goals as goal
+use Rattle.path_values.proofs.Viewed.{cast_outside, cast_some}
+use Rattle.path_values.proofs.views.cast.Goals as goal
 
 pub returns-then-not-inside-clause-is : goal.returns-then-not-inside-clause-is
 returns-then-not-inside-clause-is c = λ s p is.

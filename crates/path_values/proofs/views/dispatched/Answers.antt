@@ -5,10 +5,10 @@ use Rattle.path_model.specs.Values.{Objects}
 use Rattle.path_model.specs.Uses.{view_of}
 use Rattle.path_model.specs.Effects.{overrider_by}
 use Rattle.path_tables.specs.Parts.{numbered_overrider}
-use Rattle.path_views.specs.Views.{IsCallable}
-use Rattle.path_views.specs.invariants.Standing.{IsStanding}
-use Rattle.path_views.proofs.Seen.{dispatched_some}
-use Rattle.path_views.proofs.views.dispatched.Goals as goal
+use Rattle.path_values.specs.Views.{IsCallable}
+use Rattle.path_values.specs.invariants.Standing.{IsStanding}
+use Rattle.path_values.proofs.Viewed.{dispatched_some}
+use Rattle.path_values.proofs.views.dispatched.Goals as goal
 
 pub returns-in-Some-clause-is : goal.returns-in-Some-clause-is
 returns-in-Some-clause-is c = λ s p is callable.

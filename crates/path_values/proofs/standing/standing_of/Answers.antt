@@ -1,5 +1,5 @@
-use Rattle.path_views.proofs.Places.{stands}
-use Rattle.path_views.proofs.standing.standing_of.Goals as goal
+use Rattle.path_values.proofs.PartNumbers.{stands}
+use Rattle.path_values.proofs.standing.standing_of.Goals as goal
 
 pub returns : goal.returns
 returns c = λ h s p is. stands h is.heap_stands.hierarchy s p c.args.n

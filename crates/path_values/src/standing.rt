@@ -4,8 +4,8 @@ ghost use Rattle.std.specs.Prelude.{◌≡◌, ◌+◌, ◌%◌, ◌^◌, ℕ};
 ghost use Rattle.cxx_hierarchy.specs.Classes.{Classes};
 ghost use Rattle.cxx_subobject.specs.Locations.{ObjectPart};
 ghost use Rattle.path_model.specs.Values.{Objects};
-ghost use Rattle.path_views.specs.Views.{IsPartAt};
-ghost use Rattle.path_views.specs.invariants.Standing.{IsBehind, IsStanding};
+ghost use Rattle.path_values.specs.Views.{IsPartAt};
+ghost use Rattle.path_values.specs.invariants.Standing.{IsBehind, IsStanding};
 
 use cxx_hierarchy::ClassId;
 use path_heap::Heap;

@@ -13,7 +13,7 @@ use Rattle.path_model.specs.Uses.{class_of_owner, view_of}
 use Rattle.path_heap.specs.declared.state.Value.{Value}
 use Rattle.path_heap.specs.declared.state.Value.TheVariants.{Pointer}
 use Rattle.path_tables.specs.Parts.{IsNumbered}
-use Rattle.path_views.specs.declared.standing.Standing.{Standing}
+use Rattle.path_values.specs.declared.standing.Standing.{Standing}
 
 -- how far a number that may be there stands behind another
 abbrev pub IsBehind : ℕ → Option ℕ → Option ℕ → Type 0

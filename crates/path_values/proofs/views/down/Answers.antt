@@ -3,8 +3,8 @@ use Rattle.path_heap.specs.declared.state.Value.{Value}
 use Rattle.path_heap.specs.Stands.{Means}
 use Rattle.path_model.specs.Values.{Pointer}
 use Rattle.path_model.specs.Uses.{down_value}
-use Rattle.path_views.proofs.Seen.{down_told}
-use Rattle.path_views.proofs.views.down.Goals as goal
+use Rattle.path_values.proofs.Viewed.{down_told}
+use Rattle.path_values.proofs.views.down.Goals as goal
 
 pub returns-clause-is : goal.returns-clause-is
 returns-clause-is c = λ s p is.
