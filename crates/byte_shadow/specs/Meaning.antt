@@ -1,5 +1,5 @@
 -- What a shadow notes.
-use Rattle.std.specs.Prelude.{ℕ, Bool, nat_eq, ◌&&◌, Option, Some, None, option_map}
+use Rattle.std.specs.Prelude.{◌≡◌, ℕ, Bool, true, false, nat_eq, ◌&&◌, if◌then◌else◌, Option, Some, None, option_map}
 use Rattle.indexmap.specs.IndexMap.{get_by}
 use Rattle.byte_code.specs.declared.op.Phase.{Phase}
 use Rattle.byte_shadow.specs.declared.shadow.Place.{Place}
@@ -33,6 +33,29 @@ noted_view shadow at class = get_by (same_place (shadow_place at class)) shadow.
 abbrev pub view_pair : Option Place → Option (ℕ × ℕ)
 view_pair view = option_map place_pair view
 
+-- whether a subobject is noted as the view of itself
+abbrev pub is_own_view : Option Note → Bool
+is_own_view None = false
+is_own_view (Some note) = note.is_own_view
+
+-- the view of the complete object of a class at an address: itself, or the one that is noted beside
+abbrev pub kept_view : ℕ → ℕ → Bool → Option Place → Option (ℕ × ℕ)
+kept_view at class true view = Some (at, class)
+kept_view at class false view = view_pair view
+
+abbrev pub shadow_view : Shadow → ℕ → ℕ → Option (ℕ × ℕ)
+shadow_view shadow at class = kept_view at class (is_own_view (note_of shadow at class)) (noted_view shadow at class)
+
+-- a note that says whether its subobject is the view of itself
+abbrev pub marked_note : Bool → Option Note → Option Note
+marked_note own None = None
+marked_note own (Some note) = Some (record note { is_own_view = own })
+
+-- the note of one subobject says so, and all else is as it was
+pub record IsMarked (old new : Shadow) (at class : ℕ) (own : Bool) : Type 0 where
+  pub notes : (a c : ℕ) → note_of new a c ≡ (if nat_eq at a && nat_eq class c then marked_note own (note_of old at class) else note_of old a c)
+  pub views : new.views ≡ old.views
+
 -- what the shadow notes, as functions of an address and a class
 unfoldable pub notes_of : Shadow → Notes
-notes_of shadow = record { phase = λ at class. note_phase (note_of shadow at class); owner = λ at class. note_owner (note_of shadow at class); view = λ at class. view_pair (noted_view shadow at class) }
+notes_of shadow = record { phase = λ at class. note_phase (note_of shadow at class); owner = λ at class. note_owner (note_of shadow at class); view = λ at class. shadow_view shadow at class }

@@ -2,7 +2,7 @@
 
 ghost use Rattle.std.specs.Prelude.{◌≡◌, ◌≢◌, None, OnOk, OnErr};
 ghost use Rattle.byte_shadow.specs.Shadows.{no_notes, noted_raw, phased, viewed, is_ready_phase, ready_at};
-ghost use Rattle.byte_shadow.specs.Meaning.{shadow_place, note_of, place_pair, note_phase, note_owner, view_pair, notes_of};
+ghost use Rattle.byte_shadow.specs.Meaning.{shadow_place, note_of, place_pair, note_phase, note_owner, view_pair, is_own_view, IsMarked, notes_of};
 
 use byte_code::Phase;
 use foundation::NoMemory;
@@ -16,13 +16,14 @@ pub struct Place {
     pub class: u32,
 }
 
-/// What is noted of a subobject: its complete object, by the address and the number of its class, and its phase. A note has 16
-/// bytes, and stays when its object is gone.
+/// What is noted of a subobject: its complete object, by the address and the number of its class, its phase, and whether it is a
+/// complete object that is the view of itself. A note has 16 bytes, and stays when its object is gone.
 #[derive(Clone, Copy)]
 pub struct Note {
     pub owner: u64,
     pub owner_class: u32,
     pub phase: Phase,
+    pub is_own_view: bool,
 }
 
 fn pair_of(place: Place) -> (u64, u32)
@@ -42,8 +43,8 @@ fn is_ready_phase(phase: Phase) -> bool
 }
 
 /// What is noted of class subobjects, by their address and the number of their class: the phase of each, the complete object
-/// that it belongs to, and of a complete object its view. Addresses are in bytes. The views stand in a map of their own, since
-/// few subobjects are complete objects.
+/// that it belongs to, and of a complete object its view. Addresses are in bytes. That a complete object is the view of itself
+/// stands in its note; other views have a map of their own, since few subobjects are complete objects.
 #[derive(Drop)]
 pub struct Shadow {
     notes: IndexMap<Place, Note>,
@@ -67,6 +68,16 @@ impl Shadow {
         self.notes.get(&Place { at, class }).copied()
     }
 
+    /// Whether a subobject is noted as the view of itself.
+    fn is_own_view(&self, at: u64, class: u32) -> bool
+        ensures { result ≡ is_own_view (note_of self.now at class) }
+    {
+        match self.note(at, class) {
+            Some(note) => note.is_own_view,
+            None => false,
+        }
+    }
+
     /// Notes a raw subobject of a complete object, of which nothing is noted yet.
     ///
     /// Errors: want of memory; then all is as before.
@@ -85,6 +96,7 @@ impl Shadow {
             owner,
             owner_class,
             phase: Phase::Raw,
+            is_own_view: false,
         };
         self.notes.insert(Place { at, class }, note)?;
         Ok(())
@@ -117,6 +129,15 @@ impl Shadow {
         }
     }
 
+    /// Notes whether a subobject is the view of itself, if it is noted. It takes no memory.
+    fn mark(&mut self, at: u64, class: u32, is_own_view: bool)
+        ensures { IsMarked self.old self.new at class is_own_view }
+    {
+        if let Some(note) = self.notes.get_mut(&Place { at, class }) {
+            note.is_own_view = is_own_view;
+        }
+    }
+
     /// Makes a subobject the view of a complete object.
     ///
     /// Errors: want of memory; then all is as before.
@@ -130,11 +151,16 @@ impl Shadow {
         ensures ok { OnOk result (notes_of self.new ≡ viewed (notes_of self.old) owner owner_class at class) }
         ensures err { OnErr result (notes_of self.new ≡ notes_of self.old) }
     {
+        if at == owner && class == owner_class && self.note(at, class).is_some() {
+            self.mark(at, class, true);
+            return Ok(());
+        }
         let complete = Place {
             at: owner,
             class: owner_class,
         };
         self.views.insert(complete, Place { at, class })?;
+        self.mark(owner, owner_class, false);
         Ok(())
     }
 
@@ -142,6 +168,9 @@ impl Shadow {
     pub fn view(&self, owner: u64, owner_class: u32) -> Option<(u64, u32)>
         ensures { result ≡ (notes_of self.now).view owner owner_class }
     {
+        if self.is_own_view(owner, owner_class) {
+            return Some((owner, owner_class));
+        }
         let complete = Place {
             at: owner,
             class: owner_class,
