@@ -21,14 +21,14 @@ use Rattle.path_model.proofs.KeptSteps.{before_rest}
 use Rattle.path_model.proofs.TypedValues.{values_set}
 use Rattle.path_heap.specs.declared.state.Value.TheVariants.{Unset as UnsetCode}
 use Rattle.path_values.specs.Given.{HasTypesOfScope, IsGiven, GivesBack}
-use Rattle.path_frames.specs.declared.frames.BodyFrame.{BodyFrame}
-use Rattle.path_frames.specs.declared.frames.PlanFrame.{PlanFrame}
-use Rattle.path_frames.specs.declared.frames.Frame.{Frame as FrameCode}
-use Rattle.path_frames.specs.declared.frames.Frame.TheVariants.{Body, Plan}
-use Rattle.path_frames.specs.declared.machine.Machine.{Machine}
-use Rattle.path_frames.specs.invariants.Changes.{Pops}
-use Rattle.path_frames.specs.invariants.Changes.{DiffersInLocals}
-use Rattle.path_frames.proofs.Changing.{local_set}
+use Rattle.path_machine.specs.declared.frames.BodyFrame.{BodyFrame}
+use Rattle.path_machine.specs.declared.frames.PlanFrame.{PlanFrame}
+use Rattle.path_machine.specs.declared.frames.Frame.{Frame as FrameCode}
+use Rattle.path_machine.specs.declared.frames.Frame.TheVariants.{Body, Plan}
+use Rattle.path_machine.specs.declared.machine.Machine.{Machine}
+use Rattle.path_machine.specs.invariants.Changes.{Pops}
+use Rattle.path_machine.specs.invariants.Changes.{DiffersInLocals}
+use Rattle.path_machine.proofs.Changing.{local_set}
 use Rattle.path_machine.specs.declared.next.Next.{Next as NextCode}
 use Rattle.path_machine.specs.invariants.Steps.{IsTaken, StepAgrees, MoveAgrees}
 use Rattle.path_machine.specs.invariants.Setups.{IsPlanTaken, IsPlanNext, IsBelowNext, IsBodyNext}

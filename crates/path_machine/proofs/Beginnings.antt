@@ -15,11 +15,11 @@ use Rattle.path_model.specs.States.{entered_body}
 use Rattle.path_model.specs.Runs.{start_value, main_frames, most_heap_bytes, no_objects, opened_for, start}
 use Rattle.path_heap.specs.declared.state.Value.TheVariants.{Unset as UnsetCode}
 use Rattle.path_heap.specs.Stands.{HeapStands, Means}
-use Rattle.path_frames.specs.declared.frames.BodyFrame.{BodyFrame}
-use Rattle.path_frames.specs.declared.frames.Frame.TheVariants.{Body}
-use Rattle.path_frames.specs.declared.machine.Machine.{Machine}
-use Rattle.path_frames.specs.Frames.{target_of_code, BodyStands, FramesStand}
-use Rattle.path_frames.specs.Machines.{MachineStands, stack}
+use Rattle.path_machine.specs.declared.frames.BodyFrame.{BodyFrame}
+use Rattle.path_machine.specs.declared.frames.Frame.TheVariants.{Body}
+use Rattle.path_machine.specs.declared.machine.Machine.{Machine}
+use Rattle.path_machine.specs.Frames.{target_of_code, BodyStands, FramesStand}
+use Rattle.path_machine.specs.Machines.{MachineStands, stack}
 use Rattle.path_machine.specs.invariants.Starts.{start_code}
 
 globals_mean : (h : Classes) (types : List (ValueType ClassId)) → AllZip (Means h []) (map start_code types) (map start_value types)

@@ -33,10 +33,10 @@ use Rattle.path_heap.specs.declared.heap.Heap.{Heap}
 use Rattle.path_heap.specs.Stands.{HeapStands, Means}
 use Rattle.path_values.specs.Scenes.{SceneStands}
 use Rattle.path_values.specs.Conversions.{CanConvert}
-use Rattle.path_frames.specs.declared.frames.BodyFrame.{BodyFrame}
-use Rattle.path_frames.specs.declared.machine.Machine.{Machine}
-use Rattle.path_frames.specs.Frames.{BodyStands, FramesStand}
-use Rattle.path_frames.specs.Machines.{MachineStands, stack}
+use Rattle.path_machine.specs.declared.frames.BodyFrame.{BodyFrame}
+use Rattle.path_machine.specs.declared.machine.Machine.{Machine}
+use Rattle.path_machine.specs.Frames.{BodyStands, FramesStand}
+use Rattle.path_machine.specs.Machines.{MachineStands, stack}
 use Rattle.path_machine.specs.declared.next.Next.{Next as NextCode}
 use Rattle.path_machine.specs.declared.next.Next.TheVariants.{Goes as GoesCode, Ends as EndsCode}
 use Rattle.path_machine.specs.invariants.Setups.{is_plain}

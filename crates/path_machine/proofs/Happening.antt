@@ -38,8 +38,8 @@ use Rattle.path_heap.proofs.Viewing.{points_of}
 use Rattle.path_events.specs.declared.plan.PlanEvent.{PlanEvent}
 use Rattle.path_events.specs.declared.plan.PlanEvent.TheVariants.{Begin as BeginCode, Ready as ReadyCode, Init as InitCode, Body as BodyCode, Done as DoneCode, Ending as EndingCode, Bases as BasesCode, End as EndCode}
 use Rattle.path_events.specs.Plans.{begins_event, ready_event, init_event, body_event, done_event, ending_event, bases_event, end_event}
-use Rattle.path_frames.specs.declared.machine.Machine.{Machine}
-use Rattle.path_frames.specs.Machines.{MachineStands}
+use Rattle.path_machine.specs.declared.machine.Machine.{Machine}
+use Rattle.path_machine.specs.Machines.{MachineStands}
 use Rattle.path_machine.specs.invariants.Events.{Happens, TellsEvent}
 use Rattle.path_machine.specs.declared.telling.Telling.{Telling}
 use Rattle.path_machine.specs.Tellings.{TellsMore}

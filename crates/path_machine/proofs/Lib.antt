@@ -12,3 +12,5 @@ pub mod Stating
 pub mod Beginning
 pub mod Knowing
 pub mod Beginnings
+pub mod Sets
+pub mod Changing

@@ -22,12 +22,12 @@ use Rattle.path_model.specs.Runs.{opened_for, opened_by, open_count, most_open, 
 use Rattle.path_heap.specs.declared.state.Part.{Part}
 use Rattle.path_heap.specs.Points.{StandsForPart}
 use Rattle.path_effects.specs.Ends.{EndsObject}
-use Rattle.path_frames.specs.declared.machine.Machine.{Machine}
-use Rattle.path_frames.specs.Frames.{BodyStands}
-use Rattle.path_frames.specs.Machines.{MachineStands}
+use Rattle.path_machine.specs.declared.machine.Machine.{Machine}
+use Rattle.path_machine.specs.Frames.{BodyStands}
+use Rattle.path_machine.specs.Machines.{MachineStands}
 use Rattle.path_machine.specs.declared.next.Next.{Next as NextCode}
 use Rattle.path_machine.specs.declared.next.Next.TheVariants.{Goes as GoesCode, Limited}
-use Rattle.path_frames.specs.declared.frames.BodyFrame.{BodyFrame}
+use Rattle.path_machine.specs.declared.frames.BodyFrame.{BodyFrame}
 use Rattle.path_machine.specs.invariants.Steps.{MoveAgrees}
 use Rattle.path_machine.specs.invariants.Openings.{Opens, goes_wrong, opens_body}
 use Rattle.path_machine.specs.declared.telling.Telling.{Telling}

@@ -33,8 +33,8 @@ use Rattle.path_values.specs.Given.{HasTypesOfScope}
 use Rattle.path_values.specs.declared.views.Found.{Found}
 use Rattle.path_values.specs.Views.{RunsByView}
 use Rattle.path_effects.proofs.Clear.{clear_front, clear_back}
-use Rattle.path_frames.specs.Frames.{BodyStands}
-use Rattle.path_frames.specs.declared.frames.BodyFrame.{BodyFrame}
+use Rattle.path_machine.specs.Frames.{BodyStands}
+use Rattle.path_machine.specs.declared.frames.BodyFrame.{BodyFrame}
 use Rattle.path_machine.specs.declared.telling.Telling.{Telling}
 use Rattle.path_machine.specs.Tellings.{TellsMore}
 use Rattle.path_machine.specs.invariants.Setups.{IsCalling}

@@ -13,7 +13,7 @@ use Rattle.path_numbers.specs.Sizes.{sizes_of}
 use Rattle.path_numbers.proofs.Heap.{at_good}
 use Rattle.path_heap.specs.declared.state.Part.{Part}
 use Rattle.path_heap.specs.Points.{StandsForPart}
-use Rattle.path_frames.specs.Frames.{IsLastOf}
+use Rattle.path_machine.specs.Frames.{IsLastOf}
 
 -- the last event is one of the part
 last_of : (p : ObjectPart) (events : List PartEvent) → EndsLast p events → IsLastOf p events

@@ -34,14 +34,14 @@ use Rattle.path_values.specs.Conversions.{CanConvert}
 use Rattle.path_events.specs.declared.plan.Plan.{Plan as PlanCode}
 use Rattle.path_events.specs.declared.plan.PlanEvent.{PlanEvent}
 use Rattle.path_events.specs.Plans.{PlanStands, MeansNext, IsEvent, begins_event, ready_event, init_event, body_event, done_event, ending_event, bases_event, end_event}
-use Rattle.path_frames.specs.declared.frames.BodyFrame.{BodyFrame}
-use Rattle.path_frames.specs.declared.frames.PlanFrame.{PlanFrame}
-use Rattle.path_frames.specs.declared.frames.Frame.{Frame as FrameCode}
-use Rattle.path_frames.specs.declared.frames.Frame.TheVariants.{Body as BodyFrameCode, Plan as PlanFrameCode}
-use Rattle.path_frames.specs.declared.machine.Machine.{Machine}
-use Rattle.path_frames.specs.invariants.Changes.{with_plan}
-use Rattle.path_frames.specs.Frames.{target_of_code, BodyStands, IsLastOf, PlanFrameStands, FrameStands, depth_in}
-use Rattle.path_frames.specs.Machines.{MachineStands}
+use Rattle.path_machine.specs.declared.frames.BodyFrame.{BodyFrame}
+use Rattle.path_machine.specs.declared.frames.PlanFrame.{PlanFrame}
+use Rattle.path_machine.specs.declared.frames.Frame.{Frame as FrameCode}
+use Rattle.path_machine.specs.declared.frames.Frame.TheVariants.{Body as BodyFrameCode, Plan as PlanFrameCode}
+use Rattle.path_machine.specs.declared.machine.Machine.{Machine}
+use Rattle.path_machine.specs.invariants.Changes.{with_plan}
+use Rattle.path_machine.specs.Frames.{target_of_code, BodyStands, IsLastOf, PlanFrameStands, FrameStands, depth_in}
+use Rattle.path_machine.specs.Machines.{MachineStands}
 use Rattle.path_machine.specs.declared.next.Next.{Next as NextCode}
 use Rattle.path_machine.specs.declared.next.Next.TheVariants.{Goes as GoesCode}
 use Rattle.path_machine.specs.invariants.Steps.{StepAgrees, CanGive}

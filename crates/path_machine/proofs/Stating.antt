@@ -14,7 +14,7 @@ use Rattle.cxx_program.specs.Typed.{Scope, IsConverted, IsTyped, declares, begin
 use Rattle.path_model.specs.States.{RunningBody, Frame, InBody, ProgramState, sight, at_statement, with_frames}
 use Rattle.path_model.specs.Effects.{kind_effect}
 use Rattle.path_model.specs.Runs.{asks_nothing, demand_of, limit_of, move_by}
-use Rattle.path_frames.specs.declared.machine.Machine.{Machine}
+use Rattle.path_machine.specs.declared.machine.Machine.{Machine}
 use Rattle.path_refusals.proofs.Kinded.{called_given}
 use Rattle.path_effects.proofs.Typing.{delete_typed}
 use Rattle.path_machine.specs.declared.next.Next.{Next as NextCode}

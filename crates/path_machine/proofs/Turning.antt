@@ -16,8 +16,8 @@ use Rattle.path_model.specs.States.{RunningBody, Planned, Frame, InBody, InPlan}
 use Rattle.path_model.specs.Runs.{Move, Moves, IsRefused, IsLimited, IsOver, IsWrong, Ran, move, run_of, state_at, outs_at, outs_in}
 use Rattle.path_tables.specs.Asked.{AreAnswers}
 use Rattle.path_tables.specs.declared.asked.Answers.{Answers}
-use Rattle.path_frames.specs.declared.machine.Machine.{Machine}
-use Rattle.path_frames.specs.Machines.{MachineStands}
+use Rattle.path_machine.specs.declared.machine.Machine.{Machine}
+use Rattle.path_machine.specs.Machines.{MachineStands}
 use Rattle.path_machine.specs.declared.state.PathState.{PathState}
 use Rattle.path_machine.specs.declared.next.Next.{Next as NextCode}
 use Rattle.path_machine.specs.declared.next.Next.TheVariants.{Goes as GoesCode, Refuses as RefusesCode, Limited, Ends as EndsCode, Wrong as WrongCode}

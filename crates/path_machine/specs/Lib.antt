@@ -1,3 +1,5 @@
 pub mod Tellings
 pub mod Turns
+pub mod Frames
+pub mod Machines
 pub mod invariants

@@ -7,7 +7,7 @@ use Rattle.path_model.specs.declared.outs.Turn.{Turn}
 use Rattle.path_model.specs.declared.outs.Turn.TheVariants.{Went, Ended, Refused, OutOfSteps as IsOutOfSteps, Limit}
 use Rattle.path_model.specs.Runs.{Ending, Done, UndefinedAt, OutOfSteps, LimitMet, WentWrong, IsRunning, move, outs_in, outs_at, run_of, state_at}
 use Rattle.path_tables.specs.Asked.{AreAnswers}
-use Rattle.path_frames.specs.Machines.{MachineStands}
+use Rattle.path_machine.specs.Machines.{MachineStands}
 use Rattle.path_machine.specs.declared.state.PathState.{PathState}
 use Rattle.path_machine.specs.declared.telling.Telling.{Telling}
 use Rattle.path_machine.specs.Tellings.{TellsMore}

@@ -6,3 +6,4 @@ pub mod Steps
 pub mod StatementSteps
 pub mod Plans
 pub mod Starts
+pub mod Changes

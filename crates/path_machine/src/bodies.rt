@@ -11,17 +11,20 @@ ghost use Rattle.path_model.specs.States.{RunningBody, Frame as FrameOf, Program
 ghost use Rattle.path_model.specs.Effects.{block_at};
 ghost use Rattle.path_model.specs.Steps.{before_kind, body_closed, constructor_closed};
 ghost use Rattle.path_tables.specs.Asked.{AreAnswers};
-ghost use Rattle.path_frames.specs.declared.machine.Machine.{Machine as MachineOf};
-ghost use Rattle.path_frames.specs.Frames.{target_of_code};
+ghost use Rattle.path_machine.specs.declared.machine.Machine.{Machine as MachineOf};
+ghost use Rattle.path_machine.specs.Frames.{target_of_code};
 ghost use Rattle.cxx_program.specs.declared.operand.Conversion.TheVariants.{Same as ToSame};
 ghost use Rattle.path_machine.specs.invariants.Steps.{IsTaken};
 ghost use Rattle.path_machine.specs.invariants.Plans.{plan_in};
 ghost use Rattle.path_machine.specs.invariants.Setups.{IsSetup};
 ghost use Rattle.path_machine.specs.invariants.StatementSteps.{ChoosesBetween, DeclaresLocal, DoesEffect, DoesStatement, ClosesBy, StepsBody, RefusesStatement, ClosesFunction};
 
+use crate::boxes::{BodyBox, PlanBox};
 use crate::calls::{call_body, delete_object};
 use crate::effects::{branch, go_on};
 use crate::events::event_step;
+use crate::frames::{Frame, Target};
+use crate::machine::Machine;
 use crate::next::Next;
 use crate::run::Run;
 use crate::scenes::scene_of;
@@ -37,7 +40,6 @@ use cxx_program::{
     Conversion, Converted, Owner, TypedBody, TypedKind, TypedOperand, TypedStatement, Variable,
 };
 use foundation::NoMemory;
-use path_frames::{BodyBox, Frame, Machine, PlanBox, Target};
 use path_heap::Value;
 use path_model::refusal_is_least;
 use path_refusals::{Moment, refusal};

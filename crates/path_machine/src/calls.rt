@@ -2,12 +2,15 @@
 
 ghost use Rattle.std.specs.Prelude.{◌≡◌, IfOk};
 ghost use Rattle.path_tables.specs.Asked.{AreAnswers};
-ghost use Rattle.path_frames.specs.Frames.{target_of_code};
+ghost use Rattle.path_machine.specs.Frames.{target_of_code};
 ghost use Rattle.path_machine.specs.invariants.Steps.{size_in};
 ghost use Rattle.path_machine.specs.invariants.Setups.{IsSetup};
 ghost use Rattle.path_machine.specs.invariants.Openings.{OpensBody, OpensNew, OpensDelete, EndsWhole, BeginsPlan};
 
+use crate::boxes::{BodyBox, PlanBox};
 use crate::effects::go_on;
+use crate::frames::{Frame, PlanFrame, Target};
+use crate::machine::Machine;
 use crate::next::Next;
 use crate::openings::open_call;
 use crate::run::Run;
@@ -18,7 +21,6 @@ use cxx_program::{TypedCall, TypedOperand};
 use foundation::NoMemory;
 use path_effects::deleted;
 use path_events::Plan;
-use path_frames::{BodyBox, Frame, Machine, PlanBox, PlanFrame, Target};
 use path_heap::{Part, whole_at};
 use path_tables::Answers;
 

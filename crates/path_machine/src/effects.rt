@@ -5,14 +5,16 @@ ghost use Rattle.cxx_hierarchy.specs.declared.records.ClassId.{ClassId};
 ghost use Rattle.cxx_hierarchy.specs.Classes.{Classes};
 ghost use Rattle.cxx_program.specs.declared.program.TypedProgram.{TypedProgram};
 ghost use Rattle.path_model.specs.States.{RunningBody, Frame as FrameOf, ProgramState};
-ghost use Rattle.path_frames.specs.Machines.{MachineStands};
+ghost use Rattle.path_machine.specs.Machines.{MachineStands};
 ghost use Rattle.path_machine.specs.invariants.Steps.{IsTaken, gone_on};
 ghost use Rattle.path_machine.specs.invariants.StatementSteps.{BranchesOn, TellsOut};
 
+use crate::boxes::BodyBox;
+use crate::frames::Frame;
+use crate::machine::Machine;
 use crate::next::Next;
 use crate::telling::Telling;
 use foundation::NoMemory;
-use path_frames::{BodyBox, Frame, Machine};
 use path_heap::Value;
 use path_model::Out;
 use path_values::is_zero;

@@ -7,11 +7,14 @@ ghost use Rattle.path_model.specs.Steps.{init_value, body_owner};
 ghost use Rattle.path_heap.specs.declared.state.Value.TheVariants.{Unset};
 ghost use Rattle.path_heap.specs.Stands.{Means};
 ghost use Rattle.path_events.specs.declared.plan.PlanEvent.TheVariants.{Init as InitCode};
-ghost use Rattle.path_frames.specs.Machines.{MachineStands};
+ghost use Rattle.path_machine.specs.Machines.{MachineStands};
 ghost use Rattle.path_machine.specs.invariants.Setups.{IsSetup};
 ghost use Rattle.path_machine.specs.invariants.Events.{body_part, Happens, TellsEvent, Resumes, Enters, StepsPlan};
 
+use crate::boxes::{BodyBox, PlanBox};
+use crate::frames::{BodyFrame, Frame};
 use crate::giving::give;
+use crate::machine::Machine;
 use crate::next::Next;
 use crate::run::Run;
 use crate::telling::Telling;
@@ -19,7 +22,6 @@ use cxx_program::{Conversion, Owner, TypedBody};
 use foundation::NoMemory;
 use path_effects::{built_told, ending_told};
 use path_events::PlanEvent;
-use path_frames::{BodyBox, BodyFrame, Frame, Machine, PlanBox};
 use path_heap::{Part, Value};
 use path_values::{constant, convert};
 

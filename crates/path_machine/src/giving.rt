@@ -1,10 +1,11 @@
 //! How a result comes to the variable that waits for it.
 
 ghost use Rattle.path_tables.specs.Worlds.{IsWorld};
-ghost use Rattle.path_frames.specs.Frames.{target_of_code};
+ghost use Rattle.path_machine.specs.Frames.{target_of_code};
 ghost use Rattle.path_machine.specs.invariants.StatementSteps.{GivesValue};
 
-use path_frames::{Machine, Target};
+use crate::frames::Target;
+use crate::machine::Machine;
 use path_heap::Value;
 use path_tables::World;
 use path_values::convert;

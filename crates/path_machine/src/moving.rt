@@ -7,11 +7,12 @@ ghost use Rattle.path_machine.specs.invariants.StatementSteps.{MovesOn};
 
 use crate::bodies::body_step;
 use crate::events::event_step;
+use crate::frames::Frame;
+use crate::machine::Machine;
 use crate::next::Next;
 use crate::run::Run;
 use crate::telling::Telling;
 use foundation::NoMemory;
-use path_frames::{Frame, Machine};
 use path_tables::Answers;
 
 /// The step of the frame on top.

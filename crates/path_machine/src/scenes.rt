@@ -8,7 +8,8 @@ ghost use Rattle.path_model.specs.States.{RunningBody, Frame as FrameOf, Program
 ghost use Rattle.path_values.specs.Scenes.{SceneStands};
 ghost use Rattle.path_machine.specs.invariants.Steps.{IsTaken};
 
-use path_frames::{BodyBox, Machine};
+use crate::boxes::BodyBox;
+use crate::machine::Machine;
 use path_values::Scene;
 
 /// The globals, and `this` and the locals of a frame.

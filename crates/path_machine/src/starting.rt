@@ -7,13 +7,15 @@ ghost use Rattle.cxx_hierarchy.specs.Classes.{Classes};
 ghost use Rattle.cxx_hierarchy.specs.Hierarchies.{IsHierarchy};
 ghost use Rattle.path_heap.specs.declared.state.Value.TheVariants.{Unset};
 ghost use Rattle.path_model.specs.Runs.{start};
-ghost use Rattle.path_frames.specs.Machines.{MachineStands};
+ghost use Rattle.path_machine.specs.Machines.{MachineStands};
 ghost use Rattle.path_machine.specs.invariants.Starts.{start_code};
 
+use crate::boxes::BodyBox;
+use crate::frames::{BodyFrame, Frame};
+use crate::machine::Machine;
 use cxx_hierarchy::{ClassId, ValueType};
 use cxx_program::{Conversion, TypedBody, TypedProgram};
 use foundation::NoMemory;
-use path_frames::{BodyBox, BodyFrame, Frame, Machine};
 use path_heap::{Heap, Value};
 use std::alloc::Global;
 

@@ -7,13 +7,13 @@ ghost use Rattle.path_machine.specs.invariants.Setups.{IsSetup};
 ghost use Rattle.path_machine.specs.invariants.Ends.{IsFinished, HasMoved};
 ghost use Rattle.path_machine.specs.Turns.{taken_by, budget_of, ended_with, lacked_memory, IsAtStep, IsInRun, TurnAgrees};
 
+use crate::machine::Machine;
 use crate::moving::move_on;
 use crate::next::Next;
 use crate::run::Run;
 use crate::starting::started;
 use crate::telling::Telling;
 use foundation::NoMemory;
-use path_frames::Machine;
 use path_model::{Turn, plans_fit, runs_are_typed, runs_go_on, statements_are_settled};
 use path_tables::Answers;
 

@@ -13,8 +13,10 @@ ghost use Rattle.path_machine.specs.invariants.Steps.{IsTaken, gone_on, IsTakenI
 ghost use Rattle.path_machine.specs.invariants.Setups.{IsSetup};
 ghost use Rattle.path_machine.specs.invariants.StatementSteps.{WritesPlace, CopiesObject, GivesResult, LeavesBody, LeavesFunction, PrintsType, PrintsView, PrintsDump};
 
+use crate::boxes::BodyBox;
 use crate::effects::{go_on, tell};
 use crate::giving::give;
+use crate::machine::Machine;
 use crate::next::Next;
 use crate::run::Run;
 use crate::scenes::scene_of;
@@ -23,7 +25,6 @@ use cxx_hierarchy::ClassId;
 use cxx_program::{Argument, Owner, TypedOperand, TypedPlace};
 use foundation::NoMemory;
 use path_effects::{argument_value, copy, dump_told, type_told, value_told, view_told, write};
-use path_frames::{BodyBox, Machine};
 use path_heap::Value;
 use path_tables::Answers;
 use path_values::{Scene, convert, value};

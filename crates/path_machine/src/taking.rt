@@ -3,12 +3,15 @@
 ghost use Rattle.std.specs.Prelude.{◌≡◌, IfOk};
 ghost use Rattle.path_model.specs.Effects.{taker};
 ghost use Rattle.path_tables.specs.Asked.{AreAnswers};
-ghost use Rattle.path_frames.specs.Frames.{target_of_code};
+ghost use Rattle.path_machine.specs.Frames.{target_of_code};
 ghost use Rattle.path_machine.specs.invariants.Setups.{IsSetup};
 ghost use Rattle.path_machine.specs.invariants.StatementSteps.{TakesPlain, TakesSide};
 
+use crate::boxes::BodyBox;
 use crate::calls::{call_body, new_object};
 use crate::effects::go_on;
+use crate::frames::Target;
+use crate::machine::Machine;
 use crate::next::Next;
 use crate::run::Run;
 use crate::scenes::scene_of;
@@ -17,7 +20,6 @@ use cxx_program::{Conversion, Converted, TypedRight, Variable};
 use cxx_subobject::subobject_below;
 use foundation::NoMemory;
 use path_effects::right_value;
-use path_frames::{BodyBox, Machine, Target};
 use path_tables::Answers;
 use std::alloc::Global;
 

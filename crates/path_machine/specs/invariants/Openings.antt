@@ -7,9 +7,9 @@ use Rattle.path_plan.specs.Whole.{construction, destruction, whole_part}
 use Rattle.path_model.specs.States.{Target, RunningBody, Frame, InBody, InPlan, ProgramState, plan_bodies, with_frames, sight}
 use Rattle.path_model.specs.Effects.{Next, Goes, Wrong, called, deleted, new_made, object_ended}
 use Rattle.path_model.specs.Runs.{opened_for, asks_call, asks_object, call_limit, delete_demand, move_by, open_count}
-use Rattle.path_frames.specs.Frames.{BodyStands}
+use Rattle.path_machine.specs.Frames.{BodyStands}
 use Rattle.path_model.specs.declared.outs.Out.{Out}
-use Rattle.path_frames.specs.declared.frames.BodyFrame.{BodyFrame}
+use Rattle.path_machine.specs.declared.frames.BodyFrame.{BodyFrame}
 use Rattle.path_machine.specs.declared.telling.Telling.{Telling}
 use Rattle.path_machine.specs.Tellings.{TellsMore}
 use Rattle.std.specs.List.{AllZip}
@@ -24,8 +24,8 @@ use Rattle.path_heap.specs.Points.{StandsForPart}
 use Rattle.path_heap.specs.Stands.{Means}
 use Rattle.path_values.specs.Scenes.{SceneStands}
 use Rattle.path_values.specs.declared.scene.Scene.{Scene}
-use Rattle.path_frames.specs.declared.machine.Machine.{Machine}
-use Rattle.path_frames.specs.Machines.{MachineStands}
+use Rattle.path_machine.specs.declared.machine.Machine.{Machine}
+use Rattle.path_machine.specs.Machines.{MachineStands}
 use Rattle.path_machine.specs.declared.next.Next.{Next as NextCode}
 use Rattle.path_machine.specs.declared.run.Run.{Run}
 use Rattle.path_machine.specs.invariants.Steps.{IsTaken, MoveAgrees, gone_on, limit_met, IsTakenIn, MoveAgreesIn}

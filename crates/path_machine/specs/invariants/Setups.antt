@@ -28,10 +28,10 @@ use Rattle.path_model.specs.TypedStates.{IsTypedState}
 use Rattle.path_model.specs.Runs.{open_count}
 use Rattle.path_tables.specs.Worlds.{IsWorld}
 use Rattle.path_values.specs.Given.{HasTypesOfScope, GivesBack}
-use Rattle.path_frames.specs.declared.frames.PlanFrame.{PlanFrame}
-use Rattle.path_frames.specs.declared.machine.Machine.{Machine}
-use Rattle.path_frames.specs.Frames.{PlanFrameStands}
-use Rattle.path_frames.specs.Machines.{MachineStands}
+use Rattle.path_machine.specs.declared.frames.PlanFrame.{PlanFrame}
+use Rattle.path_machine.specs.declared.machine.Machine.{Machine}
+use Rattle.path_machine.specs.Frames.{PlanFrameStands}
+use Rattle.path_machine.specs.Machines.{MachineStands}
 use Rattle.path_machine.specs.declared.run.Run.{Run}
 
 -- what a run looks at belongs to one typed program

@@ -16,10 +16,10 @@ use Rattle.path_model.specs.Effects.{Next, Goes, Refuses, Ends, Wrong}
 use Rattle.path_model.specs.Runs.{Demand, limit_of, Move, Moves, IsRefused, IsLimited, IsOver, IsWrong, open_count}
 use Rattle.path_values.specs.Given.{IsGiven}
 use Rattle.path_values.specs.Conversions.{CanConvert}
-use Rattle.path_frames.specs.declared.frames.BodyFrame.{BodyFrame}
-use Rattle.path_frames.specs.declared.machine.Machine.{Machine}
-use Rattle.path_frames.specs.Frames.{BodyStands}
-use Rattle.path_frames.specs.Machines.{MachineStands}
+use Rattle.path_machine.specs.declared.frames.BodyFrame.{BodyFrame}
+use Rattle.path_machine.specs.declared.machine.Machine.{Machine}
+use Rattle.path_machine.specs.Frames.{BodyStands}
+use Rattle.path_machine.specs.Machines.{MachineStands}
 use Rattle.path_machine.specs.declared.next.Next.{Next as NextCode}
 use Rattle.path_machine.specs.declared.next.Next.TheVariants.{Goes as GoesCode, Refuses as RefusesCode, Limited, Ends as EndsCode}
 

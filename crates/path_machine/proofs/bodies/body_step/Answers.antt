@@ -3,8 +3,8 @@ use Rattle.std.specs.Prelude.{slice_get}
 use Rattle.cxx_program.specs.Typed.{scope_of}
 use Rattle.path_model.specs.States.{owned_body}
 use Rattle.path_model.specs.Steps.{before_kind, body_closed}
-use Rattle.path_frames.specs.declared.frames.BodyFrame.{BodyFrame}
-use Rattle.path_frames.specs.Frames.{BodyStands}
+use Rattle.path_machine.specs.declared.frames.BodyFrame.{BodyFrame}
+use Rattle.path_machine.specs.Frames.{BodyStands}
 use Rattle.path_machine.specs.invariants.Steps.{size_in, StepAgrees}
 use Rattle.path_model.proofs.KeptSteps.{before_rest}
 use Rattle.path_machine.proofs.Beginning.{given_before, statement_agrees, close_agrees}

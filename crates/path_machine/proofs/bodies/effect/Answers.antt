@@ -3,7 +3,7 @@ use Rattle.cxx_program.specs.declared.statement.TypedKind.TheVariants.{Declare, 
 use Rattle.path_model.specs.Values.{value_of_operand}
 use Rattle.path_model.specs.States.{sight}
 use Rattle.path_model.specs.Effects.{branched, block_at}
-use Rattle.path_frames.specs.declared.frames.BodyFrame.{BodyFrame}
+use Rattle.path_machine.specs.declared.frames.BodyFrame.{BodyFrame}
 use Rattle.path_machine.specs.invariants.Steps.{size_in, StepAgrees}
 use Rattle.path_machine.proofs.Stating.{gone_on, declaring, assigning, calling, deleting, does_by, does_plain}
 use Rattle.path_machine.proofs.bodies.effect.Goals as goal

@@ -1,7 +1,7 @@
 use Rattle.std.proofs.Common.{sym, ap, ◌∙◌, subst}
 use Rattle.path_model.specs.States.{sight, wanted_result, target_conversion}
-use Rattle.path_frames.specs.declared.frames.BodyFrame.{BodyFrame}
-use Rattle.path_frames.specs.Frames.{BodyStands}
+use Rattle.path_machine.specs.declared.frames.BodyFrame.{BodyFrame}
+use Rattle.path_machine.specs.Frames.{BodyStands}
 use Rattle.path_machine.specs.invariants.Steps.{size_in}
 use Rattle.path_machine.proofs.bodies.refused.Goals as goal
 

@@ -4,9 +4,9 @@ use Rattle.path_plan.specs.Whole.{whole_part, construction, destruction}
 use Rattle.path_model.specs.States.{plan_bodies}
 use Rattle.path_heap.specs.Points.{StandsForPart}
 use Rattle.path_events.specs.Plans.{PlanStands}
-use Rattle.path_frames.specs.Frames.{FrameStands, IsLastOf, target_of_code}
-use Rattle.path_frames.specs.declared.frames.PlanFrame.{PlanFrame}
-use Rattle.path_frames.specs.declared.frames.Frame.TheVariants.{Plan}
+use Rattle.path_machine.specs.Frames.{FrameStands, IsLastOf, target_of_code}
+use Rattle.path_machine.specs.declared.frames.PlanFrame.{PlanFrame}
+use Rattle.path_machine.specs.declared.frames.Frame.TheVariants.{Plan}
 use Rattle.path_machine.specs.invariants.Openings.{planned}
 use Rattle.path_machine.proofs.Planning.{plan_last, whole_class}
 use Rattle.path_machine.proofs.calls.begin_plan.Goals as goal

@@ -5,8 +5,8 @@ use Rattle.path_model.specs.Uses.{receiver_value}
 use Rattle.path_model.specs.States.{InBody, at_statement, with_frames, sight}
 use Rattle.path_model.specs.Effects.{called}
 use Rattle.path_model.specs.Runs.{call_limit}
-use Rattle.path_frames.specs.Frames.{target_of_code, BodyStands}
-use Rattle.path_frames.specs.declared.frames.BodyFrame.{BodyFrame}
+use Rattle.path_machine.specs.Frames.{target_of_code, BodyStands}
+use Rattle.path_machine.specs.declared.frames.BodyFrame.{BodyFrame}
 use Rattle.path_machine.specs.invariants.Steps.{size_in}
 use Rattle.path_machine.specs.invariants.Openings.{Opens}
 use Rattle.path_machine.proofs.Moves.{counts_more, open_limited, open_free, call_limited, nothing_opened, body_opened}

@@ -2,7 +2,7 @@ use Rattle.std.proofs.Common.{◌∷◌, refl, ap, ◌∙◌, sym}
 use Rattle.path_model.specs.States.{InBody, at_statement, with_frames}
 use Rattle.path_model.specs.Effects.{ending}
 use Rattle.path_model.specs.Runs.{call_limit}
-use Rattle.path_frames.specs.declared.frames.BodyFrame.{BodyFrame}
+use Rattle.path_machine.specs.declared.frames.BodyFrame.{BodyFrame}
 use Rattle.path_machine.proofs.Moves.{counts_more, open_limited, open_free, limited, moved_silent}
 use Rattle.path_machine.proofs.calls.end_object.Goals as goal
 

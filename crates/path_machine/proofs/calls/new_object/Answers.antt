@@ -3,10 +3,10 @@ use Rattle.foundation.proofs.Places.{get_last}
 use Rattle.path_model.specs.States.{InBody, at_statement, with_frames, with_objects}
 use Rattle.path_model.specs.Effects.{with_new_object, building}
 use Rattle.path_model.specs.Runs.{limit_of, asks_object}
-use Rattle.path_frames.specs.declared.frames.Frame.TheVariants.{Body}
-use Rattle.path_frames.specs.Frames.{target_of_code}
-use Rattle.path_frames.proofs.Changing.{frame_grown}
-use Rattle.path_frames.specs.declared.frames.BodyFrame.{BodyFrame}
+use Rattle.path_machine.specs.declared.frames.Frame.TheVariants.{Body}
+use Rattle.path_machine.specs.Frames.{target_of_code}
+use Rattle.path_machine.proofs.Changing.{frame_grown}
+use Rattle.path_machine.specs.declared.frames.BodyFrame.{BodyFrame}
 use Rattle.path_machine.specs.invariants.Steps.{size_in, IsTaken}
 use Rattle.path_machine.proofs.Moves.{counts_more, open_limited, open_free, heap_limited, heap_free, limited, moved_silent}
 use Rattle.path_machine.proofs.calls.new_object.Goals as goal

@@ -1,7 +1,7 @@
 use Rattle.std.proofs.Common.{refl, ap, subst, sym, ◌∙◌}
 use Rattle.path_model.specs.States.{InBody, at_statement, with_frames}
-use Rattle.path_frames.specs.declared.frames.BodyFrame.{BodyFrame}
-use Rattle.path_frames.specs.Frames.{BodyStands}
+use Rattle.path_machine.specs.declared.frames.BodyFrame.{BodyFrame}
+use Rattle.path_machine.specs.Frames.{BodyStands}
 use Rattle.path_machine.proofs.effects.go_on.Goals as goal
 
 -- src/effects.rt:23:1

@@ -3,9 +3,9 @@ use Rattle.cxx_program.specs.declared.operand.Conversion.TheVariants.{Same as To
 use Rattle.path_heap.specs.declared.state.Value.TheVariants.{Pointer}
 use Rattle.path_model.specs.States.{owned_body}
 use Rattle.path_model.specs.Steps.{body_owner}
-use Rattle.path_frames.specs.declared.frames.BodyFrame.{BodyFrame}
-use Rattle.path_frames.specs.declared.frames.PlanFrame.{PlanFrame}
-use Rattle.path_frames.specs.declared.frames.Frame.TheVariants.{Body, Plan}
+use Rattle.path_machine.specs.declared.frames.BodyFrame.{BodyFrame}
+use Rattle.path_machine.specs.declared.frames.PlanFrame.{PlanFrame}
+use Rattle.path_machine.specs.declared.frames.Frame.TheVariants.{Body, Plan}
 use Rattle.path_machine.specs.declared.next.Next.TheVariants.{Wrong}
 use Rattle.path_machine.proofs.Resuming.{Pushes, enters_none, enters_body}
 use Rattle.path_machine.proofs.events.enter_body.Goals as goal

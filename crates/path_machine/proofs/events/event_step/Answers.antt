@@ -1,5 +1,5 @@
 use Rattle.std.proofs.Common.{Some, None, subst}
-use Rattle.path_frames.specs.declared.frames.PlanFrame.{PlanFrame}
+use Rattle.path_machine.specs.declared.frames.PlanFrame.{PlanFrame}
 use Rattle.path_machine.specs.invariants.Events.{Resumes}
 use Rattle.path_machine.proofs.Resuming.{Upcoming, steps, steps_none}
 use Rattle.path_machine.specs.declared.next.Next.TheVariants.{Wrong}

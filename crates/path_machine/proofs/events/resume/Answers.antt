@@ -1,5 +1,5 @@
 use Rattle.std.proofs.Common.{sym, ◌∙◌, Some, None, subst}
-use Rattle.path_frames.specs.declared.frames.PlanFrame.{PlanFrame}
+use Rattle.path_machine.specs.declared.frames.PlanFrame.{PlanFrame}
 use Rattle.path_machine.proofs.Resuming.{Upcoming, Gives, resumes_body, resumes_plan, resumes_none}
 use Rattle.path_machine.proofs.events.resume.Goals as goal
 

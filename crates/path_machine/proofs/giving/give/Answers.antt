@@ -1,8 +1,8 @@
 use Rattle.std.proofs.Common.{subst, sym}
 use Rattle.path_model.specs.Values.{converted_to}
 use Rattle.path_model.specs.Effects.{given_to_target}
-use Rattle.path_frames.specs.Frames.{target_of_code}
-use Rattle.path_frames.specs.Machines.{MachineStands}
+use Rattle.path_machine.specs.Frames.{target_of_code}
+use Rattle.path_machine.specs.Machines.{MachineStands}
 use Rattle.path_machine.specs.invariants.Steps.{CanGive}
 use Rattle.path_machine.proofs.giving.give.Goals as goal
 

@@ -12,8 +12,8 @@ use Rattle.path_model.specs.Effects.{runs, result_conversion}
 use Rattle.path_heap.specs.declared.state.Value.TheVariants.{Pointer}
 use Rattle.path_heap.specs.Stands.{Means}
 use Rattle.path_values.specs.Views.{RunsByView}
-use Rattle.path_frames.specs.Frames.{target_of_code}
-use Rattle.path_frames.specs.declared.frames.BodyFrame.{BodyFrame}
+use Rattle.path_machine.specs.Frames.{target_of_code}
+use Rattle.path_machine.specs.declared.frames.BodyFrame.{BodyFrame}
 use Rattle.path_machine.specs.Tellings.{TellsMore}
 use Rattle.path_machine.proofs.Opening.{through, nothing_runs, something_runs, bodiless, enters, not_main}
 use Rattle.path_machine.proofs.openings.open_call.Goals as goal

@@ -1,7 +1,7 @@
 use Rattle.std.proofs.Common.{◌≡◌, ◌∙◌, ap, length, rules, refl}
 use Rattle.std.specs.Prelude.{replicate}
 use Rattle.path_heap.specs.declared.state.Value.TheVariants.{Unset}
-use Rattle.path_frames.specs.declared.frames.BodyFrame.{BodyFrame}
+use Rattle.path_machine.specs.declared.frames.BodyFrame.{BodyFrame}
 use Rattle.path_machine.proofs.Beginnings.{start_stands}
 use Rattle.path_machine.proofs.starting.started.Goals as goal
 

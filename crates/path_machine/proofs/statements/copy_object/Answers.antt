@@ -2,7 +2,7 @@ use Rattle.std.proofs.Common.{◌∙◌, rules, refl, ap}
 use Rattle.path_model.specs.Values.{value_of_operand}
 use Rattle.path_model.specs.States.{sight, with_frames, with_objects, wanted_result}
 use Rattle.path_model.specs.Effects.{copied}
-use Rattle.path_frames.specs.declared.frames.BodyFrame.{BodyFrame}
+use Rattle.path_machine.specs.declared.frames.BodyFrame.{BodyFrame}
 use Rattle.path_machine.specs.invariants.Steps.{size_in}
 use Rattle.path_machine.proofs.Effecting.{scene_by, taken_heaped, copy_agrees}
 use Rattle.path_machine.proofs.statements.copy_object.Goals as goal

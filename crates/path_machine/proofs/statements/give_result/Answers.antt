@@ -6,9 +6,9 @@ use Rattle.path_model.specs.Values.{argument_value, converted_to}
 use Rattle.path_model.specs.States.{sight, wanted_result, with_frames}
 use Rattle.path_model.specs.Effects.{given_to_target}
 use Rattle.path_effects.proofs.Leaving.{return_converts}
-use Rattle.path_frames.specs.Machines.{MachineStands}
-use Rattle.path_frames.specs.declared.frames.BodyFrame.{BodyFrame}
-use Rattle.path_frames.specs.Frames.{BodyStands}
+use Rattle.path_machine.specs.Machines.{MachineStands}
+use Rattle.path_machine.specs.declared.frames.BodyFrame.{BodyFrame}
+use Rattle.path_machine.specs.Frames.{BodyStands}
 use Rattle.path_machine.specs.invariants.Steps.{size_in, CanGive}
 use Rattle.path_machine.proofs.Effecting.{can_give}
 use Rattle.path_machine.proofs.statements.give_result.Goals as goal

@@ -2,7 +2,7 @@ use Rattle.std.specs.Prelude.{option_map}
 use Rattle.path_model.specs.Values.{argument_value}
 use Rattle.std.proofs.Common.{sym, ◌∙◌, ◌∷◌, ap}
 use Rattle.path_model.specs.States.{InBody, sight, at_statement, with_frames}
-use Rattle.path_frames.specs.declared.frames.BodyFrame.{BodyFrame}
+use Rattle.path_machine.specs.declared.frames.BodyFrame.{BodyFrame}
 use Rattle.path_machine.specs.invariants.Steps.{size_in}
 use Rattle.path_machine.proofs.Effecting.{function_leaves}
 use Rattle.path_machine.proofs.statements.leave.Goals as goal

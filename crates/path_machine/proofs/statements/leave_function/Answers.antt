@@ -4,7 +4,7 @@ use Rattle.std.proofs.Common.{refl, subst, sym, Some}
 use Rattle.cxx_program.specs.declared.statement.TypedKind.TheVariants.{Return}
 use Rattle.path_model.specs.States.{sight, with_frames}
 use Rattle.path_model.specs.Effects.{result_given}
-use Rattle.path_frames.specs.Machines.{MachineStands}
+use Rattle.path_machine.specs.Machines.{MachineStands}
 use Rattle.path_machine.specs.invariants.Steps.{size_in, IsClear}
 use Rattle.path_machine.proofs.Effecting.{gives}
 use Rattle.path_machine.proofs.statements.leave_function.Goals as goal

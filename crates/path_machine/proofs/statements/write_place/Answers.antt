@@ -3,7 +3,7 @@ use Rattle.path_model.specs.Values.{value_of_operand, argument_value}
 use Rattle.path_model.specs.Places.{leaf_at}
 use Rattle.path_model.specs.States.{sight, with_frames, with_objects, wanted_result}
 use Rattle.path_model.specs.Effects.{leaf_set}
-use Rattle.path_frames.specs.declared.frames.BodyFrame.{BodyFrame}
+use Rattle.path_machine.specs.declared.frames.BodyFrame.{BodyFrame}
 use Rattle.path_machine.specs.invariants.Steps.{size_in}
 use Rattle.path_machine.proofs.Effecting.{scene_by, taken_heaped, write_agrees}
 use Rattle.path_machine.proofs.statements.write_place.Goals as goal

@@ -12,8 +12,8 @@ ghost use Rattle.path_model.specs.Effects.{with_new_object};
 ghost use Rattle.path_model.specs.Runs.{open_count, size_in_heap, heap_total, most_heap_bytes};
 ghost use Rattle.path_heap.specs.Points.{Points};
 ghost use Rattle.path_heap.specs.Stands.{Means};
-ghost use Rattle.path_frames.specs.Machines.{MachineStands, PushesFrame};
-ghost use Rattle.path_frames.specs.invariants.Changes.{Pops};
+ghost use Rattle.path_machine.specs.Machines.{MachineStands, PushesFrame};
+ghost use Rattle.path_machine.specs.invariants.Changes.{Pops};
 
 use crate::frames::Frame;
 use crate::heap_bytes::rounded;

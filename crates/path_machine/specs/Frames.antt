@@ -14,11 +14,11 @@ use Rattle.path_model.specs.Runs.{open_count}
 use Rattle.path_heap.specs.Points.{StandsForPart}
 use Rattle.path_heap.specs.Stands.{Means}
 use Rattle.path_events.specs.Plans.{PlanStands}
-use Rattle.path_frames.specs.declared.frames.Target.{Target as TargetCode}
-use Rattle.path_frames.specs.declared.frames.BodyFrame.{BodyFrame}
-use Rattle.path_frames.specs.declared.frames.PlanFrame.{PlanFrame}
-use Rattle.path_frames.specs.declared.frames.Frame.{Frame as FrameCode}
-use Rattle.path_frames.specs.declared.frames.Frame.TheVariants.{Body, Plan}
+use Rattle.path_machine.specs.declared.frames.Target.{Target as TargetCode}
+use Rattle.path_machine.specs.declared.frames.BodyFrame.{BodyFrame}
+use Rattle.path_machine.specs.declared.frames.PlanFrame.{PlanFrame}
+use Rattle.path_machine.specs.declared.frames.Frame.{Frame as FrameCode}
+use Rattle.path_machine.specs.declared.frames.Frame.TheVariants.{Body, Plan}
 
 -- who takes a result, as the model has it
 abbrev pub target_of_code : Option TargetCode → Option Target

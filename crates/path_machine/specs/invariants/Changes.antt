@@ -6,12 +6,12 @@ use Rattle.cxx_program.specs.declared.program.TypedProgram.{TypedProgram}
 use Rattle.path_model.specs.States.{ProgramState, Frame, with_frames}
 use Rattle.path_model.specs.Runs.{open_count}
 use Rattle.path_events.specs.declared.plan.Plan.{Plan}
-use Rattle.path_frames.specs.declared.frames.BodyFrame.{BodyFrame}
-use Rattle.path_frames.specs.declared.frames.PlanFrame.{PlanFrame}
-use Rattle.path_frames.specs.declared.frames.Frame.{Frame as FrameCode}
-use Rattle.path_frames.specs.declared.machine.Machine.{Machine}
-use Rattle.path_frames.specs.Frames.{FrameStands, depth_in}
-use Rattle.path_frames.specs.Machines.{MachineStands}
+use Rattle.path_machine.specs.declared.frames.BodyFrame.{BodyFrame}
+use Rattle.path_machine.specs.declared.frames.PlanFrame.{PlanFrame}
+use Rattle.path_machine.specs.declared.frames.Frame.{Frame as FrameCode}
+use Rattle.path_machine.specs.declared.machine.Machine.{Machine}
+use Rattle.path_machine.specs.Frames.{FrameStands, depth_in}
+use Rattle.path_machine.specs.Machines.{MachineStands}
 
 -- the frame that was taken stands for the first of the frames, and the machine for the state with the others
 abbrev pub Pops : Classes → (ClassId → ℕ) → TypedProgram → Machine → ProgramState → Option FrameCode → List Frame → Type 0

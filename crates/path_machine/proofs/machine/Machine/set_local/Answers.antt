@@ -1,6 +1,6 @@
 use Rattle.std.proofs.Common.{rules, refl}
-use Rattle.path_frames.proofs.Changing.{machine_local_set}
-use Rattle.path_frames.proofs.machine.Machine.set_local.Goals as goal
+use Rattle.path_machine.proofs.Changing.{machine_local_set}
+use Rattle.path_machine.proofs.machine.Machine.set_local.Goals as goal
 
 -- src/machine.rt:69:5
 pub returns-in-Some-Body : goal.returns-in-Some-Body

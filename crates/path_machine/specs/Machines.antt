@@ -7,9 +7,9 @@ use Rattle.cxx_program.specs.declared.program.TypedProgram.{TypedProgram}
 use Rattle.path_model.specs.States.{ProgramState, Frame, with_frames}
 use Rattle.path_model.specs.Runs.{heap_total, most_heap_bytes, open_count}
 use Rattle.path_heap.specs.Stands.{HeapStands, Means}
-use Rattle.path_frames.specs.declared.frames.Frame.{Frame as FrameCode}
-use Rattle.path_frames.specs.declared.machine.Machine.{Machine}
-use Rattle.path_frames.specs.Frames.{FramesStand, FrameStands, depth_in}
+use Rattle.path_machine.specs.declared.frames.Frame.{Frame as FrameCode}
+use Rattle.path_machine.specs.declared.machine.Machine.{Machine}
+use Rattle.path_machine.specs.Frames.{FramesStand, FrameStands, depth_in}
 
 -- the frames of the code, the innermost first
 abbrev pub stack : Option FrameCode → List FrameCode → List FrameCode

@@ -1,9 +1,9 @@
 use Rattle.std.proofs.Common.{refl, subst, sym}
 use Rattle.path_model.specs.States.{assigned}
-use Rattle.path_frames.specs.declared.machine.Machine.{Machine}
-use Rattle.path_frames.specs.Machines.{MachineStands}
-use Rattle.path_frames.proofs.Changing.{global_set}
-use Rattle.path_frames.proofs.machine.Machine.assign.Goals as goal
+use Rattle.path_machine.specs.declared.machine.Machine.{Machine}
+use Rattle.path_machine.specs.Machines.{MachineStands}
+use Rattle.path_machine.proofs.Changing.{global_set}
+use Rattle.path_machine.proofs.machine.Machine.assign.Goals as goal
 
 -- src/machine.rt:78:5
 pub returns-in-Global : goal.returns-in-Global

@@ -17,13 +17,13 @@ use Rattle.path_plan.specs.Whole.{whole_part}
 use Rattle.path_heap.specs.Stands.{HeapStands, Means}
 use Rattle.path_heap.proofs.Growing.{means_more}
 use Rattle.path_events.proofs.Growing.{plan_more, part_more}
-use Rattle.path_frames.specs.declared.frames.BodyFrame.{BodyFrame}
-use Rattle.path_frames.specs.declared.frames.Frame.{Frame as FrameCode}
-use Rattle.path_frames.specs.declared.frames.Frame.TheVariants.{Body, Plan}
-use Rattle.path_frames.specs.declared.machine.Machine.{Machine}
-use Rattle.path_frames.specs.Frames.{target_of_code, BodyStands, FrameStands, FramesStand}
-use Rattle.path_frames.specs.Machines.{MachineStands, stack}
-use Rattle.path_frames.specs.invariants.Changes.{DiffersInLocals}
+use Rattle.path_machine.specs.declared.frames.BodyFrame.{BodyFrame}
+use Rattle.path_machine.specs.declared.frames.Frame.{Frame as FrameCode}
+use Rattle.path_machine.specs.declared.frames.Frame.TheVariants.{Body, Plan}
+use Rattle.path_machine.specs.declared.machine.Machine.{Machine}
+use Rattle.path_machine.specs.Frames.{target_of_code, BodyStands, FrameStands, FramesStand}
+use Rattle.path_machine.specs.Machines.{MachineStands, stack}
+use Rattle.path_machine.specs.invariants.Changes.{DiffersInLocals}
 
 -- values
 

@@ -1,6 +1,6 @@
 use Rattle.std.proofs.Common.{rules}
-use Rattle.path_frames.proofs.Changing.{object_made}
-use Rattle.path_frames.proofs.machine.Machine.make.Goals as goal
+use Rattle.path_machine.proofs.Changing.{object_made}
+use Rattle.path_machine.proofs.machine.Machine.make.Goals as goal
 
 -- src/machine.rt:105:5
 pub returns-clause-stands : goal.returns-clause-stands

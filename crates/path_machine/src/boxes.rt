@@ -7,7 +7,7 @@ ghost use Rattle.path_plan.specs.Phases.{PartEvent};
 ghost use Rattle.path_numbers.specs.Numbers.{AreClassNumbers};
 ghost use Rattle.path_bodies.specs.Places.{IsIndexOf};
 ghost use Rattle.path_events.specs.Plans.{PlanStands};
-ghost use Rattle.path_frames.specs.invariants.Changes.{DiffersInLocals, at_next, with_plan};
+ghost use Rattle.path_machine.specs.invariants.Changes.{DiffersInLocals, at_next, with_plan};
 
 use crate::frames::{BodyFrame, PlanFrame};
 use crate::lists::set;
@@ -26,7 +26,7 @@ pub struct BodyBox {
 }
 
 impl Model for BodyBox {
-    ghost use Rattle.path_frames.specs.declared.frames.BodyFrame.{BodyFrame};
+    ghost use Rattle.path_machine.specs.declared.frames.BodyFrame.{BodyFrame};
 
     ghost Value = { BodyFrame };
 
@@ -74,7 +74,7 @@ pub struct PlanBox {
 }
 
 impl Model for PlanBox {
-    ghost use Rattle.path_frames.specs.declared.frames.PlanFrame.{PlanFrame};
+    ghost use Rattle.path_machine.specs.declared.frames.PlanFrame.{PlanFrame};
 
     ghost Value = { PlanFrame };
 

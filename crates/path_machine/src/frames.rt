@@ -1,7 +1,7 @@
 //! Frames of bodies and plans.
 
 ghost use Rattle.std.specs.Prelude.{◌≡◌};
-ghost use Rattle.path_frames.specs.Frames.{depth_in};
+ghost use Rattle.path_machine.specs.Frames.{depth_in};
 
 use crate::boxes::{BodyBox, PlanBox};
 use cxx_program::{Conversion, Owner, Variable};
