@@ -14,5 +14,7 @@ pub mod Arithmetic
 pub mod Allowed
 pub mod Results
 pub mod BlockRuns
+pub mod FlatRuns
+pub mod Flattened
 pub mod KeptTwice
 pub mod Tables

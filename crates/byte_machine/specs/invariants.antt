@@ -3,3 +3,4 @@ pub mod CheckKinds
 pub mod OpKinds
 pub mod GivenCallees
 pub mod Steps
+pub mod Flat

@@ -25,7 +25,7 @@ fn unless(holds: bool, rule: u8) -> Option<u8>
 /// Whether the result of a calculation is a number of the width, where both words are set. It answers the rule that refuses, if it
 /// does.
 #[inline(always)]
-fn check_fits<M: Memory>(
+pub fn check_fits<M: Memory>(
     _setup: &Setup,
     running: &Running<M>,
     kind: ArithKind,

@@ -7,6 +7,9 @@
 //! left it answers OutOfSteps, else it runs the block of the innermost frame. `Machine` is proved to be moved by these turns
 //! alone.
 //!
+//! What runs is a flat form of the code, which `Machine::new` makes: one kind for each common op, and one for neighbours that often
+//! stand together (`specs/invariants/Flat.antt` says for which ops each stands).
+//!
 //! The layer above may rely on `Machine::step`, over `state_of` (`specs/MachineState.antt`), and on the lemmas of `proofs/`, one
 //! for each op and outcome, from which what a block leads to is composed: `Leads.antt` and `TurnLeads.antt` for whole blocks,
 //! `CheckLeads`, `ValueLeads`, `CallLeads`, `ReturnLeads`, `PlanLeads` and `ControlLeads` for ops, and `Registers`, `Ranges`,
@@ -19,7 +22,11 @@ mod calls;
 mod checks;
 mod entering;
 mod finishing;
+mod flat;
+mod flat_run;
+mod flatten;
 pub mod frames;
+mod fuse;
 mod hands;
 pub mod heap;
 pub mod machine;
@@ -29,6 +36,7 @@ mod outs;
 mod plans;
 mod returns;
 pub mod running;
+mod simple;
 mod step;
 pub mod turn;
 mod values;

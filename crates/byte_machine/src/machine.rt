@@ -1,9 +1,12 @@
 //! The machine.
 
 ghost use Rattle.std.specs.Prelude.{◌≡◌, ◌+◌, ◌<◌, ◌^◌, length};
+ghost use Rattle.byte_machine.specs.invariants.Flat.{AreFlatBlocks};
 ghost use Rattle.abi_dyncast.specs.Casts.{room};
 
 use crate::entering::{enter_main, same_words};
+use crate::flat::FlatBlock;
+use crate::flatten::flat_blocks;
 use crate::heap::{Heap, Opened};
 use crate::running::{Running, Setup};
 use crate::step::run_step;
@@ -20,6 +23,7 @@ use std::alloc::Global;
 pub struct Machine<M: Memory> {
     setup: Setup,
     code: Code,
+    flat: Vec<FlatBlock>,
     running: Running<M>,
     taken: u32,
     left: u32,
@@ -29,6 +33,8 @@ pub struct Machine<M: Memory> {
     ghost few: { length code.blocks < 2 ^ 32 },
     ghost size: { setup.size ≡ code.registers },
     ghost room: { room running.work ≡ setup.parts },
+    ghost flats: { length flat.items ≡ length code.blocks },
+    ghost same: { AreFlatBlocks code.blocks flat.items },
     ghost settled: { length running.opened.items ≡ 0 },
 }
 
@@ -61,6 +67,7 @@ impl<M: Memory> Machine<M> {
         if code.blocks.len() > u32::MAX as usize {
             return Err(NoMemory);
         }
+        let flat = flat_blocks(alloc, code.blocks.as_slice())?;
         let running = Running {
             heap: Heap::new(alloc, memory),
             shadow: Shadow::new(alloc),
@@ -83,6 +90,7 @@ impl<M: Memory> Machine<M> {
         Ok(Machine {
             setup,
             code,
+            flat,
             running,
             taken: 0,
             left: steps,
@@ -123,6 +131,7 @@ impl<M: Memory> Machine<M> {
     ///
     /// After NoMemory `outs` has its old items, and each later step answers NoMemory too.
     #[inline(always)]
+    #[tactic(auto, using(crate::proofs::Flattened::zip_from))]
     pub fn step(&mut self, outs: &mut RawOutList) -> Result<MachineTurn, NoMemory>
         requires { has_failed self.old ≡ false → HasTurn (fixed_in self.old) (machine_code self.old) (state_of self.old) outs.old }
         ensures turn { IfOk result (λ turn.
@@ -145,7 +154,7 @@ impl<M: Memory> Machine<M> {
             self.answer = Some(MachineTurn::OutOfSteps);
             return Ok(MachineTurn::OutOfSteps);
         }
-        match run_step(&self.setup, &self.code, &mut self.running, outs) {
+        match run_step(&self.setup, &self.code, &self.flat, &mut self.running, outs) {
             Err(error) => {
                 self.failed = true;
                 Err(error)

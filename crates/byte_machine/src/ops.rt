@@ -20,7 +20,8 @@ use byte_memory::Memory;
 use foundation::NoMemory;
 
 /// What stops a block with this line, if a rule refuses.
-fn refused(rule: Option<u8>, line: u32) -> Option<Stop>
+#[inline(always)]
+pub fn refused(rule: Option<u8>, line: u32) -> Option<Stop>
     ensures { stopped result ≡ refusal_stop line rule }
 {
     match rule {

@@ -1,11 +1,14 @@
 //! One step: the block of the innermost frame, over what it works on.
 
 ghost use Rattle.std.specs.Prelude.{◌≡◌, ◌<◌, ◌^◌, IfOk, OnErr, length};
+ghost use Rattle.std.specs.List.{AllZip};
+ghost use Rattle.byte_machine.specs.invariants.Flat.{IsFlatOf};
 ghost use Rattle.abi_dyncast.specs.Casts.{room};
 ghost use Rattle.byte_machine.specs.invariants.States.{fixed_by, running_of, KeepsRoomAndOuts};
 ghost use Rattle.byte_machine.specs.invariants.Steps.{settled_frames, with_outs, HasNext, RanNext};
 
 use crate::block::run_block;
+use crate::flat::FlatBlock;
 use crate::running::{Running, Setup};
 use crate::turn::{MachineTurn, RawOutList};
 use byte_code::Code;
@@ -33,21 +36,27 @@ fn settle<M: Memory>(running: &mut Running<M>) -> Result<(), NoMemory>
 fn run_next<M: Memory>(
     setup: &Setup,
     code: &Code,
+    flat: &[FlatBlock],
     running: &mut Running<M>,
 ) -> Result<MachineTurn, NoMemory>
     requires next { HasNext (fixed_by setup.now) code.now (running_of running.old) }
     requires few { length code.now.blocks < 2 ^ 32 }
+    requires flat { AllZip IsFlatOf code.now.blocks flat.now }
     requires room { room running.old.work ≡ setup.now.parts }
     ensures ran { IfOk result (λ turn. RanNext (fixed_by setup.now) code.now (running_of running.old) (running_of running.new) turn) }
     ensures opened { IfOk result (λ _. length running.new.opened.items ≡ 0) }
     ensures kept { KeepsRoomAndOuts running.old running.new }
 {
-    let Some(block) = code.blocks.as_slice().get(running.top.block as usize) else {
+    let number = running.top.block as usize;
+    let Some(block) = code.blocks.as_slice().get(number) else {
+        unreachable!();
+    };
+    let Some(flat) = flat.get(number) else {
         unreachable!();
     };
     running.top.block += 1;
     running.line = block.line;
-    let turn = run_block(setup, running, block.ops.as_slice())?;
+    let turn = run_block(setup, running, block.ops.as_slice(), flat.ops.as_slice())?;
     settle(running)?;
     Ok(turn)
 }
@@ -59,11 +68,13 @@ fn run_next<M: Memory>(
 pub fn run_step<M: Memory>(
     setup: &Setup,
     code: &Code,
+    flat: &[FlatBlock],
     running: &mut Running<M>,
     outs: &mut RawOutList,
 ) -> Result<MachineTurn, NoMemory>
     requires next { HasNext (fixed_by setup.now) code.now (with_outs (running_of running.old) outs.old) }
     requires few { length code.now.blocks < 2 ^ 32 }
+    requires flat { AllZip IsFlatOf code.now.blocks flat.now }
     requires room { room running.old.work ≡ setup.now.parts }
     ensures ran { IfOk result (λ turn. RanNext (fixed_by setup.now) code.now (with_outs (running_of running.old) outs.old) (with_outs (running_of running.new) outs.new) turn) }
     ensures outs { OnErr result (outs.new ≡ outs.old) }
@@ -72,7 +83,7 @@ pub fn run_step<M: Memory>(
 {
     let was = outs.len();
     std::mem::swap(outs, &mut running.outs);
-    match run_next(setup, code, running) {
+    match run_next(setup, code, flat, running) {
         Ok(turn) => {
             std::mem::swap(outs, &mut running.outs);
             Ok(turn)
