@@ -1,6 +1,6 @@
 //! The machine.
 
-ghost use Rattle.std.specs.Prelude.{◌≡◌, ◌+◌, ◌<◌, ◌^◌, length};
+ghost use Rattle.std.specs.Prelude.{◌≡◌, ◌+◌, ◌<◌, ◌^◌, length, []};
 ghost use Rattle.byte_machine.specs.invariants.Flat.{AreFlatBlocks};
 ghost use Rattle.abi_dyncast.specs.Casts.{room};
 
@@ -10,7 +10,7 @@ use crate::flatten::flat_blocks;
 use crate::heap::{Heap, Opened};
 use crate::running::{Running, Setup};
 use crate::step::run_step;
-use crate::turn::{MachineTurn, RawOutList, kept};
+use crate::turn::{MachineTurn, RawOutList, goes_on};
 use abi_dyncast::WorkList;
 use byte_code::{Code, ImageBytes};
 use byte_memory::Memory;
@@ -36,6 +36,7 @@ pub struct Machine<M: Memory> {
     ghost flats: { length flat.items ≡ length code.blocks },
     ghost same: { AreFlatBlocks code.blocks flat.items },
     ghost settled: { length running.opened.items ≡ 0 },
+    ghost told: { running.outs ≡ [] },
 }
 
 impl<M: Memory> Machine<M> {
@@ -162,7 +163,9 @@ impl<M: Memory> Machine<M> {
             Ok(turn) => {
                 self.taken += 1;
                 self.left -= 1;
-                self.answer = kept(turn);
+                if !goes_on(turn) {
+                    self.answer = Some(turn);
+                }
                 Ok(turn)
             }
         }

@@ -1,6 +1,6 @@
 //! One step: the block of the innermost frame, over what it works on.
 
-ghost use Rattle.std.specs.Prelude.{◌≡◌, ◌<◌, ◌^◌, IfOk, OnErr, length};
+ghost use Rattle.std.specs.Prelude.{◌≡◌, ◌<◌, ◌^◌, IfOk, OnErr, length, []};
 ghost use Rattle.std.specs.List.{AllZip};
 ghost use Rattle.byte_machine.specs.invariants.Flat.{IsFlatOf};
 ghost use Rattle.abi_dyncast.specs.Casts.{room};
@@ -61,6 +61,18 @@ fn run_next<M: Memory>(
     Ok(turn)
 }
 
+/// What one list has goes to the other, which is empty. Where there is nothing, no list is moved.
+#[inline(always)]
+fn hand_on(from: &mut RawOutList, to: &mut RawOutList)
+    requires { to.old ≡ [] }
+    ensures handed { to.new ≡ from.old }
+    ensures left { from.new ≡ [] }
+{
+    if from.len() > 0 {
+        std::mem::swap(from, to);
+    }
+}
+
 /// Runs the next block, and puts what it tells at the end of `outs`.
 ///
 /// Errors: want of memory; then `outs` has its old items.
@@ -76,22 +88,24 @@ pub fn run_step<M: Memory>(
     requires few { length code.now.blocks < 2 ^ 32 }
     requires flat { AllZip IsFlatOf code.now.blocks flat.now }
     requires room { room running.old.work ≡ setup.now.parts }
+    requires told { running.old.outs ≡ [] }
     ensures ran { IfOk result (λ turn. RanNext (fixed_by setup.now) code.now (with_outs (running_of running.old) outs.old) (with_outs (running_of running.new) outs.new) turn) }
     ensures outs { OnErr result (outs.new ≡ outs.old) }
     ensures opened { length running.new.opened.items ≡ 0 }
     ensures room { room running.new.work ≡ room running.old.work }
+    ensures told { running.new.outs ≡ [] }
 {
     let was = outs.len();
-    std::mem::swap(outs, &mut running.outs);
+    hand_on(outs, &mut running.outs);
     match run_next(setup, code, flat, running) {
         Ok(turn) => {
-            std::mem::swap(outs, &mut running.outs);
+            hand_on(&mut running.outs, outs);
             Ok(turn)
         }
         Err(error) => {
             running.outs.truncate(was);
             running.opened.clear();
-            std::mem::swap(outs, &mut running.outs);
+            hand_on(&mut running.outs, outs);
             Err(error)
         }
     }

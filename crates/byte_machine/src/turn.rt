@@ -1,6 +1,6 @@
 //! What a turn answers and tells.
 
-ghost use Rattle.std.specs.Prelude.{◌≡◌};
+ghost use Rattle.std.specs.Prelude.{◌≡◌, if◌then◌else◌, None, Some};
 ghost use Rattle.byte_machine.specs.Turn.{kept_answer};
 
 use foundation::Sequence;
@@ -41,12 +41,10 @@ pub enum RawOut {
 /// What a program told, in order.
 pub type RawOutList = Sequence<RawOut>;
 
-/// The answer that ends a run, if it does.
-pub fn kept(turn: MachineTurn) -> Option<MachineTurn>
-    ensures { result ≡ kept_answer turn }
+/// Whether the run goes on after an answer.
+#[inline(always)]
+pub fn goes_on(turn: MachineTurn) -> bool
+    ensures { kept_answer turn ≡ (if result then None else Some turn) }
 {
-    match turn {
-        MachineTurn::Went => None,
-        _ => Some(turn),
-    }
+    matches!(turn, MachineTurn::Went)
 }
