@@ -6,7 +6,7 @@ import tempfile
 import unittest
 
 import support
-from lib import interpreters, timed
+from lib import bounds, interpreters, timed, timing_rows
 
 # It reads its source, prints its command and says how it ends: `run` well, `gen` by a limit, `layout` by the one that some texts meet,
 # and `paths` by the limit of a source that is known, with 60 MB in use for arrays, or never.
@@ -116,7 +116,54 @@ class Timings(unittest.TestCase):
         self.assertEqual(len(names), len(set(names)))
         self.assertTrue({"run-loop", "paths-loop", "run-shared-thunks", "run-casts", "run-shared-news", "gen", "run-text", "run-dump", "tables-construction-chain", "whole-program", "compilers"} <= set(names))
 
+    def test_bounds_of_a_program_that_never_ends(self):
+        """`paths` never ends here: what needs it has no figure, and all others have one."""
+        done = support.run("timings", "--runs", "1", "--seconds", "1", "--only", "bounds", environment=dict(os.environ, TAGYMELUR=self.program))
+        self.assertEqual(done.returncode, 1)
+        self.assertIn("wrong: paths-copies at 1/1 took more than 1 seconds\n", done.stderr)
+        self.assertEqual(self.cells(done, "paths-copies")[2], "-")
+        self.assertRegex(self.cells(done, "check-silent-chain")[2], r"seconds$")
+        self.assertEqual(sum(line.startswith("| `") for line in done.stdout.splitlines()), len(bounds.BOUNDS))
+
     @support.needs_program
     def test_the_program_itself(self):
         done = support.run("timings", "--runs", "1", "--only", "gen", "--only", "run-dump")
         self.assertEqual((done.returncode, done.stderr), (0, ""), done.stdout)
+
+
+class Seen:
+    """A look at rows whose times and memory are given."""
+
+    def __init__(self, seconds, kilobytes):
+        self.seconds, self.kilobytes = seconds, kilobytes
+
+    def __call__(self, name, part):
+        return timed.Timed(0, b"", b"", 0, self.seconds[name] / part, 0.0, self.kilobytes[name] // part, 0)
+
+    def turns(self, name, part):
+        return 1200 // part
+
+
+class Bounds(unittest.TestCase):
+    def found(self, row, what, look):
+        return next(bound for bound in bounds.BOUNDS if bound.row == row and bound.what.startswith(what)).found(look)
+
+    def test_what_is_found(self):
+        seconds = {"run-casts": 0.6, "run-calls": 0.2, "run-cross-casts": 1.2, "check-silent-chain": 0.5, "run-small-news": 1.0}
+        look = Seen(seconds, {name: 1200 for name in seconds})
+        self.assertAlmostEqual(self.found("run-casts", "a turn", look), 3.0)
+        self.assertAlmostEqual(self.found("run-cross-casts", "a turn", look), 1000.0)
+        self.assertAlmostEqual(self.found("check-silent-chain", "the whole", look), 0.5)
+        self.assertAlmostEqual(self.found("check-silent-chain", "in use", look), 1200 / 1024)
+        self.assertAlmostEqual(self.found("run-small-news", "what", look), 1024.0)
+
+    def test_a_third_may_be_missed(self):
+        self.assertEqual([bounds.holds(found, 1.0) for found in (0.5, 1.0, 1.5, 1.51)], [True, True, True, False])
+
+    def test_each_bound_has_its_rows(self):
+        names = {row.name for row in timing_rows.rows()}
+        self.assertTrue(all(name in names for bound in bounds.BOUNDS for name, _ in bound.needs))
+
+
+if __name__ == "__main__":
+    unittest.main()
