@@ -6,7 +6,7 @@ ghost use Rattle.byte_machine.specs.Running.{Goes};
 ghost use Rattle.byte_machine.specs.Checks.{checked, view_checked};
 ghost use Rattle.byte_machine.specs.invariants.States.{running_of, CanDo, DidAs, KeepsRoomAndOuts, refusal_stop};
 ghost use Rattle.byte_machine.specs.invariants.CheckKinds.{check_kind, OfMemory, OfPhases, OfOwners};
-ghost use Rattle.byte_code.specs.declared.op.Check.TheVariants.{Fits};
+ghost use Rattle.byte_code.specs.declared.op.Check.TheVariants.{Fits, SetLeaf};
 
 use crate::numbers::fits;
 use crate::running::{Running, Setup};
@@ -45,6 +45,27 @@ pub fn check_fits<M: Memory>(
     }
 }
 
+/// Whether the bytes of a leaf are set, where its address is not 0 and set. It answers the rule that refuses, if it does.
+#[inline(always)]
+pub fn check_leaf<M: Memory>(
+    _setup: &Setup,
+    running: &Running<M>,
+    base: u32,
+    offset: u32,
+    width: Width,
+) -> Option<u8>
+    requires allowed { CanDo _setup.now (λ f s. checked f (SetLeaf base offset width) s) running.now }
+    ensures { DidAs _setup.now (λ f s. checked f (SetLeaf base offset width) s) running.now running.now (refusal_stop running.now.line result) }
+{
+    match running.register(base) {
+        None | Some(0) => None,
+        Some(at) => {
+            let leaf = running.heap.load(moved(at, offset as u64), width.bytes);
+            unless(leaf.is_ok(), 5)
+        }
+    }
+}
+
 /// A check that looks at memory, or at the image.
 #[inline(never)]
 fn check_memory<M: Memory>(setup: &Setup, running: &Running<M>, check: &Check) -> Option<u8>
@@ -61,16 +82,7 @@ fn check_memory<M: Memory>(setup: &Setup, running: &Running<M>, check: &Check) -
             base,
             offset,
             width,
-        } => match running.register(*base) {
-            None | Some(0) => None,
-            Some(at) => unless(
-                running
-                    .heap
-                    .load(moved(at, *offset as u64), width.bytes)
-                    .is_ok(),
-                5,
-            ),
-        },
+        } => check_leaf(setup, running, *base, *offset, *width),
         Check::SetBits {
             base,
             offset,

@@ -5,8 +5,8 @@ ghost use Rattle.byte_machine.specs.Effects.{effect_of};
 ghost use Rattle.byte_machine.specs.invariants.OpKinds.{op_kind, moves_bits, OfValues};
 ghost use Rattle.byte_machine.specs.invariants.States.{CanDo, DidAs, KeepsRoomAndOuts};
 
-use crate::numbers::calculate;
 use crate::running::{Running, Setup};
+use crate::simple::{copy_bytes, put_loaded, put_result, store_word};
 use crate::words::moved;
 use byte_code::Op;
 use byte_memory::Memory;
@@ -83,37 +83,19 @@ pub fn run_value<M: Memory>(_setup: &Setup, running: &mut Running<M>, op: &Op)
             base,
             offset,
             width,
-        } => {
-            let at = running.register(*base).unwrap();
-            let low = running
-                .heap
-                .load(moved(at, *offset as u64), width.bytes)
-                .unwrap();
-            running.put(*to, Some(width.extend(low)));
-        }
+        } => put_loaded(_setup, running, *to, *base, *offset, *width),
         Op::Store {
             from,
             base,
             offset,
             width,
-        } => {
-            let at = running.register(*base).unwrap();
-            let word = running.register(*from).unwrap();
-            running
-                .heap
-                .store(moved(at, *offset as u64), width.bytes, word)
-                .unwrap();
-        }
+        } => store_word(_setup, running, *from, *base, *offset, *width),
         Op::Copy {
             to,
             from,
             offset,
             bytes,
-        } => {
-            let source = moved(running.register(*from).unwrap(), *offset as u64);
-            let target = moved(running.register(*to).unwrap(), *offset as u64);
-            running.heap.copy(source, target, *bytes).unwrap();
-        }
+        } => copy_bytes(_setup, running, *to, *from, *offset, *bytes),
         Op::LoadBits { .. } | Op::StoreBits { .. } | Op::CopyBits { .. } => {
             run_bits(_setup, running, op)
         }
@@ -123,11 +105,7 @@ pub fn run_value<M: Memory>(_setup: &Setup, running: &mut Running<M>, op: &Op)
             to,
             left,
             right,
-        } => {
-            let left = running.register(*left).unwrap();
-            let right = running.register(*right).unwrap();
-            running.put(*to, Some(calculate(*kind, *width, left, right)));
-        }
+        } => put_result(_setup, running, *kind, *width, *to, *left, *right),
         _ => unreachable!(),
     }
 }
