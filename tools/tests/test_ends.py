@@ -20,9 +20,9 @@ TAKING = {
     "as-json": ["layout", "--source", "{}"], "cross-check": ["{}"], "cross-run": ["{}"], "draw": ["A", "{}"], "explain": ["check"], "from-cpp": ["{}"], "gcc-tests": ["{}"], "listing": ["{}"],
     "no-memory": ["--about", "2", "check"], "other-layouts": ["{}"], "padding": ["A", "{}"], "page": ["{}"], "read-dumps": ["{}"], "run-cpp": ["{}"], "same-runs": ["{}"], "worked-cases": ["{}"],
 }
-WITHOUT = {"large-source": [], "timings": ["--list"], "definition-lines": [], "package": ["made"], "c-library": ["made"], "fuzz": ["--inputs", "2"], "stack": ["--under", "8000"]}  # these take none, and these words do well
+WITHOUT = {"large-source": [], "timings": ["--list"], "definition-lines": [], "package": ["made"], "c-library": ["made"], "fuzz": ["--inputs", "2"], "stack": ["--under", "8000"], "over-sources": ["byte_code", "--only", "", "--show"]}  # these take none, and these words do well
 NO_WORDS = {
-    "as-json": 2, "c-library": 2, "cross-check": 2, "cross-run": 2, "definition-lines": 0, "draw": 1, "explain": 2, "from-cpp": 2, "gcc-tests": 2, "large-source": 0, "listing": 2, "no-memory": 2, "other-layouts": 2, "package": 2, "padding": 1,
+    "as-json": 2, "c-library": 2, "cross-check": 2, "cross-run": 2, "definition-lines": 0, "draw": 1, "explain": 2, "from-cpp": 2, "gcc-tests": 2, "large-source": 0, "listing": 2, "no-memory": 2, "other-layouts": 2, "over-sources": 2, "package": 2, "padding": 1,
     "page": 1, "read-dumps": 2, "run-cpp": 2, "same-runs": 2, "worked-cases": 2,
 }
 ODD = {
@@ -33,7 +33,7 @@ ODD = {
     "definition-lines": [["more"]], "draw": [["A", "B", "C"], ["--folder"], ["--nothing"], ["--beside"], ["--beside", "{}", "--tables"], ["--beside", "/nowhere/file"], ["--array", "A@0"], ["--array", "A@4097"], ["--array", "A@3", "--member", "A::c"], ["--member", "A"], ["--dump", "/nowhere/file"], ["--dump", "{}", "A"], ["--array", "A@3", "--folder", "x"]], "explain": [["--code", "E99"], ["--code", ""]],
     "from-cpp": [["--class"], ["--program", "--print", "{}"], ["--print", "{}", "{}"], ["--program", "--all", "{}"]], "gcc-tests": [["--jobs", "0", "{}"], ["--jobs", "x", "{}"], ["--table"]],
     "run-cpp": [["--nothing", "{}"], ["--trace"]], "large-source": [["nosuch"], ["chain", "99"], ["chain", "1", "2"]], "listing": [["--object"], ["--source", "{}", "{}"], ["--object", "{}", "--source"], ["--object", "/nowhere/file.o"], ["{}", "--nothing"], ["{}", "--chance", "1"]], "no-memory": [["nosuch"], ["--every", "0", "check"], ["--jobs", "-1", "check"]],
-    "other-layouts": [["--random", "0"], ["--nothing"], ["--seed", "x", "{}"]], "padding": [["A", "B", "C"]], "read-dumps": [["--random", "0"], ["--changed", "x", "{}"], ["--nothing"], ["--keep", "/dev/null/x", "{}"]], "same-runs": [["--steps", "0", "x"], ["--seconds", "-1", "x"]], "timings": [["--only", "nosuch"], ["--runs", "0"]], "worked-cases": [["--nothing"]],
+    "other-layouts": [["--random", "0"], ["--nothing"], ["--seed", "x", "{}"]], "padding": [["A", "B", "C"]], "read-dumps": [["--random", "0"], ["--changed", "x", "{}"], ["--nothing"], ["--keep", "/dev/null/x", "{}"]], "same-runs": [["--steps", "0", "x"], ["--seconds", "-1", "x"]], "over-sources": [["nosuch", "--only", ""], ["byte_code"], ["byte_code", "--only"]], "timings": [["--only", "nosuch"], ["--runs", "0"]], "worked-cases": [["--nothing"]],
 }
 # the status where a source is empty or is none of the language; each other tool has 1. A program that asks for no memory there, or
 # whose allocations cannot be counted, is told by no-memory with status 2
