@@ -92,6 +92,15 @@ class Page:
             found = self.value(text)
         return found
 
+    def settled(self, text):
+        """What a script gives when it gives the same twice, or what it still gives after a while: what is in sight is filled in a little later."""
+        end = time.monotonic() + PATIENCE
+        before, found = None, self.value(text)
+        while found != before and time.monotonic() < end:
+            time.sleep(0.2)
+            before, found = found, self.value(text)
+        return found
+
     def key(self, name):
         """Presses a key and lets it go, as a hand does."""
         for kind in ("rawKeyDown", "keyUp"):

@@ -168,7 +168,7 @@ class InTheBrowser(unittest.TestCase):
         height = "Array.from(document.querySelectorAll('.index, .heads, .source ol')).map((one) => one.getBoundingClientRect().height)"
         for width in (1200, 390):
             with browser.Page(self.path, width) as page:
-                before = page.value(height)
+                before = page.settled(height)
                 page.value(LAID)
                 self.assertEqual(len(json.loads(page.value(columns))), 1)
                 self.assertTrue(all(abs(one - other) < 3 for one, other in zip(before, page.value(height))), (before, page.value(height)))
