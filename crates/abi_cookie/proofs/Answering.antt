@@ -15,9 +15,10 @@ use Rattle.abi_cookie.specs.declared.answers.ArrayAnswer.{ArrayAnswer}
 use Rattle.abi_cookie.specs.declared.answers.ArrayAnswer.TheVariants.{Abstract, TooLarge, Text}
 use Rattle.abi_cookie.specs.Cookies.{NeedsCookie, IsCookie, some_cookie, no_cookie, array_bytes}
 use Rattle.abi_cookie.specs.ArrayTexts.{array_text}
-use Rattle.abi_cookie.specs.Answers.{most_bytes, IsArrayAnswer, of_abstract, too_large, told}
+use Rattle.abi_cookie.specs.Answers.{IsArrayAnswer, of_abstract, too_large, told}
 use Rattle.abi_cookie.specs.invariants.Marks.{mark_of_class, has_destructor, AreMarked}
 use Rattle.abi_cookie.proofs.Marking.{none_marked, one_marked}
+use Rattle.byte_memory.specs.Limits.{most_region_bytes}
 
 -- marks for the first classes
 record HasMarks (h : Classes) (n : ℕ) : Type 0 where
@@ -67,9 +68,9 @@ some_answer h l c n keeps known = ⊎_elim (λ is. (Abstract, of_abstract is)) (
     sized no_abstract cookie = ⊎_elim
         (λ more. (TooLarge, too_large cookie.0 no_abstract cookie.1 more))
         (λ fits. (Text (array_text (l.size c) cookie.0 n), told cookie.0 no_abstract cookie.1 fits))
-        (cases_lt most_bytes (array_bytes (l.size c) cookie.0 n))
+        (cases_lt most_region_bytes (array_bytes (l.size c) cookie.0 n))
 
-not_both : (size n a b : ℕ) → a ≡ b → most_bytes < array_bytes size a n → array_bytes size b n ≤ most_bytes → ⊥
+not_both : (size n a b : ℕ) → a ≡ b → most_region_bytes < array_bytes size a n → array_bytes size b n ≤ most_region_bytes → ⊥
 not_both size n a b same more fits = omega arith
 
 pub one_answer : (h : Classes) (l : Places) (c : ClassId) (n : ℕ) (one other : ArrayAnswer) → IsArrayAnswer h l c n one → IsArrayAnswer h l c n other → one ≡ other
@@ -84,13 +85,13 @@ one_answer h l c n _ _ (told cookie no_abstract size fits) (too_large others non
 one_answer h l c n _ _ (told cookie no_abstract size fits) (told others none_abstract sizes also) = ap (λ (k : ℕ). Text (array_text (l.size c) k n)) (one_size h l c cookie others size sizes)
 
 -- what a call answers, by the size in the row of the class
-pub answer-too_large : (h : Classes) (l : Places) (c : ClassId) (n cookie size : ℕ) → l.size c ≡ size → (IsAbstract h c → ⊥) → IsCookie h l c cookie → most_bytes < array_bytes size cookie n → IsArrayAnswer h l c n TooLarge
-answer-too_large h l c n cookie size same no_abstract is more = too_large cookie no_abstract is (subst (λ (k : ℕ). most_bytes < array_bytes k cookie n) (sym same) more)
+pub answer-too_large : (h : Classes) (l : Places) (c : ClassId) (n cookie size : ℕ) → l.size c ≡ size → (IsAbstract h c → ⊥) → IsCookie h l c cookie → most_region_bytes < array_bytes size cookie n → IsArrayAnswer h l c n TooLarge
+answer-too_large h l c n cookie size same no_abstract is more = too_large cookie no_abstract is (subst (λ (k : ℕ). most_region_bytes < array_bytes k cookie n) (sym same) more)
 
-pub answer-told : (h : Classes) (l : Places) (c : ClassId) (n cookie size : ℕ) (text : List ℕ) → l.size c ≡ size → (IsAbstract h c → ⊥) → IsCookie h l c cookie → array_bytes size cookie n ≤ most_bytes → text ≡ array_text size cookie n → IsArrayAnswer h l c n (Text text)
+pub answer-told : (h : Classes) (l : Places) (c : ClassId) (n cookie size : ℕ) (text : List ℕ) → l.size c ≡ size → (IsAbstract h c → ⊥) → IsCookie h l c cookie → array_bytes size cookie n ≤ most_region_bytes → text ≡ array_text size cookie n → IsArrayAnswer h l c n (Text text)
 answer-told h l c n cookie size text same no_abstract is fits text_is =
     subst (λ (t : List ℕ). IsArrayAnswer h l c n (Text t)) (ap (λ (k : ℕ). array_text k cookie n) same ∙ sym text_is)
-    (told cookie no_abstract is (subst (λ (k : ℕ). array_bytes k cookie n ≤ most_bytes) (sym same) fits))
+    (told cookie no_abstract is (subst (λ (k : ℕ). array_bytes k cookie n ≤ most_region_bytes) (sym same) fits))
 
 -- a cookie keeps the alignment of 8 bytes where the class has no greater one
 pub whole-cookie : (h : Classes) (l : Places) (c : ClassId) (cookie : ℕ) → l.align c ≤ 8 → IsCookie h l c cookie → cookie % 8 ≡ 0

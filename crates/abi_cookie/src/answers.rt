@@ -1,6 +1,7 @@
 //! What is answered where the text of an array is asked for.
 
 ghost use Rattle.std.specs.Prelude.{◌≡◌, ◌<◌, ◌≤◌, IfOk, length};
+ghost use Rattle.cxx_hierarchy.specs.Limits.{most_elements};
 ghost use Rattle.cxx_overrider.specs.Overriders.{AreOverriders};
 ghost use Rattle.abi_sound.specs.Places.{places_of};
 ghost use Rattle.abi_cookie.specs.Answers.{IsArrayAnswer};
@@ -43,7 +44,7 @@ pub fn array_answer<L: SoundLayout>(
     requires overriders { AreOverriders h.now overriders.now }
     requires known { c.0 < length h.now }
     requires some_count { 1 ≤ n }
-    requires few { n ≤ 4096 }
+    requires few { n ≤ most_elements }
     requires align { (places_of h.now (L.rows layout.now)).align c ≤ 8 }
     ensures { IfOk result (IsArrayAnswer h.now (places_of h.now (L.rows layout.now)) c n) }
 {

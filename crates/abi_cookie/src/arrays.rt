@@ -1,6 +1,7 @@
 //! Arrays that `new[]` makes and `delete[]` ends, over any memory. Sizes and places are bytes.
 
 ghost use Rattle.std.specs.Prelude.{◌≡◌, ℕ, ◌+◌, ◌-◌, ◌*◌, ◌%◌, ◌<◌, ◌≤◌, ◌^◌, ◌++◌, None, MatchResult, IfOk, IfErr, OnOk, OnErr, reverse};
+ghost use Rattle.byte_memory.specs.Limits.{most_region_bytes};
 ghost use Rattle.byte_memory.specs.Regions.{close_fault, fault_at, total_of, rounded};
 ghost use Rattle.byte_memory.specs.Store.{Closes, load_of};
 ghost use Rattle.abi_cookie.specs.Cookies.{array_bytes};
@@ -25,7 +26,7 @@ pub fn new_array<M: Memory>(
 ) -> Result<u64, NoMemory>
     requires some_size { 1 ≤ size }
     requires some_count { 1 ≤ count }
-    requires small { array_bytes size cookie count ≤ 1048576 }
+    requires small { array_bytes size cookie count ≤ most_region_bytes }
     requires room { total_of (M.meaning memory.old).regions + rounded (array_bytes size cookie count) < 2 ^ 40 }
     requires multiple { cookie % 8 ≡ 0 }
     ensures made { MatchResult result

@@ -3,6 +3,7 @@
 ghost use Rattle.std.specs.Prelude.{◌≡◌, ℕ, List, ◌+◌, ◌-◌, ◌*◌, ◌<◌, ◌≤◌, ◌^◌, ◌%◌, ◌++◌, [], codes, nat_eq, if◌then◌else◌, map, reverse, All, IfOk, OnOk};
 ghost use Rattle.std.specs.Fmt.{decimal};
 ghost use Rattle.std.specs.List.{flat_map, range_with_len};
+ghost use Rattle.byte_memory.specs.Limits.{most_region_bytes};
 ghost use Rattle.byte_memory.specs.Store.{load_of};
 ghost use Rattle.abi_cookie.specs.Cookies.{array_bytes};
 ghost use Rattle.abi_cookie.specs.Arrays.{IsArray, element_at};
@@ -21,7 +22,7 @@ fn append_sizes(
     cookie: u32,
     count: u32,
 ) -> Result<(), NoMemory>
-    requires { array_bytes size cookie count ≤ 1048576 }
+    requires { array_bytes size cookie count ≤ most_region_bytes }
     ensures { OnOk result (text.new.items ≡ text.old.items ++ sizes_text size cookie count) }
 {
     let bytes = cookie + count * size;
@@ -95,7 +96,7 @@ fn append_elements(
     cookie: u32,
     count: u32,
 ) -> Result<(), NoMemory>
-    requires { array_bytes size cookie count ≤ 1048576 }
+    requires { array_bytes size cookie count ≤ most_region_bytes }
     ensures { OnOk result (text.new.items ≡ text.old.items ++ flat_map (element_text size cookie) (range_with_len 0 count)) }
 {
     for i in 0..count {
@@ -153,7 +154,7 @@ fn append_ending<M: Memory>(
 pub fn array_text(alloc: Global, size: u32, cookie: u32, count: u32) -> Result<Vec<u8>, NoMemory>
     requires some_size { 1 ≤ size }
     requires some_count { 1 ≤ count }
-    requires small { array_bytes size cookie count ≤ 1048576 }
+    requires small { array_bytes size cookie count ≤ most_region_bytes }
     requires multiple { cookie % 8 ≡ 0 }
     ensures { IfOk result (λ text. text.items ≡ array_text size cookie count) }
 {

@@ -1,6 +1,7 @@
 -- The lines of a listing, and the form of each.
 use Rattle.std.specs.Prelude.{◌≡◌, ℕ, zero, suc, ◌<◌, ◌≤◌, List, [], ◌∷◌, ◌++◌, Contains, codes, length, map}
 use Rattle.std.specs.Fmt.{decimal}
+use Rattle.abi_sound.specs.Sound.{most_class_bytes}
 use Rattle.cxx_hierarchy.specs.declared.records.ClassId.{ClassId}
 use Rattle.cxx_hierarchy.specs.declared.records.Member.{Member}
 use Rattle.cxx_hierarchy.specs.Classes.{Classes, members_of}
@@ -10,9 +11,9 @@ use Rattle.abi_primary.specs.declared.Primary.{Primary}
 use Rattle.abi_primary.specs.declared.Primary.TheVariants.{None as NoPrimary, Direct, Virtual}
 use Rattle.abi_print.specs.LayoutTexts.{declared_class_name, subobject_text, primary_text, field_text, proper}
 
--- the largest number that a listing may have
+-- the largest number that a listing may have: no place and no size of a class is larger
 abbrev pub most_number : ℕ
-most_number = 1048576
+most_number = most_class_bytes
 
 -- what a line tells: the sizes of a class, its primary base, the place of a base subobject, or that of a member
 pub data ListingLine : Type 0 where

@@ -8,6 +8,7 @@ ghost use Rattle.std.specs.List.{list_all};
 ghost use Rattle.abi_inspect.specs.invariants.FirstLines.{IsFirstLine};
 
 use crate::splits::{behind, split_at_byte};
+use cxx_text::MOST_WORD_BYTES;
 
 /// The parts of the first line of a dump, as they are written, and what stands behind the line.
 #[derive(Clone, Copy)]
@@ -74,7 +75,7 @@ pub(crate) fn is_word(text: &[u8]) -> bool
     let [first, ..] = text else {
         return false;
     };
-    if text.len() > 255 {
+    if text.len() > MOST_WORD_BYTES {
         return false;
     }
     if !is_letter(*first) {

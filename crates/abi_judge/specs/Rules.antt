@@ -1,6 +1,7 @@
 -- The rules of a sound layout, in their order: the laws of IsSoundClass in six groups (Itanium C++ ABI 2.2, 2.4; ISO C++03 1.8, 9.2, 10).
 use Rattle.std.specs.Prelude.{◌≡◌, ℕ, ◌+◌, ◌*◌, ◌<◌, ◌≤◌, ◌⊎◌, false, Option, Some, None, List, [], ◌∷◌, ◌++◌, length, slice_get}
 use Rattle.std.specs.List.{find}
+use Rattle.abi_sound.specs.Sound.{most_class_bytes}
 use Rattle.cxx_hierarchy.specs.declared.records.ClassId.{ClassId}
 use Rattle.cxx_hierarchy.specs.declared.records.ValueType.{ValueType}
 use Rattle.cxx_hierarchy.specs.declared.records.FieldType.TheVariants.{Value, Object}
@@ -45,7 +46,7 @@ pub record KeepsAlign (h : Classes) (l : Places) (c : ClassId) : Type 0 where
 
 -- the size is at most 1,048,576; numbers, pointers and virtual pointers lie inside it, and class subobjects begin inside it
 pub record KeepsInside (h : Classes) (l : Places) (c : ClassId) : Type 0 where
-  pub bounded : l.size c ≤ 1048576
+  pub bounded : l.size c ≤ most_class_bytes
   pub leaf_inside : (type : ValueType ClassId) (hops : List Hop) → LeadsTo h c hops (Value type) → (leaf_span h l c hops).start + (leaf_span h l c hops).length ≤ 8 * l.size c
   pub pointer_inside : (d : ClassId) (hops : List Hop) → IsDynamic h d → LeadsTo h c hops (Object d) → place_along_hops h l c hops + 8 ≤ l.size c
   pub begins_inside : (d : ClassId) (hops : List Hop) → LeadsTo h c hops (Object d) → place_along_hops h l c hops < l.size c
@@ -91,12 +92,12 @@ IsFault h l c (Some rule) = FailsFirst h l c rule
 
 -- no number of the row is greater than the greatest size
 pub record IsSmallRow (row : ClassLayout) : Type 0 where
-  pub size : row.size ≤ 1048576
-  pub align : row.align ≤ 1048576
-  pub nvalign : row.nvalign ≤ 1048576
-  pub bases : (i place : ℕ) → slice_get row.base_places i ≡ Some place → place ≤ 1048576
-  pub virtuals : (i place : ℕ) → slice_get row.virtual_places i ≡ Some place → place ≤ 1048576
-  pub members : (i place : ℕ) → slice_get row.member_places i ≡ Some place → place ≤ 1048576
+  pub size : row.size ≤ most_class_bytes
+  pub align : row.align ≤ most_class_bytes
+  pub nvalign : row.nvalign ≤ most_class_bytes
+  pub bases : (i place : ℕ) → slice_get row.base_places i ≡ Some place → place ≤ most_class_bytes
+  pub virtuals : (i place : ℕ) → slice_get row.virtual_places i ≡ Some place → place ≤ most_class_bytes
+  pub members : (i place : ℕ) → slice_get row.member_places i ≡ Some place → place ≤ most_class_bytes
 
 -- what is known of the rows when a class is judged: they tell of each class, in small numbers, its virtual bases are held by the
 -- rule, and the classes before it are sound

@@ -3,6 +3,7 @@
 ghost use Rattle.std.specs.Prelude.{◌≡◌, ◌≤◌, ◌<◌, ◌-◌, ℕ, ◌↔◌, IsTrue, IfOk, true};
 ghost use Rattle.std.specs.List.{filter_map, list_all};
 ghost use Rattle.std.specs.List.Sorted.{IsNonDecreasingBy, IsSorted};
+ghost use Rattle.abi_sound.specs.Sound.{most_class_bytes};
 ghost use Rattle.abi_judge.specs.declared.apart.BitSpan.{BitSpan};
 ghost use Rattle.abi_judge.specs.invariants.Things.{fits_in_size, span_in, key_in};
 ghost use Rattle.abi_judge.specs.invariants.Apart.{ShareNoBit, AreDistinct, AreLong, key_cmp};
@@ -20,7 +21,7 @@ pub(crate) struct BitSpan {
 
 /// The bits that a thing inside a size shares with no other: those of a leaf, and of each chain one virtual pointer.
 fn span_of(thing: &Thing) -> Option<BitSpan>
-    requires { (size : ℕ) × (size ≤ 1048576) × (fits_in_size size thing.now ≡ true) }
+    requires { (size : ℕ) × (size ≤ most_class_bytes) × (fits_in_size size thing.now ≡ true) }
     ensures { result ≡ span_in thing.now }
 {
     match thing {
@@ -48,7 +49,7 @@ fn span_of(thing: &Thing) -> Option<BitSpan>
 
 /// The bits of all things inside a size.
 fn spans_of(alloc: Global, things: &[Thing], size: u32) -> Result<Vec<BitSpan>, NoMemory>
-    requires size { size ≤ 1048576 }
+    requires size { size ≤ most_class_bytes }
     requires inside { list_all (fits_in_size size) things.now ≡ true }
     ensures { IfOk result (λ spans. spans.items ≡ filter_map span_in things.now) }
 {
@@ -87,7 +88,7 @@ fn goes_on(spans: &[BitSpan]) -> bool
 ///
 /// Errors: want of memory.
 pub(crate) fn shares_bits(alloc: Global, things: &[Thing], size: u32) -> Result<bool, NoMemory>
-    requires size { size ≤ 1048576 }
+    requires size { size ≤ most_class_bytes }
     requires inside { list_all (fits_in_size size) things.now ≡ true }
     requires long { AreLong (filter_map span_in things.now) }
     ensures { IfOk result (λ shares. IsTrue shares ↔ (ShareNoBit (filter_map span_in things.now) → ⊥)) }

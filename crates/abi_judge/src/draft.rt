@@ -3,6 +3,8 @@
 ghost use Rattle.std.specs.Prelude.{◌≡◌, ◌≤◌, ◌<◌, ◌*◌, ◌^◌, Some, length, nat_eq, position, slice_get};
 ghost use Rattle.cxx_hierarchy.specs.declared.records.ClassId.{ClassId};
 ghost use Rattle.std.specs.Option.{option_copied};
+ghost use Rattle.cxx_hierarchy.specs.Limits.{most_classes};
+ghost use Rattle.abi_sound.specs.Sound.{most_class_bytes};
 ghost use Rattle.cxx_subobject.specs.Subobjects.{IsSubobject, class_of};
 ghost use Rattle.abi_sound.specs.Places.{direct_base_place, nth_holder, place_along, place_from, place_in_class, places_of, primary_in, root_place, virtual_place, member_place, first_bit};
 ghost use Rattle.abi_judge.specs.Rules.{HasFirstHolders};
@@ -58,7 +60,7 @@ impl<'a> Draft<'a> {
     pub(crate) fn base_place(&self, c: ClassId, b: ClassId) -> u64
         requires { AreDraftRows self.now }
         ensures is { result ≡ direct_base_place self.now.h.now self.now.rows.now c b }
-        ensures small { result ≤ 1048576 }
+        ensures small { result ≤ most_class_bytes }
     {
         if c.0 >= self.h.len() {
             return 0;
@@ -72,7 +74,7 @@ impl<'a> Draft<'a> {
         requires draft { AreDraftRows self.now }
         requires known { c.0 < length self.now.h.now }
         ensures is { result ≡ virtual_place self.now.rows.now c v }
-        ensures small { result ≤ 1048576 }
+        ensures small { result ≤ most_class_bytes }
     {
         let row = self.row(c);
         let number = number_of_virtual(row.virtual_bases.as_slice(), v);
@@ -85,7 +87,7 @@ impl<'a> Draft<'a> {
         requires draft { AreDraftRows self.now }
         requires known { d.0 < length self.now.h.now }
         ensures is { result ≡ member_place self.now.rows.now d m }
-        ensures small { result ≤ 1048576 }
+        ensures small { result ≤ most_class_bytes }
     {
         place_of_number(self.row(d).member_places.as_slice(), Some(m as usize)) as u64
     }
@@ -107,7 +109,7 @@ impl<'a> Draft<'a> {
         requires draft { AreDraftRows self.now }
         requires short { length path.now ≤ 2 ^ 32 }
         ensures is { result ≡ place_along self.now.h.now self.now.rows.now c path.now }
-        ensures small { result ≤ length path.now * 1048576 }
+        ensures small { result ≤ length path.now * most_class_bytes }
     {
         match path.split_first() {
             Some((b, rest)) => self.base_place(c, *b) + self.place_along(*b, rest),
@@ -118,9 +120,9 @@ impl<'a> Draft<'a> {
     /// The sum of the places along a path and below its first class, in bytes.
     fn place_from(&self, path: &[ClassId]) -> u64
         requires draft { AreDraftRows self.now }
-        requires short { length path.now ≤ 1024 }
+        requires short { length path.now ≤ most_classes }
         ensures is { result ≡ place_from self.now.h.now self.now.rows.now path.now }
-        ensures small { result ≤ 1024 * 1048576 }
+        ensures small { result ≤ most_classes * most_class_bytes }
     {
         match path.split_first() {
             Some((d, rest)) => self.place_along(*d, rest),
@@ -133,7 +135,7 @@ impl<'a> Draft<'a> {
         requires draft { AreDraftRows self.now }
         requires known { c.0 < length self.now.h.now }
         ensures is { result ≡ root_place self.now.rows.now c root }
-        ensures small { result ≤ 1048576 }
+        ensures small { result ≤ most_class_bytes }
     {
         match root {
             Root::Whole => 0,

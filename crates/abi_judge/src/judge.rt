@@ -2,6 +2,7 @@
 
 ghost use Rattle.std.specs.Prelude.{◌≡◌, ◌<◌, ◌≤◌, ◌↔◌, IsTrue, IfOk, Some, false, length, slice_get};
 ghost use Rattle.std.specs.List.{filter_map, list_all};
+ghost use Rattle.abi_sound.specs.Sound.{most_class_bytes};
 ghost use Rattle.cxx_hierarchy.specs.VirtualBases.{IsDirectBase, HasVirtualBase};
 ghost use Rattle.abi_primary.specs.Kinds.{IsDynamic};
 ghost use Rattle.cxx_subobject.specs.declared.Subobject.{Subobject};
@@ -245,7 +246,7 @@ fn fault_of_things(
     things: &[Thing],
     size: u32,
 ) -> Result<Option<SoundRule>, NoMemory>
-    requires size { size ≤ 1048576 }
+    requires size { size ≤ most_class_bytes }
     requires long { AreLong (filter_map span_in things.now) }
     ensures { IfOk result (IsFaultOfThings size things.now) }
 {

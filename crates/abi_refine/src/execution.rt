@@ -1,6 +1,7 @@
 //! A program, built and run on the byte machine.
 
 ghost use Rattle.std.specs.Prelude.{◌≡◌, ◌≤◌, true, Some, IfOk};
+ghost use Rattle.foundation.specs.Limits.{most_steps};
 ghost use Rattle.cxx_hierarchy.specs.declared.stop.LimitNo.TheVariants.{L9};
 ghost use Rattle.cxx_overrider.specs.Overriders.{AreOverriders};
 ghost use Rattle.cxx_program.specs.Typed.{IsTypedProgram};
@@ -23,12 +24,10 @@ use byte_memory::PageMemory;
 use cxx_hierarchy::Hierarchy;
 use cxx_overrider::Overriders;
 use cxx_program::TypedProgram;
+use cxx_subobject::MOST_SUBOBJECTS;
 use foundation::{NoMemory, Sequence};
 use std::alloc::Global;
 use text_told::End;
-
-/// The most inheritance subobjects that a class may have: a cast has room for so many.
-const MOST_SUBOBJECTS: usize = 1024;
 
 /// What a run showed, its steps and how it ended; and the machine that ran it, with the numbers of its functions.
 #[derive(Drop)]
@@ -61,7 +60,7 @@ pub fn execute<L: SoundLayout>(
     requires typed { IsTypedProgram h.now program.now }
     requires main { is_body program.now.main ≡ true }
     requires small { IsSmall program.now }
-    requires budget { steps ≤ 4000000 }
+    requires budget { steps ≤ most_steps }
     ensures text { IfOk result (λ run. run.text ≡ (told h.now (places_of h.now (L.rows layout.now)) program.now trace steps).text) }
     ensures end { IfOk result (λ run. told_ending run.end ≡ (told h.now (places_of h.now (L.rows layout.now)) program.now trace steps).ending) }
     ensures steps { IfOk result (λ run. (run.end ≡ End.Limit L9 → ⊥) → run.steps ≡ (run_of h.now (places_of h.now (L.rows layout.now)).size program.now steps).steps) }
@@ -73,7 +72,7 @@ pub fn execute<L: SoundLayout>(
         image,
     } = build(alloc, h, overriders, layout, program)?;
     let memory = PageMemory::new(alloc);
-    let mut machine = Machine::new(alloc, memory, image, code, MOST_SUBOBJECTS, steps)?;
+    let mut machine = Machine::new(alloc, memory, image, code, MOST_SUBOBJECTS as usize, steps)?;
     let Ran { text, steps, end } = run_machine(
         alloc,
         h,

@@ -1,6 +1,7 @@
 //! A whole run.
 
 ghost use Rattle.std.specs.Prelude.{◌≡◌, ◌≤◌, ◌++◌, ◌∷◌, ◌&&◌, [], false, not, Contains, IfOk, OnOk};
+ghost use Rattle.foundation.specs.Limits.{most_steps};
 ghost use Rattle.cxx_hierarchy.specs.declared.stop.LimitNo.TheVariants.{L9};
 ghost use Rattle.path_model.specs.Runs.{run_of};
 ghost use Rattle.byte_machine.specs.MachineState.{machine_code, machine_image, cast_room, fixed_in, state_of, has_failed};
@@ -24,10 +25,7 @@ use cxx_program::TypedProgram;
 use foundation::{NoMemory, Sequence};
 use std::alloc::Global;
 use text_bytes::{CalledFunctions, append_raw, is_traced};
-use text_told::End;
-
-/// The bytes that the text of a run may have.
-const TEXT_LIMIT: usize = 16777216;
+use text_told::{End, TEXT_LIMIT};
 
 /// The text of a run, the number of its steps, and how it ended.
 #[derive(Drop)]
@@ -120,7 +118,7 @@ pub fn run_machine<M: Memory, L: SoundLayout>(
     requires layout { L.lays_out layout.now h.now }
     requires stands { StandsInSomeWorld (setup h.now (L.rows layout.now) program.now) (machine_code machine.old) numbers.now (fixed_in machine.old) (state_after (setup h.now (L.rows layout.now) program.now) 0) (state_of machine.old) }
     requires first { (state_of machine.old).taken ≡ 0 }
-    requires budget { (state_of machine.old).left ≤ 4000000 }
+    requires budget { (state_of machine.old).left ≤ most_steps }
     requires ready { has_failed machine.old ≡ false }
     ensures run { IfOk result (λ ran. let x = setup h.now (L.rows layout.now) program.now in IsRun x.h (places x) x.program trace (state_of machine.old).left ran.text.items ran.end) }
     ensures executes { IfOk result (λ ran. Executes (fixed_in machine.old) (machine_code machine.old) (text_of_turn (setup h.now (L.rows layout.now) program.now) numbers.now (machine_image machine.old) trace) (state_of machine.old) (state_of machine.new) ran.text.items ran.end) }
@@ -158,7 +156,7 @@ pub fn run_machine<M: Memory, L: SoundLayout>(
 
 /// The steps of a run that ends behind so many: the end of `main` is one more.
 fn counted(steps: u32, end: End) -> u32
-    requires { steps ≤ 4000000 }
+    requires { steps ≤ most_steps }
     ensures { result ≡ counted_by steps end }
 {
     match end {

@@ -52,6 +52,10 @@ abbrev pub is_primary_of : Places → ClassId → Option ClassId → Bool
 is_primary_of l v None = false
 is_primary_of l v (Some d) = is_virtual_primary (l.primary d) v
 
+-- the bytes of an object of a class
+abbrev pub most_class_bytes : ℕ
+most_class_bytes = 1048576
+
 -- the laws of an object of class c, at every depth of its bases, members and elements
 pub record IsSoundClass (h : Classes) (l : Places) (c : ClassId) : Type 0 where
   -- a primary base is a direct non-virtual base or a virtual base, and dynamic
@@ -61,7 +65,7 @@ pub record IsSoundClass (h : Classes) (l : Places) (c : ClassId) : Type 0 where
   pub holder : (v : ClassId) → HasVirtualBase h c v → l.holder c v ≡ find (λ (s : Subobject). is_primary_of l v (class_of s)) (preorder h c)
   -- a size is at least 1 and at most 1,048,576
   pub positive : 1 ≤ l.size c
-  pub bounded : l.size c ≤ 1048576
+  pub bounded : l.size c ≤ most_class_bytes
   -- a subobject and its primary base have one place; a place is by definition the sum along a path
   pub one_place : (s t : Subobject) → IsSubobject h c s → primary_part l c s ≡ Some t → l.place c t ≡ l.place c s
   -- a number or a pointer is aligned, a base lies at a multiple of its class's alignment as a base, and a member or an element at one

@@ -1,6 +1,7 @@
 //! The subobjects of a view: where they lie, and the next of each one's chain.
 
 ghost use Rattle.std.specs.Prelude.{◌≡◌, ◌<◌, ◌≤◌, ◌↔◌, ◌++◌, ◌∷◌, [], ◌&&◌, nat_eq, take, ℕ, IsTrue, IfOk, IfSome, MatchOption, Some, None, length, slice_get, slice_index_or};
+ghost use Rattle.cxx_hierarchy.specs.Limits.{most_classes};
 ghost use Rattle.cxx_hierarchy.specs.declared.records.ClassId.{ClassId};
 ghost use Rattle.cxx_hierarchy.specs.Classes.{Classes};
 ghost use Rattle.cxx_subobject.specs.declared.Subobject.{Subobject};
@@ -316,7 +317,7 @@ fn note_start(starts: &mut Vec<usize>, c: ClassId, n: usize)
 ///
 /// Errors: want of memory.
 fn starts_of(alloc: Global, class: ClassId, parts: &[Part]) -> Result<NumberList, NoMemory>
-    requires { class.0 < 1024 }
+    requires { class.0 < most_classes }
     ensures { IfOk result (λ starts. AreStarts starts parts.now) }
 {
     let mut starts = vec![in alloc; parts.len(); class.0 as usize + 1]?;

@@ -100,7 +100,7 @@ pub fn open_call<M: Memory>(
     arguments: &[u32],
     kept: Kept,
 ) -> Result<(), NoMemory>
-    requires { running.old.calls < 4096 }
+    requires { running.old.calls < most_calls }
     ensures did { IfOk result (λ _. running_of running.new ≡ calling (frame_at (fixed_by setup.now) block this (register_words (running_of running.old) arguments.now) (kept_of kept)) (running_of running.old)) }
     ensures kept { KeepsRoomAndOuts running.old running.new }
 {

@@ -1,12 +1,16 @@
 //! The heap objects of a run, over a memory.
 
 ghost use Rattle.std.specs.Prelude.{◌≡◌, ◌+◌, ◌*◌, ◌<◌, ◌≤◌, ◌^◌, length, nat_le};
+ghost use Rattle.byte_memory.specs.Limits.{most_region_bytes};
 ghost use Rattle.byte_memory.specs.Regions.{rounded, CountsStarts};
-ghost use Rattle.byte_machine.specs.Heap.{AreObjectsInOrder, LieInRegions, has_address, object_at};
+ghost use Rattle.byte_machine.specs.Heap.{AreObjectsInOrder, LieInRegions, has_address, heap_limit, object_at};
 
 use byte_memory::{Memory, MemoryFault};
 use foundation::NoMemory;
 use std::alloc::Global;
+
+/// The most bytes that all heap objects of a run may take together.
+const HEAP_LIMIT: u64 = 67_108_864;
 
 /// A heap object: its number, from 1 on, and its region and class. It is listed also after its region was closed.
 #[derive(Clone, Copy, Debug, PartialEq, Eq)]
@@ -24,7 +28,7 @@ pub struct Heap<M: Memory> {
     objects: Vec<Opened>,
     total: u64,
     ghost counted: { 16 * length objects.items ≤ total },
-    ghost limited: { total ≤ 67108864 },
+    ghost limited: { total ≤ heap_limit },
     ghost in_order: { AreObjectsInOrder objects.items },
     ghost inside: { LieInRegions objects.items (M.meaning memory).regions },
 }
@@ -41,7 +45,7 @@ impl<M: Memory> Heap<M> {
     ghost use Rattle.byte_memory.specs.Bits.{AreOneOrApart};
     ghost use Rattle.byte_memory.specs.Store.{IsRoom, byte_span, open_of, store_of, store_bits_of, load_of, load_bits_of, copied_store, copy_bits_of, Closes, IsChanged};
     ghost use Rattle.byte_memory.specs.Regions.{total_of, fault_at, copy_fault, close_fault};
-    ghost use Rattle.byte_machine.specs.Heap.{with_heap_object, heap_limit};
+    ghost use Rattle.byte_machine.specs.Heap.{with_heap_object};
 
     /// A memory in which no heap object was made yet.
     pub fn new(alloc: Global, memory: M) -> Heap<M>
@@ -67,14 +71,14 @@ impl<M: Memory> Heap<M> {
     pub fn is_full(&self, size: u32) -> bool
         ensures { result ≡ nat_lt heap_limit (self.now.total + rounded size) }
     {
-        self.total + round_up(size) > 67_108_864
+        self.total + round_up(size) > HEAP_LIMIT
     }
 
     /// Opens a region and lists it as a heap object. After NoMemory nothing is said of the heap.
     pub fn make(&mut self, size: u32, class: u32) -> Result<u64, NoMemory>
         requires positive { 0 < size }
-        requires small { size ≤ 1048576 }
-        requires limited { self.old.total + rounded size ≤ 67108864 }
+        requires small { size ≤ most_region_bytes }
+        requires limited { self.old.total + rounded size ≤ heap_limit }
         requires room { total_of (M.meaning self.old.memory).regions + rounded size < 2 ^ 40 }
         ensures at { IfOk result (λ at. IsRoom (M.meaning self.old.memory) at size) }
         ensures memory { IfOk result (λ at. M.meaning self.new.memory ≡ open_of (M.meaning self.old.memory) at size) }

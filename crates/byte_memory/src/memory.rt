@@ -1,6 +1,7 @@
 //! The trait of all memories.
 
 ghost use Rattle.std.specs.Prelude.{◌≡◌, ◌+◌, ◌*◌, ◌/◌, ◌<◌, ◌≤◌, ◌^◌, Some, None, MatchResult, IfOk, is_some};
+ghost use Rattle.byte_memory.specs.Limits.{most_region_bytes};
 ghost use Rattle.byte_memory.specs.Bits.{AreOneOrApart};
 ghost use Rattle.byte_memory.specs.Regions.{fault_at, close_fault, copy_fault, total_of, rounded, IsAscending};
 ghost use Rattle.byte_memory.specs.Store.{Store, IsRoom, open_of, byte_at, byte_span, set_of};
@@ -65,7 +66,7 @@ pub trait Memory {
     /// Its one refusal is `NoMemory`, after which all is as before.
     fn open(&mut self, size: u64) -> Result<u64, MemoryFault>
         requires positive { 0 < size }
-        requires small { size ≤ 1048576 }
+        requires small { size ≤ most_region_bytes }
         requires room { total_of (meaning self.old).regions + rounded size < 2 ^ 40 }
         ensures { MatchResult result
             (λ at. IsRoom (meaning self.old) at size

@@ -1,7 +1,7 @@
 //! From a text to its declarations.
 
 ghost use Rattle.std.specs.Prelude.{◌≡◌, ◌≤◌, ◌+◌, ◌∷◌, ◌⊎◌, [], List, length, All, false, is_some, IfOk, IfErr};
-ghost use Rattle.cxx_text.specs.Cover.{max_text_bytes};
+ghost use Rattle.foundation.specs.Limits.{source_limit};
 ghost use Rattle.cxx_hierarchy.specs.declared.stop.Stop.{Stop};
 ghost use Rattle.cxx_hierarchy.specs.ClassPass.{IsInOrder};
 ghost use Rattle.cxx_grammar.specs.declared.sort.Lexeme.{Lexeme};
@@ -59,7 +59,7 @@ fn whole_source(text: &Text, all: &[Lexeme]) -> Result<SourceText, Stop>
 /// Errors: E1, E21 or E2 at the first token with which the tokens begin no source, L3 at the 65th open block, E7 at
 /// a second `main`, or want of memory.
 pub fn parse_source(alloc: Global, text: &[u8], list: &TokenList) -> Result<SourceText, Stop>
-    requires { length list.now.tokens ≤ max_text_bytes + 1 }
+    requires { length list.now.tokens ≤ source_limit + 1 }
     ensures reads { let all = lexemes text.now source_start list.now.tokens list.now.bad in IfOk result (λ s. (rest : List Lexeme) × SourceReads text.now s all rest × DerivesPrefix source_form at_start all rest) }
     ensures in_order { IfOk result (λ s. All IsInOrder s.records) }
     ensures event { let all = lexemes text.now source_start list.now.tokens list.now.bad in IfErr result (λ e. (e ≡ Stop.NoMemory) ⊎ Event source_form at_start all e) }

@@ -35,7 +35,7 @@ const MOST_DECLARED: usize = 1024;
 const MOST_PARAMETERS: usize = 16;
 
 /// The most elements of an array.
-const MOST_ELEMENTS: u32 = 4096;
+pub const MOST_ELEMENTS: u32 = 4096;
 
 /// The classes of a source, with their names' table, and how many of them stand before the class that is checked.
 #[derive(Drop)]

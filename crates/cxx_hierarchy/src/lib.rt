@@ -21,7 +21,7 @@ mod resolution;
 pub mod stop;
 mod virtual_rows;
 
-pub use crate::class_pass::MOST_CLASSES;
+pub use crate::class_pass::{MOST_CLASSES, MOST_ELEMENTS};
 pub use crate::hierarchy::{Hierarchy, build};
 pub use crate::names::NameTable;
 pub use crate::records::{

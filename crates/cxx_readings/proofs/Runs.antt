@@ -1,7 +1,7 @@
 -- A run of the table that ends has read a source.
 use Rattle.std.proofs.Common.{◌≡◌, ℕ, zero, suc, ◌+◌, ◌^◌, ◌<◌, ◌≤◌, ◌⊎◌, inl, inr, Bool, true, false, cond, nat_lt, List, [], ◌∷◌, ◌++◌, Option, Some, None, length, filter_map, flat_map, refl, sym, subst, ◌∙◌, arith}
 use Rattle.cxx_text.specs.declared.token.Token.{Token}
-use Rattle.cxx_text.specs.Cover.{AreTokens, max_text_bytes}
+use Rattle.cxx_text.specs.Cover.{AreTokens}
 use Rattle.cxx_text.proofs.SomeTokens.{tokens_within}
 use Rattle.cxx_grammar.specs.declared.sort.Sort.{Sort}
 use Rattle.cxx_grammar.specs.declared.sort.Sort.TheVariants.{Struct, Main, OpenBlock, CloseBrace, End, Bad}
@@ -25,6 +25,7 @@ use Rattle.cxx_readings.proofs.Rights.{named, tail, member, read_place, more_arg
 use Rattle.cxx_readings.proofs.Statements.{after_name, print_read, statements, else_read, block}
 use Rattle.cxx_readings.proofs.Parts.{base_after_virtual, base_after_access, base, bases, field_end, param, more_params, params, after_declared, after_scalar, after_type, after_own_name, init_read, inits_end, constructor_end, virtual_end, after_virtual, parts}
 use Rattle.cxx_readings.proofs.Items.{class_tail, after_int, items}
+use Rattle.foundation.specs.Limits.{source_limit}
 
 -- a token keeps that a main was read
 opened : (b : Bool) (s v : State) → cond b (Some (record { blocks = s.blocks + 1; main = s.main })) None ≡ Some v → Keeps s v
@@ -157,7 +158,7 @@ source_or_event text all b z = on (run all at_start (ItemsEnd ∷ [])) refl wher
   on (Done r) h = let s = source_at text all r b h in inl (s.0, r, s.1, source_prefix at_start all r h)
   on (Stopped e) h = inr (e, source_event at_start all e z h)
 
-pub some_source : (text : List ℕ) (ts : List Token) (bad : Option ℕ) → length text ≤ max_text_bytes → AreTokens text ts bad → SourceOrEvent text (lexemes text source_start ts bad)
+pub some_source : (text : List ℕ) (ts : List Token) (bad : Option ℕ) → length text ≤ source_limit → AreTokens text ts bad → SourceOrEvent text (lexemes text source_start ts bad)
 some_source text ts bad le c =
     let n = tokens_within text ts bad c in
     let m = length-lexemes text source_start ts bad in

@@ -4,7 +4,7 @@ ghost use Rattle.std.specs.Prelude.{◌≡◌, ◌≤◌, List, Option, Some, �
 ghost use Rattle.cxx_text.specs.declared.token.Token.{Token};
 ghost use Rattle.cxx_text.specs.declared.token.Kind.TheVariants.{Word};
 ghost use Rattle.cxx_text.specs.OneToken.{IsToken};
-ghost use Rattle.cxx_text.specs.Cover.{AreTokens, max_text_bytes};
+ghost use Rattle.cxx_text.specs.Cover.{AreTokens};
 ghost use Rattle.cxx_grammar.specs.declared.sort.Lexeme.{Lexeme};
 ghost use Rattle.cxx_grammar.specs.Lexemes.{lexemes, source_start};
 ghost use Rattle.cxx_hierarchy.specs.declared.records.ClassRec.{ClassRec};
@@ -12,10 +12,11 @@ ghost use Rattle.cxx_syntax.specs.declared.source_text.SourceText.{SourceText};
 ghost use Rattle.cxx_syntax.specs.Parts.{Spelled};
 ghost use Rattle.cxx_syntax.specs.Sources.{SourceReads, ReadsOrStops};
 ghost use Rattle.cxx_syntax.specs.Owners.{AreBodiesOf};
+ghost use Rattle.foundation.specs.Limits.{source_limit};
 
 /// The tokens of a text of at most 262,144 bytes are those of a source, or they have a first event.
 pub fn some_source_text()
-    ensures { (text : List ℕ) (ts : List Token) (bad : Option ℕ) → length text ≤ max_text_bytes → AreTokens text ts bad → ReadsOrStops text (lexemes text source_start ts bad) }
+    ensures { (text : List ℕ) (ts : List Token) (bad : Option ℕ) → length text ≤ source_limit → AreTokens text ts bad → ReadsOrStops text (lexemes text source_start ts bad) }
 {}
 
 /// The bodies of a source are those of its records: record by record, one for each function that is not pure, each

@@ -1,6 +1,7 @@
 //! Declarations of locals.
 
 ghost use Rattle.std.specs.Prelude.{◌≡◌, ◌<◌, OnOk};
+ghost use Rattle.cxx_resolve.specs.Walks.{most_locals};
 ghost use Rattle.cxx_overrider.specs.Overriders.{AreOverriders};
 ghost use Rattle.cxx_expression.specs.Checked.{Answers};
 ghost use Rattle.cxx_expression.specs.invariants.Known.{Knows};
@@ -79,7 +80,7 @@ pub(crate) fn declare_of(
 ) -> Result<Option<TypedKind>, NoMemory>
     requires made { AreOverriders body.now.h.now body.now.overriders.now }
     requires knows { Knows body.now.h.now known.old }
-    requires few { scene.old.declared < 256 }
+    requires few { scene.old.declared < most_locals }
     ensures declares { AnswersDeclaration result scene.new faults.old faults.new (declare_of body.now.h.now body.now.setting.now scene.old at variable.now.ty.now variable.now.ty_at variable.now.name.now variable.now.init.now) }
     ensures knows { OnOk result (Knows body.now.h.now known.new) }
 {

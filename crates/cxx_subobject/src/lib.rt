@@ -29,7 +29,7 @@ pub use crate::listing::{
     subobject_below, subobjects_of,
 };
 pub use crate::locations::{Hop, HopList, Location};
-pub use crate::parts::PartCounts;
+pub use crate::parts::{MOST_SUBOBJECTS, PartCounts};
 pub use crate::sameness::{is_same, is_same_root, shared_class};
 use cxx_hierarchy::ClassId;
 use foundation::Sequence;

@@ -17,7 +17,7 @@ use std::alloc::Global;
 use std::marker::Model;
 
 /// The largest number of inheritance subobjects of a class.
-const MOST_SUBOBJECTS: u32 = 1024;
+pub const MOST_SUBOBJECTS: u32 = 1024;
 
 /// The largest number of parts of a class.
 const MOST_PARTS: u32 = 65536;

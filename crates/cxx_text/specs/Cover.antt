@@ -36,7 +36,3 @@ pub data Covers : List ℕ → List ℕ → List Token → Option ℕ → Type 0
 -- the tokens of a text, and the first place where no token stands
 abbrev pub AreTokens : List ℕ → List Token → Option ℕ → Type 0
 AreTokens text ts bad = Covers [] text ts bad
-
--- the bytes that a text has at most
-abbrev pub max_text_bytes : ℕ
-max_text_bytes = 262144

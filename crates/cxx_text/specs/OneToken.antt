@@ -20,9 +20,13 @@ is_numeral [] = false
 is_numeral (d ∷ []) = is_digit d
 is_numeral (d ∷ e ∷ ds) = not (d == 48) && list_all is_digit (d ∷ e ∷ ds)
 
--- these bytes are a token of this kind and value: a word of at most 255 bytes, a number below 2 ^ 63, or a sign
+-- the bytes of a word
+abbrev pub most_word_bytes : ℕ
+most_word_bytes = 255
+
+-- these bytes are a token of this kind and value: a word of at most so many bytes, a number below 2 ^ 63, or a sign
 pub data IsToken : List ℕ → Kind → ℕ → Type 0 where
-  word : (b : ℕ) (bs : List ℕ) → is_letter b ≡ true → list_all is_word_byte bs ≡ true → length (b ∷ bs) ≤ 255 →
+  word : (b : ℕ) (bs : List ℕ) → is_letter b ≡ true → list_all is_word_byte bs ≡ true → length (b ∷ bs) ≤ most_word_bytes →
       IsToken (b ∷ bs) Word 0
   number : (ds : List ℕ) → is_numeral ds ≡ true → decimal ds < 2 ^ 63 → IsToken ds Number (decimal ds)
   one_byte_sign : (a : ℕ) → is_one_byte_sign a ≡ true → IsToken (a ∷ []) Sign 0

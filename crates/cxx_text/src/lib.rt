@@ -15,5 +15,6 @@ pub mod longest;
 pub mod scan;
 pub mod token;
 
+pub use crate::longest::MOST_WORD_BYTES;
 pub use crate::scan::{one_token_list, some_token_list, tokens};
 pub use crate::token::{Kind, Token, TokenList, Tokens};

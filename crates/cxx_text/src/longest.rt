@@ -10,6 +10,9 @@ ghost use Rattle.cxx_text.specs.invariants.Front.{sign_len, number_value, value_
 use crate::bytes::{is_digit, is_letter, is_one_byte_sign, is_two_byte_sign, is_word_byte};
 use crate::token::Kind;
 
+/// The most bytes of a word.
+pub const MOST_WORD_BYTES: usize = 255;
+
 /// A token at the front of a text, and its length in bytes.
 #[derive(Clone, Copy, Debug)]
 pub(crate) struct Found {
@@ -96,7 +99,7 @@ pub(crate) fn token_at(text: &[u8]) -> Option<Found>
         return None;
     };
     if is_letter(*first) {
-        let len = run_len(text).min(255);
+        let len = run_len(text).min(MOST_WORD_BYTES);
         Some(Found {
             kind: Kind::Word,
             len,

@@ -3,7 +3,8 @@
 ghost use Rattle.std.specs.Prelude.{◌≡◌, ℕ, ◌+◌, ◌≤◌, List, Option, length, count_by, IfOk};
 ghost use Rattle.cxx_text.specs.declared.token.Token.{Token};
 ghost use Rattle.cxx_text.specs.Bytes.{is_line_end};
-ghost use Rattle.cxx_text.specs.Cover.{AreTokens, max_text_bytes};
+ghost use Rattle.cxx_text.specs.Cover.{AreTokens};
+ghost use Rattle.foundation.specs.Limits.{source_limit};
 
 use crate::blank::blank_len;
 use crate::longest::{Found, token_at};
@@ -13,7 +14,7 @@ use std::alloc::Global;
 
 // The ends of lines in a piece of text.
 fn line_ends(piece: &[u8]) -> u32
-    requires { length piece.now ≤ max_text_bytes }
+    requires { length piece.now ≤ source_limit }
     ensures value { result ≡ count_by is_line_end piece.now }
 {
     piece.iter().filter(|b| **b == b'\n').count() as u32
@@ -23,7 +24,7 @@ fn line_ends(piece: &[u8]) -> u32
 ///
 /// The error is want of memory alone: a place where no token stands is part of the answer.
 pub fn tokens(alloc: Global, text: &[u8]) -> Result<TokenList, NoMemory>
-    requires { length text.now ≤ max_text_bytes }
+    requires { length text.now ≤ source_limit }
     ensures cover { IfOk result (λ list. AreTokens text.now list.tokens list.bad) }
     ensures few { IfOk result (λ list. length list.tokens ≤ length text.now + 1) }
 {

@@ -12,7 +12,8 @@ use Rattle.cxxabi_cmd.specs.declared.status.Status.TheVariants.{Usage, Limit, Ba
 use Rattle.cxxabi_cmd.specs.Commands.{input_of, divided_input}
 use Rattle.cxxabi_cmd.specs.Divided.{undivided_rule}
 use Rattle.cxxabi_cmd.specs.Verdict.{Verdict, Stops, Accepts}
-use Rattle.cxxabi_cmd.specs.Output.{Answer, Output, usage, too_long, undivided, stopped, yielded, Yields, line_alone, status_of_stop, source_limit}
+use Rattle.cxxabi_cmd.specs.Output.{Answer, Output, usage, too_long, undivided, stopped, yielded, Yields, line_alone, status_of_stop}
+use Rattle.foundation.specs.Limits.{source_limit}
 
 -- what a command answers to a source, behind a front
 pub data Judged (c : Command) (front text : List ℕ) : Answer → Type 0 where

@@ -1,7 +1,7 @@
 -- The verdict of the passes that were made.
 use Rattle.std.proofs.Common.{◌≡◌, ℕ, ◌+◌, ◌^◌, ◌≤◌, ◌⊎◌, ⊎_elim, inl, inr, Option, Result, Ok, Err, List, [], length, refl, sym, subst, arith}
 use Rattle.cxx_text.specs.declared.token.Token.{Token}
-use Rattle.cxx_text.specs.Cover.{AreTokens, max_text_bytes}
+use Rattle.cxx_text.specs.Cover.{AreTokens}
 use Rattle.cxx_grammar.specs.declared.sort.Lexeme.{Lexeme}
 use Rattle.cxx_grammar.specs.Grammar.{source_form}
 use Rattle.cxx_grammar.specs.Lexemes.{lexemes, source_start}
@@ -21,6 +21,7 @@ use Rattle.cxx_resolve.proofs.Counted.{statements_are_few}
 use Rattle.cxx_resolve.specs.Stops.{Fails}
 use Rattle.cxxabi_cmd.proofs.TreeCounts.{source_weight, most_weight, statements_together}
 use Rattle.cxxabi_cmd.specs.Verdict.{AreLexemes, SpellsSource, StopsFirst, MeetsNoFault, HasManyWords, HasFewWords, Verdict, Stops, Accepts, by_text, by_records, by_classes, by_bodies, by_words, accepted}
+use Rattle.foundation.specs.Limits.{source_limit}
 
 -- what the reader of sources gives
 abbrev pub Reads : List ℕ → List Token → Option ℕ → SourceText → Type 0
@@ -54,12 +55,12 @@ classes_stop text tokens bad source h e cover reads passes either = ⊎_elim (λ
     (λ first. inr (by_classes source e (input_of text tokens bad source cover reads) passes.0 (subst (λ (k : Classes). StopsFirst k e) passes.1 first))) either
 
 -- the bodies of a text have few statements
-pub few_statements : (text : List ℕ) (tokens : List Token) (bad : Option ℕ) (source : SourceText) → length tokens ≤ max_text_bytes + 1 → Reads text tokens bad source → HasFewStatements (2 ^ 32) source
+pub few_statements : (text : List ℕ) (tokens : List Token) (bad : Option ℕ) (source : SourceText) → length tokens ≤ source_limit + 1 → Reads text tokens bad source → HasFewStatements (2 ^ 32) source
 few_statements text tokens bad source few reads =
     statements_are_few text source (lexemes text source_start tokens bad) reads.0 (2 ^ 32) reads.1 (let size = length-lexemes text source_start tokens bad in omega (arith, few, size))
 
 -- together they have no more than the text has lexemes
-pub few_together : (text : List ℕ) (tokens : List Token) (bad : Option ℕ) (source : SourceText) → length tokens ≤ max_text_bytes + 1 → Reads text tokens bad source → source_weight source ≤ most_weight
+pub few_together : (text : List ℕ) (tokens : List Token) (bad : Option ℕ) (source : SourceText) → length tokens ≤ source_limit + 1 → Reads text tokens bad source → source_weight source ≤ most_weight
 few_together text tokens bad source few reads = let size = length-lexemes text source_start tokens bad in omega (arith, few, size, statements_together reads.1)
 
 -- a stop that is no want of memory is the answer

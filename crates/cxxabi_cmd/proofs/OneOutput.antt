@@ -20,7 +20,7 @@ use Rattle.cxxabi_words.specs.declared.command.QualifiedMember.{QualifiedMember}
 use Rattle.foundation.proofs.Places.{contains_at}
 use Rattle.cxxabi_words.specs.declared.command.Command.{Command}
 use Rattle.cxxabi_words.specs.declared.command.Command.TheVariants.{Check, Run, Layout, LayoutOf, Tables, TablesOf, Paths, Gen, Array, MemberPointer, Inspect, Foreign}
-use Rattle.cxxabi_words.specs.Commands.{most_steps}
+use Rattle.foundation.specs.Limits.{most_steps}
 use Rattle.cxxabi_words.proofs.CommandLaws.{one_command}
 use Rattle.cxxabi_cmd.specs.declared.listing.Listing.{Listing}
 use Rattle.cxxabi_cmd.specs.declared.listing.Listing.TheVariants.{OfLayout, OfTables}

@@ -31,7 +31,7 @@ use Rattle.cxx_overrider.proofs.FaultSearch.{class_answer}
 use Rattle.abi_layout.proofs.rules.SomeAnswers.{large_decided, shared_decided}
 use Rattle.cxxabi_words.specs.declared.command.Command.{Command}
 use Rattle.cxxabi_words.specs.declared.command.Command.TheVariants.{Check, Run, Layout, LayoutOf, Tables, TablesOf, Paths, Gen, Array, MemberPointer, Inspect, Foreign}
-use Rattle.cxxabi_words.specs.Commands.{Says, IsCommand, most_steps}
+use Rattle.cxxabi_words.specs.Commands.{Says, IsCommand}
 use Rattle.cxxabi_words.proofs.CommandLaws.{some_command}
 use Rattle.cxxabi_cmd.specs.declared.listing.Listing.{Listing}
 use Rattle.cxxabi_cmd.specs.declared.listing.Listing.TheVariants.{OfLayout, OfTables}
@@ -48,7 +48,7 @@ use Rattle.cxx_syntax.specs.declared.tree.BodyTree.{BodyTree}
 use Rattle.cxxabi_cmd.specs.Verdict.{AreLexemes, SpellsSource, MeetsNoFault, Judgement, Verdict, Stops, Accepts, by_text, by_records, by_classes, by_bodies, by_words, accepted}
 use Rattle.abi_foreign.specs.Lines.{class_by_number}
 use Rattle.text_told.specs.Told.{text_limit}
-use Rattle.cxxabi_cmd.specs.Output.{source_limit, Answer, AsksFor, all_layouts, one_layout, all_tables, one_tables, AsksForName, named_layout, named_tables, Lists, whole, too_much, Yields, counted, unknown_class, listed, arrayed, pointed, Output, usage, too_long, line_alone, count_answer, text_answer, status_of_stop, first_classes, no_main, inspected, no_layout}
+use Rattle.cxxabi_cmd.specs.Output.{Answer, AsksFor, all_layouts, one_layout, all_tables, one_tables, AsksForName, named_layout, named_tables, Lists, whole, too_much, Yields, counted, unknown_class, listed, arrayed, pointed, Output, usage, too_long, line_alone, count_answer, text_answer, status_of_stop, first_classes, no_main, inspected, no_layout}
 use Rattle.cxxabi_cmd.proofs.Accepting.{ProgramsAreTyped, source_keeps, accepted_keeps, accepted_fine, accepted_names, accepted_typed, accepted_main}
 use Rattle.cxxabi_cmd.proofs.Asking.{Judged, is_stopped, is_yielded, Parted, parted_output}
 use Rattle.cxxabi_cmd.proofs.SourceLemmas.{parts_short}
@@ -58,6 +58,7 @@ use Rattle.cxxabi_cmd.proofs.Listed.{SomeTables, AreKnown, named_below, some_tex
 use Rattle.cxxabi_cmd.proofs.RunAnswers.{NeverWrong, yields_runs}
 use Rattle.cxxabi_cmd.proofs.SameTexts.{same_text}
 use Rattle.cxxabi_cmd.proofs.SomeFault.{IsDecided, some_fault}
+use Rattle.foundation.specs.Limits.{source_limit, most_steps}
 
 -- the classes of a hierarchy are decided
 classes_decided : (h : Classes) → IsHierarchy h → IsDecided h

@@ -5,6 +5,7 @@ use Rattle.std.specs.Prelude.{if◌then◌else◌}
 use Rattle.std.specs.List.{count_by}
 use Rattle.std.proofs.lemmas.List.{length-take}
 use Rattle.std.proofs.lemmas.List.Sums.{count_by-le-length}
+use Rattle.foundation.specs.Limits.{source_limit}
 use Rattle.foundation.proofs.Truth.{split}
 use Rattle.cxx_text.specs.Bytes.{is_line_end}
 use Rattle.cxxabi_input.specs.Division.{ends_inside, line_count}
@@ -26,15 +27,15 @@ whole_read (suc n) (a ∷ bytes) (b ∷ all) same short =
     rw (head, whole_read n bytes all tail (omega arith)) refl
 
 -- the bytes up to one past the limit
-taken_read : (bytes all : List ℕ) → bytes ≡ take 262145 all → IsReadToLimit bytes all
+taken_read : (bytes all : List ℕ) → bytes ≡ take (source_limit + 1) all → IsReadToLimit bytes all
 taken_read bytes all same = record {
-  whole = λ short. whole_read 262145 bytes all same (omega (arith, short));
-  more = λ long. let size : length bytes ≡ length (take 262145 all) = ap length same in omega (arith, long, size, length-take 262145 all);
+  whole = λ short. whole_read (source_limit + 1) bytes all same (omega (arith, short));
+  more = λ long. let size : length bytes ≡ length (take (source_limit + 1) all) = ap length same in omega (arith, long, size, length-take (source_limit + 1) all);
 }
 
 -- all bytes
 pub all_read : (bytes all : List ℕ) → bytes ≡ all → IsReadToLimit bytes all
-all_read bytes all same = record { whole = λ short. same; more = λ long. subst (λ (b : List ℕ). 262144 < length b) same long }
+all_read bytes all same = record { whole = λ short. same; more = λ long. subst (λ (b : List ℕ). source_limit < length b) same long }
 
 -- a command that makes no source of its own reads one
 pub reads_given : (c : Command) → ((n : ℕ) → c ≡ Gen n → ⊥) → ReadsSource c × ((given : List ℕ) → input_of c given ≡ given)
@@ -52,16 +53,16 @@ reads_given (Foreign steps) other = (tt, λ given. refl)
 reads_given (Gen n) other = absurd (other n refl)
 
 -- what was read where the source tells its bytes
-pub given_read : {V : Type 0} (items : V → List ℕ) (r : Result V ReadStop) (c : Command) (remaining : Option (List ℕ)) → ((n : ℕ) → c ≡ Gen n → ⊥) → IfOk r (λ text. IfSome remaining (λ bytes. items text ≡ take 262145 bytes)) →
+pub given_read : {V : Type 0} (items : V → List ℕ) (r : Result V ReadStop) (c : Command) (remaining : Option (List ℕ)) → ((n : ℕ) → c ≡ Gen n → ⊥) → IfOk r (λ text. IfSome remaining (λ bytes. items text ≡ take (source_limit + 1) bytes)) →
     IfOk r (λ text. (given : List ℕ) → (ReadsSource c → remaining ≡ Some given) → IsReadToLimit (items text) (input_of c given))
 given_read items (Ok text) c remaining other read = λ given told.
     let own = reads_given c other in
-    let bytes : items text ≡ take 262145 given = subst (λ (o : Option (List ℕ)). IfSome o (λ bytes. items text ≡ take 262145 bytes)) (told own.0) read in
+    let bytes : items text ≡ take (source_limit + 1) given = subst (λ (o : Option (List ℕ)). IfSome o (λ bytes. items text ≡ take (source_limit + 1) bytes)) (told own.0) read in
     subst (λ (all : List ℕ). IsReadToLimit (items text) all) (sym (own.1 given)) (taken_read (items text) given bytes)
 given_read items (Err stop) c remaining other read = read
 
-pub left_read : {V : Type 0} (r : Result V ReadStop) (c : Command) (before after : Option (List ℕ)) → IfOk r (λ text. IfSome before (λ bytes. after ≡ Some (drop 262145 bytes))) →
-    OnOk r (ReadsSource c → IfSome before (λ bytes. after ≡ Some (drop 262145 bytes)))
+pub left_read : {V : Type 0} (r : Result V ReadStop) (c : Command) (before after : Option (List ℕ)) → IfOk r (λ text. IfSome before (λ bytes. after ≡ Some (drop (source_limit + 1) bytes))) →
+    OnOk r (ReadsSource c → IfSome before (λ bytes. after ≡ Some (drop (source_limit + 1) bytes)))
 left_read (Ok text) c before after left = λ reads. left
 left_read (Err stop) c before after left = left
 

@@ -4,9 +4,10 @@ use Rattle.cxxabi_input.specs.Division.{division}
 use Rattle.cxx_gen.specs.Generated.{generated}
 use Rattle.cxxabi_words.specs.declared.command.Command.{Command}
 use Rattle.cxxabi_words.specs.declared.command.Command.TheVariants.{Run, Paths, Gen, Inspect, Foreign}
-use Rattle.cxxabi_words.specs.Commands.{Says, most_steps}
+use Rattle.cxxabi_words.specs.Commands.{Says}
 use Rattle.text_told.specs.declared.ending.End.{End}
 use Rattle.text_told.specs.declared.ending.End.TheVariants.{Done}
+use Rattle.foundation.specs.Limits.{most_steps}
 
 -- the input that a command treats: `gen` its own, and each other what it reads
 abbrev pub input_of : Command → List ℕ → List ℕ

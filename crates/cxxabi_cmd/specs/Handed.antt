@@ -22,7 +22,7 @@ use Rattle.cxxabi_words.specs.Commands.{Says}
 use Rattle.cxxabi_cmd.specs.Commands.{IsOnBytes, RunsMain, input_of, divided_input}
 use Rattle.cxxabi_cmd.specs.Divided.{IsLayoutOf}
 use Rattle.cxxabi_cmd.specs.Verdict.{Verdict, Accepts}
-use Rattle.cxxabi_cmd.specs.Output.{source_limit}
+use Rattle.foundation.specs.Limits.{source_limit}
 
 -- what is seen of a machine: what it was made with, and the byte state that it is in
 pub record SeenMachine : Type 0 where

@@ -2,7 +2,7 @@
 use Rattle.abi_foreign.specs.Lines.{class_by_number}
 use Rattle.std.specs.Prelude.{◌≡◌, ℕ, zero, suc, ◌<◌, ◌≤◌, Bool, Contains, slice_get, List, [], ◌∷◌, ◌++◌, length, map, codes, Option, Some, None, IfSome, string_bytes, String}
 use Rattle.std.specs.Fmt.{decimal}
-use Rattle.cxx_text.specs.Cover.{max_text_bytes}
+use Rattle.foundation.specs.Limits.{source_limit}
 use Rattle.cxx_hierarchy.specs.declared.records.ClassId.{ClassId}
 use Rattle.cxx_hierarchy.specs.declared.stop.Rule.TheVariants.{UnknownName}
 use Rattle.cxx_hierarchy.specs.declared.stop.LimitNo.TheVariants.{L1, L9}
@@ -52,10 +52,6 @@ status_of ends.Done = Done
 status_of (ends.Undefined rule line) = Undefined (undefined_no rule) line
 status_of ends.OutOfSteps = OutOfSteps
 status_of (ends.Limit limit) = Limit limit
-
--- the bytes that a source may have (limit L1)
-abbrev pub source_limit : ℕ
-source_limit = max_text_bytes
 
 -- a text of a run, and then the last line of its end
 abbrev pub ended_answer : List ℕ → End → ℕ → Answer

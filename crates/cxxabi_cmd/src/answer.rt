@@ -1,10 +1,11 @@
 //! What each command answers to an accepted source.
 
 ghost use Rattle.std.specs.Prelude.{◌≡◌, ◌≤◌, IfOk, length};
-ghost use Rattle.cxxabi_cmd.specs.Output.{Yields, source_limit};
+ghost use Rattle.cxxabi_cmd.specs.Output.{Yields};
 ghost use Rattle.cxxabi_cmd.specs.invariants.Listings.{IsReady};
 ghost use Rattle.cxxabi_cmd.specs.invariants.Replies.{as_answer, machine_of, HandsBy};
 ghost use Rattle.cxxabi_words.specs.invariants.Few.{HasFew};
+ghost use Rattle.foundation.specs.Limits.{source_limit};
 
 use crate::class_answer::{array_of, member_of};
 use crate::divided_answer::{inspect_dump, run_foreign};

@@ -1,7 +1,7 @@
 //! What `array` and `memptr` answer: an array of a class, and a pointer to a member.
 
 ghost use Rattle.std.specs.Prelude.{◌≡◌, ◌≤◌, None, IfOk};
-ghost use Rattle.cxxabi_words.specs.Commands.{most_asked_elements};
+ghost use Rattle.cxx_hierarchy.specs.Limits.{most_elements};
 ghost use Rattle.cxxabi_cmd.specs.Answers.{IsArrayReply, IsMemberReply, member_rule};
 ghost use Rattle.cxxabi_cmd.specs.invariants.Listings.{IsReady};
 ghost use Rattle.cxxabi_cmd.specs.invariants.Replies.{as_answer, machine_of};
@@ -39,7 +39,7 @@ pub(crate) fn array_of(
 ) -> Result<Reply, NoMemory>
     requires ready { IsReady accepted.now }
     requires some { 1 ≤ count }
-    requires few { count ≤ most_asked_elements }
+    requires few { count ≤ most_elements }
     ensures reply { IfOk result (λ reply. IsArrayReply size accepted.now.hierarchy name.now count (as_answer reply)) }
     ensures machine { IfOk result (λ reply. machine_of reply ≡ None) }
 {

@@ -10,12 +10,12 @@ ghost use Rattle.abi_layout.specs.Layouts.{IsLaid};
 ghost use Rattle.abi_inspect.specs.Faults.{IsDumpFault};
 ghost use Rattle.abi_foreign.specs.Listings.{IsForeign, IsForeignLayout};
 ghost use Rattle.abi_foreign.specs.Refusals.{IsRefused};
-ghost use Rattle.cxxabi_words.specs.Commands.{most_steps};
 ghost use Rattle.cxxabi_words.specs.declared.command.Command.TheVariants.{Foreign};
 ghost use Rattle.cxxabi_cmd.specs.Divided.{IsDumpReply, IsListingReply, listing_rule};
-ghost use Rattle.cxxabi_cmd.specs.Output.{Yields, source_limit};
+ghost use Rattle.cxxabi_cmd.specs.Output.{Yields};
 ghost use Rattle.cxxabi_cmd.specs.invariants.Listings.{IsReady};
 ghost use Rattle.cxxabi_cmd.specs.invariants.Replies.{as_answer, machine_of, HandsBy, YieldsForeign};
+ghost use Rattle.foundation.specs.Limits.{source_limit, most_steps};
 
 use crate::reply::{Reply, limited, line_alone, stopped};
 use crate::run_answer::run_by_bytes;

@@ -7,13 +7,14 @@ ghost use Rattle.cxxabi_cmd.specs.invariants.Listings.{IsReady, AreListedTexts, 
 ghost use Rattle.cxxabi_cmd.specs.invariants.Replies.{as_answer, machine_of};
 
 use crate::listing::{Listing, append_class};
-use crate::reply::{Reply, TEXT_LIMIT, line_alone};
+use crate::reply::{Reply, line_alone};
 use crate::status::Status;
 use crate::verdict::Accepted;
 use abi_tables::some_tables;
 use cxx_hierarchy::{ClassId, Hierarchy, LimitNo, Rule};
 use foundation::NoMemory;
 use std::alloc::Global;
+use text_told::TEXT_LIMIT;
 
 // What is listed of classes, one after the other, or None where it passes the limit.
 fn texts_of(

@@ -9,14 +9,10 @@ use crate::status::{Status, last_line_of};
 use byte_machine::Machine;
 use byte_memory::PageMemory;
 use cxx_hierarchy::{Hierarchy, LimitNo, Stop};
+use cxxabi_words::BUDGET;
 use foundation::NoMemory;
 use std::alloc::Global;
-
-/// The steps that a run may take where the words say none.
-pub(crate) const BUDGET: u32 = 1_000_000;
-
-/// The largest text of a command, in bytes.
-pub(crate) const TEXT_LIMIT: usize = 16_777_216;
+use text_told::TEXT_LIMIT;
 
 // What is answered, and the machine of the run where there was one.
 #[derive(Drop)]

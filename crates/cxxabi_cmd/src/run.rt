@@ -1,15 +1,16 @@
 //! The whole program as one call.
 
-ghost use Rattle.std.specs.Prelude.{ℕ, ◌≡◌, ◌↔◌, ◌≤◌, ◌<◌, ◌⊎◌, ◌∷◌, ◌++◌, [], List, Some, None, IsTrue, IfSome, IfOk, IfErr, IsSome, MatchOption, OnOk, take, drop, length, string_bytes};
+ghost use Rattle.std.specs.Prelude.{ℕ, ◌≡◌, ◌+◌, ◌↔◌, ◌≤◌, ◌<◌, ◌⊎◌, ◌∷◌, ◌++◌, [], List, Some, None, IsTrue, IfSome, IfOk, IfErr, IsSome, MatchOption, OnOk, take, drop, length, string_bytes};
 ghost use Rattle.std.specs.Option.{option_map};
 ghost use Rattle.cxxabi_streams.specs.Streams.{Rose, AddsFrontOf};
 ghost use Rattle.cxxabi_words.specs.Commands.{Says, IsCommand};
 ghost use Rattle.cxxabi_cmd.specs.Commands.{ReadsSource, TellsSource, input_of, divided_input};
 ghost use Rattle.cxxabi_cmd.specs.Divided.{undivided_rule};
-ghost use Rattle.cxxabi_cmd.specs.Output.{source_limit, texts_of, Output, Answer, WritesAnswer, BreaksOff, IsAnswerWritten, IsSilent};
+ghost use Rattle.cxxabi_cmd.specs.Output.{texts_of, Output, Answer, WritesAnswer, BreaksOff, IsAnswerWritten, IsSilent};
 ghost use Rattle.cxxabi_cmd.specs.invariants.Replies.{as_answer, machine_of, IsReadToLimit};
 ghost use Rattle.cxxabi_words.specs.invariants.Few.{HasFew};
 ghost use Rattle.cxxabi_cmd.specs.Handed.{HandsOut, seen_machine};
+ghost use Rattle.foundation.specs.Limits.{source_limit};
 
 use crate::answer::answer;
 use crate::reply::{Reply, line_alone, stopped};
@@ -25,9 +26,9 @@ use cxx_gen::generate;
 use cxx_hierarchy::LimitNo;
 use cxx_typing::programs_are_typed;
 use cxxabi_input::{Parts, divide, line_count};
-use cxxabi_streams::{ReadStop, SOURCE_LIMIT, Sink, Source, read_source, write_text};
+use cxxabi_streams::{ReadStop, Sink, Source, read_source, write_text};
 use cxxabi_words::{Command, command_of};
-use foundation::NoMemory;
+use foundation::{NoMemory, SOURCE_LIMIT};
 use path_model::runs_are_typed;
 use std::alloc::Global;
 
@@ -95,7 +96,7 @@ fn source_for<S: Source>(
     source: &mut S,
 ) -> Result<Vec<u8>, ReadStop>
     ensures read { IfOk result (λ bytes. (given : List ℕ) → (ReadsSource command.now → S.remaining source.old ≡ Some given) → IsReadToLimit bytes.items (input_of command.now given)) }
-    ensures left { OnOk result (ReadsSource command.now → IfSome (S.remaining source.old) (λ bytes. S.remaining source.new ≡ Some (drop 262145 bytes))) }
+    ensures left { OnOk result (ReadsSource command.now → IfSome (S.remaining source.old) (λ bytes. S.remaining source.new ≡ Some (drop (source_limit + 1) bytes))) }
     ensures kept { (ReadsSource command.now → ⊥) → source.new ≡ source.old }
     ensures fault { IfErr result (λ stop. stop ≡ ReadStop.Fault → Rose (S.fault_count source.old) (S.fault_count source.new)) }
 {
@@ -112,7 +113,7 @@ fn respond<S: Source>(alloc: Global, words: &[String], source: &mut S) -> Result
     ensures machine { IfOk result (λ reply. (bytes : List ℕ) → TellsSource (texts_of words.now) (S.remaining source.old) bytes →
         HandsOut (texts_of words.now) bytes (machine_of reply)) }
     ensures answered { IfOk result (λ reply. IsAnswerWritten reply.status) }
-    ensures read { OnOk result ((command : Command) → Says (texts_of words.now) command → ReadsSource command → IfSome (S.remaining source.old) (λ bytes. S.remaining source.new ≡ Some (drop 262145 bytes))) }
+    ensures read { OnOk result ((command : Command) → Says (texts_of words.now) command → ReadsSource command → IfSome (S.remaining source.old) (λ bytes. S.remaining source.new ≡ Some (drop (source_limit + 1) bytes))) }
     ensures kept { ((command : Command) → Says (texts_of words.now) command → ReadsSource command → ⊥) → source.new ≡ source.old }
     ensures fault { IfErr result (λ stop. stop ≡ ReadStop.Fault → Rose (S.fault_count source.old) (S.fault_count source.new)) }
 {
@@ -164,7 +165,7 @@ pub fn run_cxxabi<S: Source, K: Sink>(
         HandsOut (texts_of words.now) bytes (option_map (λ m. seen_machine m) last.new) }
     ensures no_machine { IsSilent result → last.new ≡ None }
     // The source was read to its end, or to one byte past the limit; where the words are no command that reads it, it is as it was.
-    ensures read { (command : Command) → Says (texts_of words.now) command → ReadsSource command → (IsSilent result → ⊥) → IfSome (S.remaining source.old) (λ bytes. S.remaining source.new ≡ Some (drop 262145 bytes)) }
+    ensures read { (command : Command) → Says (texts_of words.now) command → ReadsSource command → (IsSilent result → ⊥) → IfSome (S.remaining source.old) (λ bytes. S.remaining source.new ≡ Some (drop (source_limit + 1) bytes)) }
     ensures kept { ((command : Command) → Says (texts_of words.now) command → ReadsSource command → ⊥) → source.new ≡ source.old }
 {
     *last = None;

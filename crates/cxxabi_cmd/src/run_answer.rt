@@ -6,7 +6,7 @@ ghost use Rattle.path_model.specs.States.{is_body};
 ghost use Rattle.abi_sound.specs.Places.{places_of};
 ghost use Rattle.abi_tables.specs.Counts.{words_of_all_classes, most_words};
 ghost use Rattle.text_told.specs.declared.ending.End.{End};
-ghost use Rattle.cxxabi_words.specs.Commands.{most_steps};
+ghost use Rattle.foundation.specs.Limits.{most_steps};
 ghost use Rattle.cxxabi_cmd.specs.Commands.{SumsUp};
 ghost use Rattle.cxxabi_cmd.specs.Output.{IsRunAnswer, Yields, ended_answer, status_of, summary_answer};
 ghost use Rattle.cxxabi_cmd.specs.Handed.{IsMachineOf, seen_machine};
@@ -23,13 +23,10 @@ use byte_memory::PageMemory;
 use cxx_gen::{count_lines, last_line, summary};
 use cxx_hierarchy::{Hierarchy, Rule};
 use cxxabi_words::Command;
-use foundation::{NoMemory, Sequence};
+use foundation::{MOST_STEPS, NoMemory, Sequence};
 use path_run::{PathRun, run_paths};
 use std::alloc::Global;
 use text_told::End;
-
-/// The steps that the run of a generated source may take.
-const GENERATED_STEPS: u32 = 4_000_000;
 
 // The status of an end.
 fn status_of(end: End) -> Status
@@ -131,7 +128,7 @@ fn generated_by_bytes(alloc: Global, accepted: &Accepted) -> Result<Reply, NoMem
         &accepted.overriders,
         &accepted.layout,
         &accepted.program,
-        GENERATED_STEPS,
+        MOST_STEPS,
         false,
     )?;
     let Execution {
@@ -151,7 +148,7 @@ fn generated_by_bytes(alloc: Global, accepted: &Accepted) -> Result<Reply, NoMem
         )?;
         return Ok(reply);
     }
-    let reply = ended(alloc, text, end, GENERATED_STEPS, Some(machine))?;
+    let reply = ended(alloc, text, end, MOST_STEPS, Some(machine))?;
     Ok(reply)
 }
 

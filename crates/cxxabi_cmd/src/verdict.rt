@@ -7,7 +7,7 @@ ghost use Rattle.abi_sound.specs.Places.{places_of};
 ghost use Rattle.abi_slots.specs.Slots.{AreSlots};
 ghost use Rattle.abi_layout.specs.AbiLayouts.{IsAbiLayout};
 ghost use Rattle.cxxabi_cmd.specs.invariants.Listings.{IsReady};
-ghost use Rattle.cxxabi_cmd.specs.Output.{source_limit};
+ghost use Rattle.foundation.specs.Limits.{source_limit};
 ghost use Rattle.cxxabi_cmd.specs.Verdict.{Verdict, Stops, Accepts, StopsFirst, MeetsNoFault, HasManyWords, HasFewWords};
 
 use abi_layout::{AbiLayout, lay_out, lay_out_first};

@@ -4,7 +4,7 @@ ghost use Rattle.std.specs.Prelude.{◌≡◌, ◌≤◌, None, Some, MatchOptio
 ghost use Rattle.std.specs.List.{count_by, position_or_len};
 ghost use Rattle.cxx_text.specs.Bytes.{is_line_end};
 ghost use Rattle.cxxabi_input.specs.Division.{division, ends_inside, line_count};
-ghost use Rattle.cxx_text.specs.Cover.{max_text_bytes};
+ghost use Rattle.foundation.specs.Limits.{source_limit};
 
 /// What stands before the first line of an input that is `program`, and what stands behind that line.
 #[derive(Clone, Copy)]
@@ -50,7 +50,7 @@ pub fn divide(input: &[u8]) -> Option<Parts<'_>>
 
 // How many line feeds a text has.
 fn line_ends(text: &[u8]) -> u32
-    requires { length text.now ≤ max_text_bytes }
+    requires { length text.now ≤ source_limit }
     ensures { result ≡ count_by is_line_end text.now }
 {
     text.iter().filter(|b| **b == b'\n').count() as u32
@@ -69,7 +69,7 @@ fn ends_inside(text: &[u8]) -> bool
 /// How many lines an input of at most 262,144 bytes has; a last line without a line feed counts. It takes no memory.
 #[tactic(auto, unfolding(crate::specs::Division::line_count))]
 pub fn line_count(input: &[u8]) -> u32
-    requires { length input.now ≤ max_text_bytes }
+    requires { length input.now ≤ source_limit }
     ensures { result ≡ line_count input.now }
 {
     let ends = line_ends(input);

@@ -16,7 +16,7 @@ pub mod source;
 pub mod sources;
 pub mod writing;
 
-pub use crate::reading::{ReadStop, SOURCE_LIMIT, read_source};
+pub use crate::reading::{ReadStop, read_source};
 pub use crate::sink::{Sink, SinkFailed};
 pub use crate::sinks::{BytesSink, StdoutSink, SteadySink};
 pub use crate::source::{Source, SourceFailed};

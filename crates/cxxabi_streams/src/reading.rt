@@ -1,14 +1,12 @@
 //! Reads a whole source, up to one byte past the limit.
 
-ghost use Rattle.std.specs.Prelude.{ℕ, ◌≡◌, ◌<◌, ◌≤◌, Some, length, take, drop, vec_len, IfOk, IfErr, IfSome};
+ghost use Rattle.std.specs.Prelude.{ℕ, ◌≡◌, ◌<◌, ◌≤◌, ◌+◌, Some, length, take, drop, vec_len, IfOk, IfErr, IfSome};
+ghost use Rattle.foundation.specs.Limits.{source_limit};
 ghost use Rattle.cxxabi_streams.specs.Streams.{Rose};
 
 use crate::source::Source;
-use foundation::NoMemory;
+use foundation::{NoMemory, SOURCE_LIMIT};
 use std::alloc::{AllocError, Global};
-
-/// The bytes that a source may have.
-pub const SOURCE_LIMIT: usize = 262_144;
 
 /// Why a source was not read.
 #[derive(Clone, Copy, Debug, PartialEq, Eq)]
@@ -41,9 +39,9 @@ impl From<NoMemory> for ReadStop {
 ///
 /// Errors: a fault of the source, exactly as it tells it; want of memory.
 pub fn read_source<S: Source>(alloc: Global, source: &mut S) -> Result<Vec<u8>, ReadStop>
-    ensures bytes { IfOk result (λ text. IfSome (S.remaining source.old) (λ bytes. text.items ≡ take 262145 bytes)) }
-    ensures rest { IfOk result (λ _. IfSome (S.remaining source.old) (λ bytes. S.remaining source.new ≡ Some (drop 262145 bytes))) }
-    ensures size { IfOk result (λ text. vec_len text ≤ 262145) }
+    ensures bytes { IfOk result (λ text. IfSome (S.remaining source.old) (λ bytes. text.items ≡ take (source_limit + 1) bytes)) }
+    ensures rest { IfOk result (λ _. IfSome (S.remaining source.old) (λ bytes. S.remaining source.new ≡ Some (drop (source_limit + 1) bytes))) }
+    ensures size { IfOk result (λ text. vec_len text ≤ source_limit + 1) }
     ensures fault { IfErr result (λ stop. stop ≡ ReadStop.Fault → Rose (S.fault_count source.old) (S.fault_count source.new)) }
     ensures counts { S.fault_count source.old ≤ S.fault_count source.new }
 {

@@ -4,10 +4,11 @@ use Rattle.std.specs.Prelude.{unwrap_or}
 use Rattle.clap.specs.Words.{Kinds, Text, fault_of}
 use Rattle.cxxabi_words.specs.declared.command.Command.{Command}
 use Rattle.cxxabi_words.specs.Commands as commands
-use Rattle.cxxabi_words.specs.Commands.{Given, IsForm, IsBudget, Says, IsCommand, given, simple_command, budget, most_steps, most_asked_classes}
+use Rattle.cxxabi_words.specs.Commands.{Given, IsForm, IsBudget, Says, IsCommand, given, simple_command, budget, most_asked_classes}
 use Rattle.cxxabi_words.specs.invariants.Asked.{asked}
 use Rattle.cxxabi_words.specs.invariants.Few.{HasFew}
 use Rattle.cxxabi_words.proofs.Forms.{asked_sound, asked_complete}
+use Rattle.foundation.specs.Limits.{most_steps}
 
 -- words ask for one command
 pub one_command : (words : List Text) (c d : Command) → Says words c → Says words d → c ≡ d

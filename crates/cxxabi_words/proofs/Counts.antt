@@ -9,8 +9,9 @@ use Rattle.std.proofs.lemmas.Bool.{and_parts}
 use Rattle.std.proofs.lemmas.Str.Parse.{IsDigitsTest, IsNumeralModel, numerals_by_value, parse_digits}
 use Rattle.clap.specs.Words.{Text}
 use Rattle.foundation.proofs.Truth.{is_false, not_both, split}
-use Rattle.cxxabi_words.specs.Commands.{IsCount, IsBudget, budget, most_steps}
+use Rattle.cxxabi_words.specs.Commands.{IsCount, IsBudget, budget}
 use Rattle.cxxabi_words.specs.invariants.Asked.{is_count, count_in_digits, budgeted}
+use Rattle.foundation.specs.Limits.{most_steps}
 
 digits_test : IsDigitsTest (λ ds. list_all is_ascii_digit ds ≡ true)
 digits_test = search rules

@@ -10,10 +10,11 @@ use Rattle.foundation.proofs.Truth.{is_false, split}
 use Rattle.cxxabi_words.specs.declared.command.Command.{Command}
 use Rattle.cxxabi_words.specs.declared.command.Command.TheVariants.{Check, Layout, LayoutOf, Tables, TablesOf, Run, Paths, Gen, Array, MemberPointer, Inspect, Foreign}
 use Rattle.cxxabi_words.specs.Commands as commands
-use Rattle.cxxabi_words.specs.Commands.{Given, IsForm, IsBudget, IsCount, IsNameWord, word_alone, word_with, most_asked_classes, most_asked_elements}
+use Rattle.cxxabi_words.specs.Commands.{Given, IsForm, IsBudget, IsCount, IsNameWord, word_alone, word_with, most_asked_classes}
 use Rattle.cxxabi_words.specs.invariants.Asked.{array_form, array_of, asked, budgeted, check_form, count_in_digits, cut_at, cut_scope, foreign_form, command_form, gen_form, inspect_form, is_name_word, layout_form, member_cut, member_form, qualified_member_command, member_pointer_command, paths_form, plain_form, run_form, tables_form}
 use Rattle.cxxabi_words.proofs.Counts.{budgeted_sound, budgeted_complete, counted_sound, counted_complete}
 use Rattle.cxxabi_words.proofs.NameCuts.{Lacks, cut_nowhere, cut_sound, cut_whole, name_complete, name_lacks, name_sound, scope_lacks, scope_sound, scope_whole}
+use Rattle.cxx_hierarchy.specs.Limits.{most_elements}
 
 -- what a word gives with an argument that may be left out
 abbrev with_arg : Text → Option Text → Given
@@ -58,10 +59,10 @@ gen_sound (Some digits) c same =
 
 array_parts : (class digits : Text) (c : Command) → array_of class digits ≡ Some c → IsForm (word_with (codes "array") (class ++ (codes "@" ++ digits))) c
 array_parts class digits c =
-    split (is_name_word class) (λ b. (if b then option_map (λ n. Array class n) (count_in_digits 4 most_asked_elements digits) else None) ≡ Some c → IsForm (word_with (codes "array") (class ++ (codes "@" ++ digits))) c)
+    split (is_name_word class) (λ b. (if b then option_map (λ n. Array class n) (count_in_digits 4 most_elements digits) else None) ≡ Some c → IsForm (word_with (codes "array") (class ++ (codes "@" ++ digits))) c)
     (λ is same.
-    let number = made (count_in_digits 4 most_asked_elements digits) (λ n. Array class n) c same in
-    subst (λ d. IsForm (word_with (codes "array") (class ++ (codes "@" ++ digits))) d) number.2 (commands.array class digits number.0 (name_sound class is) (counted_sound 4 most_asked_elements digits number.0 number.1)))
+    let number = made (count_in_digits 4 most_elements digits) (λ n. Array class n) c same in
+    subst (λ d. IsForm (word_with (codes "array") (class ++ (codes "@" ++ digits))) d) number.2 (commands.array class digits number.0 (name_sound class is) (counted_sound 4 most_elements digits number.0 number.1)))
     (λ other same. cc)
 
 array_sound : (arg : Option Text) (c : Command) → array_form arg ≡ Some c → IsForm (with_arg (codes "array") arg) c
@@ -72,10 +73,10 @@ array_sound (Some arg) c same = by_cut (cut_at 64 arg) refl same
     by_cut None is none = cc
     by_cut (Some p) is same = subst (λ (a : Text). IsForm (word_with (codes "array") a) c) (sym (cut_sound 64 arg p is)) (array_parts p.0 p.1 c same)
 
-array_complete : (class digits : Text) (n : ℕ) → IsNameWord class → IsCount 4 most_asked_elements digits n → array_form (Some (class ++ (codes "@" ++ digits))) ≡ Some (Array class n)
+array_complete : (class digits : Text) (n : ℕ) → IsNameWord class → IsCount 4 most_elements digits n → array_form (Some (class ++ (codes "@" ++ digits))) ≡ Some (Array class n)
 array_complete class digits n name is =
     ap (option_and_then (λ (p : Text × Text). array_of p.0 p.1)) (cut_whole 64 class digits (name_lacks 64 class refl name))
-    ∙ rw (name_complete class name, counted_complete 4 most_asked_elements digits n is) refl
+    ∙ rw (name_complete class name, counted_complete 4 most_elements digits n is) refl
 
 -- the three names of a member pointer
 record AreNames (class member whole : Text) (c : Command) : Type 0 where

@@ -3,6 +3,8 @@ use Rattle.std.specs.Prelude.{◌≡◌, ◌≤◌, ◌++◌, ℕ, Bool, true, f
 use Rattle.std.specs.Option.{option_map_or}
 use Rattle.std.specs.Str.{bytes_eq}
 use Rattle.std.specs.Str.Parse.{IsNumeral, digits_value}
+use Rattle.foundation.specs.Limits.{most_steps}
+use Rattle.cxx_hierarchy.specs.Limits.{most_elements}
 use Rattle.clap.specs.Words.{App, Row, Rule, Text, fault_of, first_of, matches_of, new_app, new_rule, one_of, with_rule}
 use Rattle.clap.specs.Simple.{on_top}
 use Rattle.clap.specs.declared.builder.ArgAction.TheVariants.{SetTrue}
@@ -15,17 +17,9 @@ use Rattle.cxxabi_words.specs.declared.command.Command.TheVariants.{Check, Layou
 abbrev pub budget : ℕ
 budget = 1000000
 
--- the most steps that the words may say
-abbrev pub most_steps : ℕ
-most_steps = 4000000
-
 -- the most classes that the words may ask for
 abbrev pub most_asked_classes : ℕ
 most_asked_classes = 1000
-
--- the most elements of an array that the words may ask for
-abbrev pub most_asked_elements : ℕ
-most_asked_elements = 4096
 
 -- ---- the simple command
 
@@ -113,7 +107,7 @@ pub data IsForm : Given → Command → Type 0 where
   paths : (steps : Option Text) (n : ℕ) → IsBudget steps n →
       IsForm (record { command = Some (codes "paths"); arg = None; steps = steps; trace = false }) (Paths n)
   gen : (digits : Text) (n : ℕ) → IsCount 4 most_asked_classes digits n → IsForm (word_with (codes "gen") digits) (Gen n)
-  array : (class digits : Text) (n : ℕ) → IsNameWord class → IsCount 4 most_asked_elements digits n → IsForm (word_with (codes "array") (class ++ (codes "@" ++ digits))) (Array class n)
+  array : (class digits : Text) (n : ℕ) → IsNameWord class → IsCount 4 most_elements digits n → IsForm (word_with (codes "array") (class ++ (codes "@" ++ digits))) (Array class n)
   member : (class member : Text) → IsNameWord class → IsNameWord member →
       IsForm (word_with (codes "memptr") (class ++ (codes "::" ++ member))) (MemberPointer (record { class = class; member = member; whole = class }))
   member_for : (class member whole : Text) → IsNameWord class → IsNameWord member → IsNameWord whole →

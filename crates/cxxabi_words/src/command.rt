@@ -7,7 +7,7 @@ ghost use Rattle.cxxabi_words.specs.invariants.Asked.{array_form, array_of, chec
 use crate::names::{cut_at, cut_scope, is_name};
 use crate::numbers::{budget_of, count_of};
 use crate::words::{has_trace, matches_of};
-use cxx_hierarchy::Name;
+use cxx_hierarchy::{MOST_ELEMENTS, Name};
 use foundation::{NoMemory, Sequence};
 use std::alloc::Global;
 
@@ -19,9 +19,6 @@ const MOST_CLASSES: u32 = 1_000;
 
 /// The most digits of the number of an array.
 const ELEMENT_DIGITS: usize = 4;
-
-/// The most elements that the words may ask for.
-const MOST_ELEMENTS: u32 = 4_096;
 
 /// A member by its name, in the class that declares it, and the class that a pointer to it is for.
 #[derive(Drop)]

@@ -18,3 +18,4 @@ mod numbers;
 mod words;
 
 pub use crate::command::{Command, QualifiedMember, command_of};
+pub use crate::numbers::BUDGET;

@@ -5,8 +5,7 @@ ghost use Rattle.std.specs.List.{list_all};
 ghost use Rattle.cxx_text.specs.Bytes.{begins, is_letter, is_word_byte};
 ghost use Rattle.cxxabi_words.specs.invariants.Asked.{cut_at, cut_scope, is_name_word};
 
-/// The most bytes of a name.
-const NAME_BYTES: usize = 255;
+use cxx_text::MOST_WORD_BYTES;
 
 // Whether a byte is a letter or `_`.
 fn is_letter(byte: u8) -> bool
@@ -39,7 +38,7 @@ fn has_word_bytes(word: &str) -> bool
     word.bytes().all(|b| is_word_byte(b))
 }
 
-// Whether a word is a name of the source: a letter or `_`, and then letters, digits and `_`, 255 bytes at most.
+// Whether a word is a name of the source: a letter or `_`, and then letters, digits and `_`, no longer than a word may be.
 #[tactic(auto, unfolding(crate::specs::invariants::Asked::is_name_word))]
 pub(crate) fn is_name(word: &str) -> bool
     ensures { result ≡ is_name_word word.now }
@@ -50,7 +49,7 @@ pub(crate) fn is_name(word: &str) -> bool
     if !has_word_bytes(word) {
         return false;
     }
-    word.len() <= NAME_BYTES
+    word.len() <= MOST_WORD_BYTES
 }
 
 // What stands before the first `@` of a word and behind it, and None where there is none.

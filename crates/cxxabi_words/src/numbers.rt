@@ -5,14 +5,13 @@ ghost use Rattle.std.specs.Char.{is_ascii_digit};
 ghost use Rattle.std.specs.List.{list_all};
 ghost use Rattle.cxxabi_words.specs.invariants.Asked.{budgeted, count_in_digits};
 
+use foundation::MOST_STEPS;
+
 /// The steps that a run may take where the words say none.
-const BUDGET: u32 = 1_000_000;
+pub const BUDGET: u32 = 1_000_000;
 
 /// The most digits of a number of steps.
 const STEP_DIGITS: usize = 7;
-
-/// The most steps that the words may say.
-const MOST_STEPS: u32 = 4_000_000;
 
 // Whether all the bytes of a word are digits.
 fn are_digits(word: &str) -> bool

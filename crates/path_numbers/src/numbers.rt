@@ -1,6 +1,7 @@
 //! The sizes of all classes, and the offsets of their bases, members and virtual bases, in numbers.
 
 ghost use Rattle.std.specs.Prelude.{◌≡◌, ◌+◌, ◌≤◌, ◌<◌, ◌++◌, ◌∷◌, [], false, nat_eq, if◌then◌else◌, Some, None, All, Contains, IfOk, OnOk, length, get_or};
+ghost use Rattle.cxx_subobject.specs.Parts.{most_parts};
 ghost use Rattle.cxx_hierarchy.specs.declared.records.ClassId.{ClassId};
 ghost use Rattle.cxx_hierarchy.specs.declared.records.Base.{Base};
 ghost use Rattle.cxx_hierarchy.specs.declared.records.Member.{Member};
@@ -89,7 +90,7 @@ fn base_line(
 ) -> Result<Line, NoMemory>
     requires known { All (λ (base : Base ClassId). base.class.0 < length rows.now) bases.now }
     requires rows { AreNumberRows h.now rows.now }
-    requires room { 1 + total (base_size (sizes_of h.now)) bases.now ≤ 65536 }
+    requires room { 1 + total (base_size (sizes_of h.now)) bases.now ≤ most_parts }
     ensures { IfOk result (IsLinedUp (base_size (sizes_of h.now)) 1 bases.now) }
 {
     let mut line = Line {
@@ -118,7 +119,7 @@ fn unit_width(h: &Hierarchy, rows: &[ClassNumbers], ty: &FieldType<ClassId>) -> 
 fn member_width(h: &Hierarchy, rows: &[ClassNumbers], member: &Member<ClassId>) -> u32
     requires known { (d : ClassId) → member.now.ty ≡ Object d → d.0 < length rows.now }
     requires rows { AreNumberRows h.now rows.now }
-    requires room { member_size (sizes_of h.now) member.now ≤ 65536 }
+    requires room { member_size (sizes_of h.now) member.now ≤ most_parts }
     ensures { result ≡ member_size (sizes_of h.now) member.now }
 {
     member.elements() * unit_width(h, rows, &member.ty)
@@ -134,7 +135,7 @@ fn member_line(
 ) -> Result<Line, NoMemory>
     requires known { (m : Member ClassId) → (d : ClassId) → Contains members.now m → m.ty ≡ Object d → d.0 < length rows.now }
     requires rows { AreNumberRows h.now rows.now }
-    requires room { start + total (member_size (sizes_of h.now)) members.now ≤ 65536 }
+    requires room { start + total (member_size (sizes_of h.now)) members.now ≤ most_parts }
     ensures { IfOk result (IsLinedUp (member_size (sizes_of h.now)) start members.now) }
 {
     let mut line = Line {

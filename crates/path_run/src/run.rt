@@ -1,6 +1,7 @@
 //! A whole run.
 
 ghost use Rattle.std.specs.Prelude.{◌≡◌, ◌≤◌, true, IfOk};
+ghost use Rattle.foundation.specs.Limits.{most_steps};
 ghost use Rattle.cxx_overrider.specs.Overriders.{AreOverriders};
 ghost use Rattle.cxx_program.specs.Typed.{IsTypedProgram};
 ghost use Rattle.path_model.specs.States.{is_body};
@@ -74,7 +75,7 @@ pub fn run_paths<L: SoundLayout>(
     requires overriders { AreOverriders h.now overriders.now }
     requires typed { IsTypedProgram h.now program.now }
     requires main { is_body program.now.main ≡ true }
-    requires budget { steps ≤ 4000000 }
+    requires budget { steps ≤ most_steps }
     ensures text { IfOk result (λ run. run.text ≡ (told h.now (places_of h.now (L.rows layout.now)) program.now trace steps).text) }
     ensures end { IfOk result (λ run. told_ending run.end ≡ (told h.now (places_of h.now (L.rows layout.now)) program.now trace steps).ending) }
 {

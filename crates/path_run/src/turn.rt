@@ -14,10 +14,7 @@ use cxx_hierarchy::LimitNo;
 use foundation::NoMemory;
 use path_machine::{PathState, Run, Telling};
 use path_model::Turn;
-use text_told::End;
-
-/// The bytes that the text of a run may have.
-const TEXT_LIMIT: usize = 16777216;
+use text_told::{End, TEXT_LIMIT};
 
 /// The end that an answer is; None for a step that was taken.
 fn end_of(turn: Turn) -> Option<End>

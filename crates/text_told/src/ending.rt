@@ -3,6 +3,9 @@
 use cxx_hierarchy::LimitNo;
 use path_rules::Undefined;
 
+/// The most bytes of the text of a run, and of what is listed.
+pub const TEXT_LIMIT: usize = 16_777_216;
+
 /// How a run ends.
 #[derive(Clone, Copy, Debug, PartialEq, Eq)]
 pub enum End {

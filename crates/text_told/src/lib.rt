@@ -24,7 +24,7 @@ pub mod out_text;
 pub mod pointers;
 pub mod told_laws;
 
-pub use crate::ending::End;
+pub use crate::ending::{End, TEXT_LIMIT};
 pub use crate::laws::outs_are_told;
 pub use crate::out_text::append_out;
 pub use crate::told_laws::layouts_tell_one_text;

@@ -1,6 +1,8 @@
 //! A run on the byte machine over the memory of these cases.
 
 ghost use Rattle.std.specs.Prelude.{◌≡◌, ◌≤◌, true, length};
+ghost use Rattle.foundation.specs.Limits.{source_limit};
+ghost use Rattle.foundation.specs.Limits.{most_steps};
 ghost use Rattle.path_model.specs.States.{is_body};
 ghost use Rattle.cxxabi_cmd.specs.invariants.Listings.{IsReady};
 
@@ -9,13 +11,12 @@ use abi_refine::{Ran, run_machine};
 use abi_world::{Built, build};
 use byte_machine::Machine;
 use cxx_hierarchy::Stop;
+use cxx_subobject::MOST_SUBOBJECTS;
 use cxxabi_cmd::{Accepted, judge};
-use foundation::NoMemory;
+use foundation::{NoMemory, SOURCE_LIMIT};
 use std::alloc::Global;
 use text_told::End;
 
-// The most inheritance subobjects that a class may have.
-const MOST_SUBOBJECTS: usize = 1024;
 // The steps of a run at most.
 const STEPS: u32 = 1_000_000;
 
@@ -36,7 +37,7 @@ fn run_main(
 ) -> Result<CountedRun, NoMemory>
     requires ready { IsReady accepted.now }
     requires main { is_body accepted.now.program.main ≡ true }
-    requires budget { steps ≤ 4000000 }
+    requires budget { steps ≤ most_steps }
 {
     let Built {
         code,
@@ -50,7 +51,7 @@ fn run_main(
         &accepted.program,
     )?;
     let memory = CountingMemory::new(alloc);
-    let mut machine = Machine::new(alloc, memory, image, code, MOST_SUBOBJECTS, steps)?;
+    let mut machine = Machine::new(alloc, memory, image, code, MOST_SUBOBJECTS as usize, steps)?;
     let Ran { text, end, .. } = run_machine(
         alloc,
         &accepted.hierarchy,
@@ -68,7 +69,7 @@ fn run_main(
 //
 // Errors: the first refusal or limit of the source; want of memory.
 fn counted_run(alloc: Global, source: &[u8], trace: bool) -> Result<Option<CountedRun>, Stop>
-    requires { length source.now ≤ 262144 }
+    requires { length source.now ≤ source_limit }
 {
     let accepted = judge(alloc, source)?;
     if accepted.source.main.is_none() {
@@ -80,7 +81,7 @@ fn counted_run(alloc: Global, source: &[u8], trace: bool) -> Result<Option<Count
 
 /// Whether a run of a source over the memory of these cases comes to the end of `main`, shows this text, and makes so many stores.
 pub fn is_counted_run(alloc: Global, source: &[u8], trace: bool, text: &[u8], stores: u64) -> bool {
-    if source.len() > 262_144 {
+    if source.len() > SOURCE_LIMIT {
         return false;
     }
     let Ok(Some(run)) = counted_run(alloc, source, trace) else {

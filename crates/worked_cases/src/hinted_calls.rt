@@ -1,6 +1,7 @@
 //! The hints of casts between classes of a source, as text, and how many records of bases a cast with a hint reads.
 
 ghost use Rattle.std.specs.Prelude.{◌≡◌, ◌≤◌, true, length};
+ghost use Rattle.foundation.specs.Limits.{source_limit};
 ghost use Rattle.path_model.specs.States.{is_body};
 ghost use Rattle.cxxabi_cmd.specs.invariants.Listings.{IsReady};
 
@@ -20,7 +21,7 @@ use std::alloc::Global;
 ///
 /// Errors: the first refusal or limit of the source; want of memory.
 pub fn hint_text(alloc: Global, source: &[u8], from: &[u8], to: &[u8]) -> Result<String, Stop>
-    requires { length source.now ≤ 262144 }
+    requires { length source.now ≤ source_limit }
 {
     let list = tokens(alloc, source)?;
     let source = parse_source(alloc, source, &list)?;
@@ -57,7 +58,7 @@ fn image_of(alloc: Global, accepted: &Accepted) -> Result<ImageBytes, NoMemory>
 ///
 /// Errors: the first refusal or limit of the source; want of memory.
 pub fn visits_text(alloc: Global, source: &[u8], class: &[u8]) -> Result<String, Stop>
-    requires { length source.now ≤ 262144 }
+    requires { length source.now ≤ source_limit }
 {
     let accepted = judge(alloc, source)?;
     if accepted.source.main.is_none() {

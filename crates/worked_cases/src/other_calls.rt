@@ -4,6 +4,7 @@
 //! from 0.
 
 ghost use Rattle.std.specs.Prelude.{◌≤◌, ◌<◌, length};
+ghost use Rattle.foundation.specs.Limits.{source_limit};
 
 use crate::hinted_calls::{hint_text, visits_text};
 use crate::page_memory::pages_text;
@@ -18,12 +19,12 @@ use cxx_hierarchy::{ClassId, Hierarchy, Stop, build};
 use cxx_overrider::check_overriders;
 use cxx_subobject::{class_of, subobjects_of};
 use cxx_text::tokens;
-use foundation::NoMemory;
+use foundation::{NoMemory, SOURCE_LIMIT};
 use std::alloc::{AllocError, Global};
 
 // How many statements the block at the front of a text has, and how many tokens it takes; nothing where the text has no token.
 fn body_text(alloc: Global, text: &[u8]) -> Result<String, Stop>
-    requires { length text.now ≤ 262144 }
+    requires { length text.now ≤ source_limit }
 {
     let list = tokens(alloc, text)?;
     if list.tokens.len() == 0 {
@@ -118,7 +119,7 @@ fn groups_line(alloc: Global, h: &Hierarchy) -> Result<String, Stop> {
 
 // What is said of a class of a source; nothing where there is none.
 fn class_text(alloc: Global, source: &[u8], name: &[u8]) -> Result<String, Stop>
-    requires { length source.now ≤ 262144 }
+    requires { length source.now ≤ source_limit }
 {
     let list = tokens(alloc, source)?;
     let source = parse_source(alloc, source, &list)?;
@@ -156,7 +157,7 @@ fn is_generated(alloc: Global, classes: &str, text: &[u8]) -> bool {
 /// Whether the calls that these words name give this text for a source: `body`, `class` with a name, `source` with a number of classes,
 /// `hint` with the classes of a cast, `visits` with the class to which one leads, or `pages`, which needs no source.
 pub fn is_answered(alloc: Global, words: &[String], source: &[u8], text: &[u8]) -> bool {
-    if source.len() > 262_144 {
+    if source.len() > SOURCE_LIMIT {
         return false;
     }
     match words {

@@ -1,6 +1,7 @@
 //! A dump that is read is written again.
 
 ghost use Rattle.std.specs.Prelude.{◌≤◌, length};
+ghost use Rattle.foundation.specs.Limits.{source_limit};
 
 use abi_inspect::{dump_text, inspect};
 use abi_layout::lay_out;
@@ -8,11 +9,12 @@ use cxx_decl_parser::parse_source;
 use cxx_hierarchy::{Stop, build};
 use cxx_text::tokens;
 use cxxabi_input::divide;
+use foundation::SOURCE_LIMIT;
 use std::alloc::Global;
 
 // The dump of the values that are read of a dump, or None where there are none.
 fn written_again(alloc: Global, dump: &[u8], source: &[u8]) -> Result<Option<Vec<u8>>, Stop>
-    requires { length source.now ≤ 262144 }
+    requires { length source.now ≤ source_limit }
 {
     let list = tokens(alloc, source)?;
     let source = parse_source(alloc, source, &list)?;
@@ -29,7 +31,7 @@ pub fn is_read_back(alloc: Global, input: &[u8]) -> bool {
     let Some(parts) = divide(input) else {
         return false;
     };
-    if parts.source.len() > 262_144 {
+    if parts.source.len() > SOURCE_LIMIT {
         return false;
     }
     match written_again(alloc, parts.front, parts.source) {

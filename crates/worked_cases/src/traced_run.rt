@@ -1,12 +1,13 @@
 //! A run on the machine of paths with its trace, which no command shows.
 
 ghost use Rattle.std.specs.Prelude.{◌≡◌, ◌≤◌, true, length};
+ghost use Rattle.foundation.specs.Limits.{source_limit};
 ghost use Rattle.path_model.specs.States.{is_body};
 ghost use Rattle.cxxabi_cmd.specs.invariants.Listings.{IsReady};
 
 use cxx_hierarchy::Stop;
 use cxxabi_cmd::{Accepted, judge};
-use foundation::NoMemory;
+use foundation::{NoMemory, SOURCE_LIMIT};
 use path_run::{PathRun, run_paths};
 use std::alloc::Global;
 use text_told::End;
@@ -35,7 +36,7 @@ fn run_main(alloc: Global, accepted: &Accepted) -> Result<PathRun, NoMemory>
 //
 // Errors: the first refusal or limit of the source; want of memory.
 fn traced_run(alloc: Global, source: &[u8]) -> Result<Option<PathRun>, Stop>
-    requires { length source.now ≤ 262144 }
+    requires { length source.now ≤ source_limit }
 {
     let accepted = judge(alloc, source)?;
     if accepted.source.main.is_none() {
@@ -47,7 +48,7 @@ fn traced_run(alloc: Global, source: &[u8]) -> Result<Option<PathRun>, Stop>
 
 /// Whether a run of a source on the machine of paths comes to the end of `main`, and shows this text with its trace.
 pub fn is_traced_run(alloc: Global, source: &[u8], text: &[u8]) -> bool {
-    if source.len() > 262_144 {
+    if source.len() > SOURCE_LIMIT {
         return false;
     }
     let Ok(Some(run)) = traced_run(alloc, source) else {

@@ -12,8 +12,9 @@ use Rattle.cxxabi_words.specs.declared.command.Command.{Command}
 use Rattle.cxxabi_words.specs.declared.command.Command.TheVariants.{Foreign}
 use Rattle.cxxabi_cmd.specs.Commands.{IsOnBytes, RunsMain}
 use Rattle.cxxabi_cmd.specs.Divided.{IsLayoutOf}
-use Rattle.cxxabi_cmd.specs.Output.{Answer, Yields, source_limit}
+use Rattle.cxxabi_cmd.specs.Output.{Answer, Yields}
 use Rattle.cxxabi_cmd.specs.Handed.{SeenMachine, seen_machine, IsMachineOf}
+use Rattle.foundation.specs.Limits.{source_limit}
 
 -- what was read of a source is all of it, or passes the limit as the source does
 pub record IsReadToLimit (read all : List ℕ) : Type 0 where

@@ -4,11 +4,14 @@ use Rattle.std.specs.Char.{is_ascii_digit}
 use Rattle.std.specs.List.{list_all}
 use Rattle.std.specs.Str.{bytes_eq}
 use Rattle.std.specs.Str.Parse.{digits_value}
+use Rattle.cxx_text.specs.OneToken.{most_word_bytes}
 use Rattle.clap.specs.Words.{Text}
 use Rattle.cxx_text.specs.Bytes.{begins, is_letter, is_word_byte}
-use Rattle.cxxabi_words.specs.Commands.{Given, budget, most_asked_classes, most_asked_elements, most_steps}
+use Rattle.cxxabi_words.specs.Commands.{Given, budget, most_asked_classes}
 use Rattle.cxxabi_words.specs.declared.command.Command.{Command}
 use Rattle.cxxabi_words.specs.declared.command.Command.TheVariants.{Check, Layout, LayoutOf, Tables, TablesOf, Run, Paths, Gen, Array, MemberPointer, Inspect, Foreign}
+use Rattle.foundation.specs.Limits.{most_steps}
+use Rattle.cxx_hierarchy.specs.Limits.{most_elements}
 
 -- the number that at most so many digits say
 abbrev pub is_count : ℕ → ℕ → Text → Bool
@@ -24,7 +27,7 @@ budgeted (Some digits) = count_in_digits 7 most_steps digits
 
 -- a word is a name
 unfoldable pub is_name_word : Text → Bool
-is_name_word text = begins is_letter text && (list_all is_word_byte text && nat_le (length text) 255)
+is_name_word text = begins is_letter text && (list_all is_word_byte text && nat_le (length text) most_word_bytes)
 
 -- what stands before the first byte of this kind, and behind it
 unfoldable pub cut_at : ℕ → Text → Option (Text × Text)
@@ -57,7 +60,7 @@ gen_form None = None
 gen_form (Some digits) = option_map Gen (count_in_digits 4 most_asked_classes digits)
 
 abbrev pub array_of : Text → Text → Option Command
-array_of class digits = if is_name_word class then option_map (λ n. Array class n) (count_in_digits 4 most_asked_elements digits) else None
+array_of class digits = if is_name_word class then option_map (λ n. Array class n) (count_in_digits 4 most_elements digits) else None
 
 abbrev pub array_form : Option Text → Option Command
 array_form None = None

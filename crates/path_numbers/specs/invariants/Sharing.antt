@@ -1,5 +1,6 @@
 -- The virtual bases of a class in the order in which they are met, with their offsets.
 use Rattle.std.specs.Prelude.{◌≡◌, ℕ, ◌+◌, ◌≤◌, ◌<◌, if◌then◌else◌, List, [], ◌∷◌, ◌++◌, length, get_or}
+use Rattle.cxx_subobject.specs.Parts.{most_parts}
 use Rattle.cxx_hierarchy.specs.declared.records.ClassId.{ClassId}
 use Rattle.cxx_hierarchy.specs.declared.records.Base.{Base}
 use Rattle.cxx_hierarchy.specs.Classes.{Classes}
@@ -28,4 +29,4 @@ pub record IsSharing (size : Sizes) (s : Sharing) : Type 0 where
 
 -- what was met lies within the limit
 pub record HasRoom (size : Sizes) (start : ℕ) (order : List ClassId) : Type 0 where
-  pub room : start + total (size AsBase) order ≤ 65536
+  pub room : start + total (size AsBase) order ≤ most_parts

@@ -1,7 +1,7 @@
 use Rattle.std.proofs.Common.{ℕ, List, ap, sym, subst, ◌∙◌}
 use Rattle.std.specs.Prelude.{false}
 use Rattle.cxxabi_words.specs.declared.command.Command.TheVariants.{Gen}
-use Rattle.cxxabi_words.specs.Commands.{most_steps}
+use Rattle.foundation.specs.Limits.{most_steps}
 use Rattle.cxxabi_cmd.specs.Commands.{SumsUp}
 use Rattle.cxxabi_cmd.specs.Handed.{seen_machine}
 use Rattle.cxxabi_cmd.specs.Output.{summary_answer}

@@ -4,7 +4,7 @@ use Rattle.std.specs.Option.{is_some}
 use Rattle.cxx_hierarchy.specs.declared.stop.Rule.TheVariants.{UnknownName}
 use Rattle.path_model.specs.States.{is_body}
 use Rattle.cxxabi_words.specs.declared.command.Command.TheVariants.{Gen}
-use Rattle.cxxabi_words.specs.Commands.{most_steps}
+use Rattle.foundation.specs.Limits.{most_steps}
 use Rattle.cxxabi_cmd.specs.declared.status.Status.TheVariants.{Refused}
 use Rattle.cxxabi_cmd.specs.Commands.{by_gen}
 use Rattle.cxxabi_cmd.specs.Output.{IsRunAnswer, Yields, line_alone, no_main}
