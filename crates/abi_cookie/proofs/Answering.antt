@@ -6,7 +6,7 @@ use Rattle.std.proofs.lemmas.List.{get_or_append_left, get_or_push}
 use Rattle.foundation.proofs.Deciding.{Decided, decide_flag, decide_as}
 use Rattle.foundation.proofs.Places.{get_within, length_pushed}
 use Rattle.cxx_hierarchy.specs.declared.records.ClassId.{ClassId}
-use Rattle.cxx_hierarchy.specs.Classes.{Class, Classes, class_at}
+use Rattle.cxx_hierarchy.specs.Classes.{Class, Classes, class_at, class_by_number}
 use Rattle.cxx_hierarchy.specs.Hierarchies.{IsHierarchy}
 use Rattle.cxx_overrider.specs.Overriding.{IsAbstract}
 use Rattle.cxx_overrider.proofs.MeaningDecisions.{decide_abstract}
@@ -26,9 +26,6 @@ record HasMarks (h : Classes) (n : ℕ) : Type 0 where
   size : length marks ≡ n
   are : AreMarked h marks n
 
-abbrev id : ℕ → ClassId
-id n = record { 0 = n }
-
 some_marks : (h : Classes) → IsHierarchy h → (n : ℕ) → n ≤ length h → HasMarks h n
 some_marks h keeps zero le = record { marks = []; size = refl; are = none_marked h [] }
 some_marks h keeps (suc n) le = more (some_marks h keeps n (omega arith)) (get_within h n (omega arith))
@@ -36,7 +33,7 @@ some_marks h keeps (suc n) le = more (some_marks h keeps n (omega arith)) (get_w
     more : HasMarks h n → (class : Class) × (slice_get h n ≡ Some class) → HasMarks h (suc n)
     more before class =
         let one : n + 1 ≡ suc n = omega arith in
-        let marked = one_marked h keeps before.marks (before.marks ++ has_destructor before.marks class.0 ∷ []) (id n) class.0 class.1 before.are
+        let marked = one_marked h keeps before.marks (before.marks ++ has_destructor before.marks class.0 ∷ []) (class_by_number n) class.0 class.1 before.are
         (λ k lt. get_or_append_left before.marks (has_destructor before.marks class.0 ∷ []) false k (let size' = before.size in omega arith))
         (get_or_push before.marks (has_destructor before.marks class.0) false n before.size) in
         record {

@@ -1,7 +1,7 @@
 -- The judgement of the rows that were made of a listing.
 use Rattle.std.proofs.Common.{◌≡◌, ◌∙◌, ℕ, ◌+◌, ◌<◌, ◌≤◌, Option, Some, None, List, length, sym, ap, subst, arith}
 use Rattle.std.specs.Prelude.{slice_get}
-use Rattle.cxx_hierarchy.specs.Classes.{Classes}
+use Rattle.cxx_hierarchy.specs.Classes.{Classes, class_by_number}
 use Rattle.cxx_hierarchy.specs.Hierarchies.{IsHierarchy}
 use Rattle.abi_sound.specs.declared.class_layout.ClassLayout.{ClassLayout}
 use Rattle.abi_judge.specs.Rules.{MayBeJudged}
@@ -9,7 +9,6 @@ use Rattle.abi_print.specs.LayoutTexts.{proper}
 use Rattle.abi_foreign.specs.declared.listing_stop.ListingRule.{ListingRule}
 use Rattle.abi_foreign.specs.declared.listing_stop.ListingStop.TheVariants as stops
 use Rattle.abi_foreign.specs.declared.said.ClassSaid.{ClassSaid}
-use Rattle.abi_foreign.specs.Lines.{class_by_number}
 use Rattle.abi_foreign.specs.Listings.{cut_rows, IsForeign}
 use Rattle.abi_foreign.specs.Refusals.{IsRefused}
 use Rattle.abi_foreign.specs.invariants.Said.{AreSaid}

@@ -10,7 +10,7 @@ use Rattle.foundation.proofs.Places.{get_within, take_next}
 use Rattle.foundation.proofs.Members.{has_at}
 use Rattle.cxx_hierarchy.specs.declared.records.ClassId.{ClassId}
 use Rattle.cxx_hierarchy.specs.declared.records.Member.{Member}
-use Rattle.cxx_hierarchy.specs.Classes.{Classes, members_of}
+use Rattle.cxx_hierarchy.specs.Classes.{Classes, members_of, class_by_number}
 use Rattle.cxx_hierarchy.specs.Hierarchies.{IsHierarchy}
 use Rattle.cxx_subobject.specs.declared.Subobject.{Subobject}
 use Rattle.cxx_subobject.specs.Subobjects.{same_subobject}
@@ -23,7 +23,7 @@ use Rattle.abi_print.specs.Texts.{PlaceOf}
 use Rattle.abi_print.specs.LayoutTexts.{declared_class_name, subobject_text, primary_text, class_text, row_text, base_text, field_text, field_in, fields_text, proper, layout_text}
 use Rattle.abi_foreign.specs.declared.said.MemberPlace.{MemberPlace}
 use Rattle.abi_foreign.specs.declared.said.ClassSaid.{ClassSaid}
-use Rattle.abi_foreign.specs.Lines.{most_number, class_by_number, IsWritable}
+use Rattle.abi_foreign.specs.Lines.{most_number, IsWritable}
 use Rattle.abi_foreign.specs.Listings.{texts_before, HasSmallNumbers, IsListing, cut_rows, ListsLayout}
 use Rattle.abi_foreign.specs.invariants.Said.{base_lines, members_text, AreSmallPlaces, said_text, said_in, said_before, AreSaid}
 use Rattle.abi_foreign.specs.invariants.Rows.{said_base_place, printed_in, said_place, exact_at, exact_bits, primaries_of, exact_row, exact_rows}

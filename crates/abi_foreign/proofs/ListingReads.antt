@@ -3,12 +3,12 @@ use Rattle.std.proofs.Common.{◌≡◌, ◌∙◌, ℕ, zero, suc, ◌+◌, ◌
 use Rattle.std.specs.Prelude.{slice_get}
 use Rattle.foundation.proofs.Places.{get_before, get_last, get_pushed}
 use Rattle.cxx_hierarchy.specs.declared.records.ClassId.{ClassId}
-use Rattle.cxx_hierarchy.specs.Classes.{Classes}
+use Rattle.cxx_hierarchy.specs.Classes.{Classes, class_by_number}
 use Rattle.abi_foreign.specs.declared.listing_stop.ListingStop.{ListingStop}
 use Rattle.abi_foreign.specs.declared.listing_stop.ListingStop.TheVariants as stops
 use Rattle.abi_foreign.specs.declared.listing_stop.ListingRule.TheVariants.{Form}
 use Rattle.abi_foreign.specs.declared.said.ClassSaid.{ClassSaid}
-use Rattle.abi_foreign.specs.Lines.{ListingLine, class_by_number, class_lines, lines_before, listing_lines, first_line}
+use Rattle.abi_foreign.specs.Lines.{ListingLine, class_lines, lines_before, listing_lines, first_line}
 use Rattle.abi_foreign.specs.Refusals.{IsRefused, no_listing}
 use Rattle.abi_foreign.specs.invariants.Reading.{StopsReading, no_memory, stuck, HasRoomForLines}
 use Rattle.abi_foreign.specs.invariants.Said.{said_text, said_in, said_before, IsSaid, IsClassRead, AreSaidTo, AreSaid}

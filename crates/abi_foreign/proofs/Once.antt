@@ -7,7 +7,7 @@ use Rattle.foundation.proofs.Places.{get_within}
 use Rattle.cxx_subobject.proofs.PathLemmas.{same_id}
 use Rattle.cxx_hierarchy.specs.declared.records.ClassId.{ClassId}
 use Rattle.cxx_hierarchy.specs.declared.records.Member.{Member}
-use Rattle.cxx_hierarchy.specs.Classes.{Classes, members_of}
+use Rattle.cxx_hierarchy.specs.Classes.{Classes, members_of, class_by_number}
 use Rattle.cxx_hierarchy.specs.Hierarchies.{IsHierarchy}
 use Rattle.cxx_subobject.specs.declared.Subobject.{Subobject}
 use Rattle.abi_primary.specs.declared.Primary.{Primary}
@@ -16,7 +16,7 @@ use Rattle.abi_print.specs.LayoutTexts.{name_in_class, declared_class_name, prim
 use Rattle.abi_foreign.specs.declared.said.Sizes.{Sizes}
 use Rattle.abi_foreign.specs.declared.said.MemberPlace.{MemberPlace}
 use Rattle.abi_foreign.specs.declared.said.ClassSaid.{ClassSaid}
-use Rattle.abi_foreign.specs.Lines.{most_number, class_by_number, first_line, IsWritable}
+use Rattle.abi_foreign.specs.Lines.{most_number, first_line, IsWritable}
 use Rattle.abi_foreign.specs.invariants.Pieces.{IsApart}
 use Rattle.abi_foreign.specs.invariants.Said.{FitListing, sizes_then, after_size, after_align, after_dsize, after_nvsize, primary_line_text, base_tail, base_lines, members_text, declared_text, tail_by, AreSmallNumbers, AreSmallPlaces, said_text, said_in, said_before, sizes_head, IsSaid, AreSaid}
 use Rattle.abi_foreign.proofs.Digits.{number_once}

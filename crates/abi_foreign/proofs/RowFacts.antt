@@ -7,7 +7,7 @@ use Rattle.foundation.proofs.Places.{get_within, get_pushed, length_pushed}
 use Rattle.cxx_hierarchy.specs.declared.records.ClassId.{ClassId}
 use Rattle.cxx_hierarchy.specs.declared.records.Base.{Base}
 use Rattle.cxx_hierarchy.specs.declared.records.Member.{Member}
-use Rattle.cxx_hierarchy.specs.Classes.{Classes, bases_of, members_of}
+use Rattle.cxx_hierarchy.specs.Classes.{Classes, bases_of, members_of, class_by_number}
 use Rattle.cxx_hierarchy.specs.Declarations.{is_plain_base}
 use Rattle.cxx_subobject.specs.Subobjects.{shared_base}
 use Rattle.cxx_subobject.specs.VirtualBases.{shared_class, virtual_bases}
@@ -18,7 +18,7 @@ use Rattle.abi_sound.specs.Sound.{IsFullRow}
 use Rattle.abi_sound.specs.Places.{nth_place}
 use Rattle.abi_foreign.specs.declared.said.MemberPlace.{MemberPlace}
 use Rattle.abi_foreign.specs.declared.said.ClassSaid.{ClassSaid}
-use Rattle.abi_foreign.specs.Lines.{most_number, class_by_number}
+use Rattle.abi_foreign.specs.Lines.{most_number}
 use Rattle.abi_foreign.specs.Listings.{cut_row, cut_rows}
 use Rattle.abi_foreign.specs.invariants.Said.{AreSmallNumbers, IsSmallPlace, AreSmallPlaces, IsSaid}
 use Rattle.abi_foreign.specs.invariants.Rows.{said_base_place, direct_base, exact_at, exact_bits, primaries_of, exact_row, exact_row_in, exact_rows}

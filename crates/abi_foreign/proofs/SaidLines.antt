@@ -5,13 +5,13 @@ use Rattle.std.specs.Fmt.{decimal}
 use Rattle.foundation.proofs.Places.{get_within}
 use Rattle.cxx_hierarchy.specs.declared.records.ClassId.{ClassId}
 use Rattle.cxx_hierarchy.specs.declared.records.Member.{Member}
-use Rattle.cxx_hierarchy.specs.Classes.{Classes, members_of}
+use Rattle.cxx_hierarchy.specs.Classes.{Classes, members_of, class_by_number}
 use Rattle.cxx_subobject.specs.declared.Subobject.{Subobject}
 use Rattle.cxx_subobject.specs.Preorder.{preorder}
 use Rattle.abi_print.specs.LayoutTexts.{subobject_text, field_text, proper}
 use Rattle.abi_foreign.specs.declared.said.MemberPlace.{MemberPlace}
 use Rattle.abi_foreign.specs.declared.said.ClassSaid.{ClassSaid}
-use Rattle.abi_foreign.specs.Lines.{class_by_number, base_line, member_line, class_lines, lines_before, listing_lines, first_line, AreLines}
+use Rattle.abi_foreign.specs.Lines.{base_line, member_line, class_lines, lines_before, listing_lines, first_line, AreLines}
 use Rattle.abi_foreign.specs.invariants.Said.{base_tail, base_lines, members_text, primary_line_text, AreSmallNumbers, AreSmallPlaces, said_text, said_in, said_before, IsSaid, AreSaid}
 use Rattle.abi_foreign.proofs.ReadLines.{lines_join}
 use Rattle.abi_foreign.proofs.LineReads.{unended, sizes_split}

@@ -3,7 +3,7 @@ use Rattle.std.proofs.Common.{◌≡◌, ◌∙◌, ℕ, zero, suc, ◌+◌, ◌
 use Rattle.std.specs.Prelude.{slice_get}
 use Rattle.foundation.proofs.Deciding.{decide_number}
 use Rattle.cxx_hierarchy.specs.declared.records.ClassId.{ClassId}
-use Rattle.cxx_hierarchy.specs.Classes.{Classes}
+use Rattle.cxx_hierarchy.specs.Classes.{Classes, class_by_number}
 use Rattle.cxx_hierarchy.specs.Hierarchies.{IsHierarchy}
 use Rattle.cxx_subobject.specs.declared.Subobject.{Subobject}
 use Rattle.abi_sound.specs.declared.class_layout.ClassLayout.{ClassLayout}
@@ -15,7 +15,6 @@ use Rattle.abi_foreign.specs.declared.listing_stop.ListingRule.{ListingRule}
 use Rattle.abi_foreign.specs.declared.listing_stop.ListingRule.TheVariants.{Form}
 use Rattle.abi_foreign.specs.declared.listing_stop.ListingStop.TheVariants.{Bad}
 use Rattle.abi_foreign.specs.declared.said.ClassSaid.{ClassSaid}
-use Rattle.abi_foreign.specs.Lines.{class_by_number}
 use Rattle.abi_foreign.specs.Listings.{cut_rows, IsForeign}
 use Rattle.abi_foreign.specs.Refusals.{IsRefused}
 use Rattle.abi_foreign.specs.invariants.Said.{AreSaid}

@@ -8,7 +8,7 @@ use Rattle.foundation.proofs.Deciding.{decide_number, decide_list}
 use Rattle.foundation.proofs.Members.{has_from_contains, contains_from_has}
 use Rattle.cxx_hierarchy.specs.declared.records.ClassId.{ClassId}
 use Rattle.cxx_hierarchy.specs.declared.records.Member.{Member}
-use Rattle.cxx_hierarchy.specs.Classes.{Classes, class_names, members_of, IsClassNamed}
+use Rattle.cxx_hierarchy.specs.Classes.{Classes, class_names, members_of, IsClassNamed, class_by_number}
 use Rattle.cxx_hierarchy.specs.Hierarchies.{IsHierarchy}
 use Rattle.cxx_subobject.specs.declared.Subobject.{Subobject}
 use Rattle.cxx_subobject.specs.Preorder.{preorder}
@@ -21,7 +21,7 @@ use Rattle.abi_foreign.specs.declared.listing_stop.ListingRule.TheVariants.{Form
 use Rattle.abi_foreign.specs.declared.said.Sizes.{Sizes}
 use Rattle.abi_foreign.specs.declared.said.MemberPlace.{MemberPlace}
 use Rattle.abi_foreign.specs.declared.said.ClassSaid.{ClassSaid}
-use Rattle.abi_foreign.specs.Lines.{ListingLine, most_number, class_by_number, sizes_line, primary_line, base_line, member_line, class_lines}
+use Rattle.abi_foreign.specs.Lines.{ListingLine, most_number, sizes_line, primary_line, base_line, member_line, class_lines}
 use Rattle.abi_foreign.specs.Refusals.{IsRefused}
 use Rattle.abi_foreign.specs.invariants.Pieces.{IsNotBehind, IsNoDigit, IsApart, read_on, BeginsWithNumber, HasNoNumber, IsNumberBefore, HasNoneBefore}
 use Rattle.abi_foreign.specs.invariants.Reading.{IsNoLine, StopsReading}

@@ -13,7 +13,7 @@ use Rattle.cxx_hierarchy.specs.declared.records.Base.{Base}
 use Rattle.cxx_hierarchy.specs.declared.records.Member.{Member}
 use Rattle.cxx_hierarchy.specs.declared.records.FieldType.{FieldType}
 use Rattle.cxx_hierarchy.specs.declared.records.FieldType.TheVariants.{Value, Object}
-use Rattle.cxx_hierarchy.specs.Classes.{Class, Classes, bases_in, bases_of, members_of}
+use Rattle.cxx_hierarchy.specs.Classes.{Class, Classes, bases_in, bases_of, members_of, class_by_number}
 use Rattle.cxx_hierarchy.specs.Declarations.{is_plain_base, elements_of}
 use Rattle.cxx_hierarchy.specs.Hierarchies.{IsHierarchy}
 use Rattle.cxx_hierarchy.specs.VirtualBases.{IsDirectBase, HasVirtualBase, direct, further}
@@ -32,7 +32,7 @@ use Rattle.abi_sound.specs.Sound.{IsFullRow, AreFullRows, is_primary_of}
 use Rattle.abi_sound.specs.Places.{places_of, base_places_in as places_in_row, nth_place, nth_holder, size_in_row, member_bits_in, primary_in, direct_base_place, virtual_place, virtual_place_in, holder_in}
 use Rattle.abi_sound.specs.Locations.{size_of_type}
 use Rattle.abi_foreign.specs.declared.said.ClassSaid.{ClassSaid}
-use Rattle.abi_foreign.specs.Lines.{class_by_number, first_line}
+use Rattle.abi_foreign.specs.Lines.{first_line}
 use Rattle.abi_foreign.specs.Listings.{cut_bits, cut_row, cut_rows, width_by, AreMemberBits, RowsHavePlaces}
 use Rattle.abi_foreign.specs.invariants.Said.{AreSaid}
 use Rattle.abi_foreign.specs.invariants.Rows.{said_base_place, printed_in, said_place, direct_base, size_said, said_size, width_said, exact_at, exact_bits, primaries_of, exact_rows}

@@ -6,7 +6,7 @@ use Rattle.foundation.proofs.Places.{place_of, contains_at, get_within, get_mapp
 use Rattle.cxx_hierarchy.specs.declared.records.ClassId.{ClassId}
 use Rattle.cxx_hierarchy.specs.declared.records.Base.{Base}
 use Rattle.cxx_hierarchy.specs.declared.records.Member.{Member}
-use Rattle.cxx_hierarchy.specs.Classes.{Classes, members_of}
+use Rattle.cxx_hierarchy.specs.Classes.{Classes, members_of, class_by_number}
 use Rattle.cxx_hierarchy.specs.Hierarchies.{IsHierarchy}
 use Rattle.cxx_subobject.specs.declared.Subobject.{Subobject}
 use Rattle.cxx_subobject.specs.Subobjects.{same_subobject, shared_base}
@@ -23,7 +23,7 @@ use Rattle.abi_foreign.specs.declared.listing_stop.ListingRule.TheVariants.{Plac
 use Rattle.abi_foreign.specs.declared.listing_stop.ListingStop.TheVariants as stops
 use Rattle.abi_foreign.specs.declared.said.MemberPlace.{MemberPlace}
 use Rattle.abi_foreign.specs.declared.said.ClassSaid.{ClassSaid}
-use Rattle.abi_foreign.specs.Lines.{class_by_number, first_line}
+use Rattle.abi_foreign.specs.Lines.{first_line}
 use Rattle.abi_foreign.specs.Listings.{cut_row, cut_rows, AreSums, IsForeign}
 use Rattle.abi_foreign.specs.Refusals.{listing_rule_no, rule_of, Breaks, unsound, no_sum, IsRefused, faulty}
 use Rattle.abi_foreign.specs.invariants.Said.{AreSaid, AreSmallNumbers, AreSmallPlaces}

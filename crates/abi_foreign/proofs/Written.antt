@@ -9,7 +9,7 @@ use Rattle.foundation.proofs.Places.{get_within, get_mapped}
 use Rattle.foundation.proofs.Members.{Has, contains_from_has}
 use Rattle.cxx_hierarchy.specs.declared.records.ClassId.{ClassId}
 use Rattle.cxx_hierarchy.specs.declared.records.Member.{Member}
-use Rattle.cxx_hierarchy.specs.Classes.{Classes, members_of}
+use Rattle.cxx_hierarchy.specs.Classes.{Classes, members_of, class_by_number}
 use Rattle.cxx_hierarchy.specs.Hierarchies.{IsHierarchy}
 use Rattle.cxx_subobject.specs.declared.Subobject.{Subobject}
 use Rattle.cxx_subobject.specs.Preorder.{preorder}
@@ -21,7 +21,7 @@ use Rattle.abi_print.specs.Texts.{PlaceOf}
 use Rattle.abi_print.specs.LayoutTexts.{declared_class_name, primary_text, class_text, row_text, base_text, fields_text, proper, layout_text}
 use Rattle.abi_foreign.specs.declared.said.MemberPlace.{MemberPlace}
 use Rattle.abi_foreign.specs.declared.said.ClassSaid.{ClassSaid}
-use Rattle.abi_foreign.specs.Lines.{most_number, class_by_number, first_line}
+use Rattle.abi_foreign.specs.Lines.{most_number, first_line}
 use Rattle.abi_foreign.specs.Listings.{texts_before, IsListing}
 use Rattle.abi_foreign.specs.invariants.Said.{base_lines, members_text, AreSmallNumbers, AreSmallPlaces, said_text, said_in, said_before, IsSaid, AreSaid}
 use Rattle.abi_foreign.proofs.Positions.{get_below}

@@ -12,7 +12,7 @@ use Rattle.cxx_hierarchy.specs.declared.records.Base.{Base}
 use Rattle.cxx_hierarchy.specs.declared.records.Member.{Member}
 use Rattle.cxx_hierarchy.specs.declared.records.FieldType.{FieldType}
 use Rattle.cxx_hierarchy.specs.declared.records.FieldType.TheVariants.{Value, Object}
-use Rattle.cxx_hierarchy.specs.Classes.{Classes, bases_of, members_of}
+use Rattle.cxx_hierarchy.specs.Classes.{Classes, bases_of, members_of, class_by_number}
 use Rattle.cxx_hierarchy.specs.Declarations.{is_plain_base, elements_of}
 use Rattle.cxx_hierarchy.specs.Hierarchies.{IsHierarchy}
 use Rattle.cxx_hierarchy.specs.VirtualBases.{IsDirectBase, HasVirtualBase}
@@ -35,7 +35,6 @@ use Rattle.abi_print.specs.LayoutTexts.{proper}
 use Rattle.abi_print.specs.Texts.{PlaceOf}
 use Rattle.abi_foreign.specs.declared.said.MemberPlace.{MemberPlace}
 use Rattle.abi_foreign.specs.declared.said.ClassSaid.{ClassSaid}
-use Rattle.abi_foreign.specs.Lines.{class_by_number}
 use Rattle.abi_foreign.specs.Listings.{cut_bits, cut_row, cut_rows, IsListing, RowsHavePlaces}
 use Rattle.abi_foreign.specs.invariants.Said.{AreSaid}
 use Rattle.abi_foreign.specs.invariants.Rows.{said_base_place, printed_in, said_place, direct_base, size_said, said_size, said_width, exact_bits, primaries_of, exact_row, exact_rows}

@@ -4,7 +4,7 @@ use Rattle.std.specs.Fmt.{decimal}
 use Rattle.abi_sound.specs.Sound.{most_class_bytes}
 use Rattle.cxx_hierarchy.specs.declared.records.ClassId.{ClassId}
 use Rattle.cxx_hierarchy.specs.declared.records.Member.{Member}
-use Rattle.cxx_hierarchy.specs.Classes.{Classes, members_of}
+use Rattle.cxx_hierarchy.specs.Classes.{Classes, members_of, class_by_number}
 use Rattle.cxx_subobject.specs.declared.Subobject.{Subobject}
 use Rattle.cxx_subobject.specs.Preorder.{preorder}
 use Rattle.abi_primary.specs.declared.Primary.{Primary}
@@ -25,9 +25,6 @@ pub data ListingLine : Type 0 where
 -- the lines of a class: its sizes, its primary base, its base subobjects in preorder, and the members that it declares
 abbrev pub class_lines : Classes → ClassId → List ListingLine
 class_lines h c = sizes_line c ∷ primary_line ∷ (map base_line (proper (preorder h c)) ++ map member_line (members_of h c))
-
-abbrev pub class_by_number : ℕ → ClassId
-class_by_number n = record { 0 = n }
 
 -- the lines of the first classes, as many as are asked for
 abbrev pub lines_before : Classes → ℕ → List ListingLine

@@ -4,7 +4,7 @@ use Rattle.std.specs.List.{find}
 use Rattle.cxx_hierarchy.specs.declared.records.ClassId.{ClassId}
 use Rattle.cxx_hierarchy.specs.declared.records.Member.{Member}
 use Rattle.cxx_hierarchy.specs.Declarations.{elements_of}
-use Rattle.cxx_hierarchy.specs.Classes.{Classes, members_of}
+use Rattle.cxx_hierarchy.specs.Classes.{Classes, members_of, class_by_number}
 use Rattle.cxx_hierarchy.specs.VirtualBases.{IsDirectBase, HasVirtualBase}
 use Rattle.cxx_subobject.specs.declared.Root.TheVariants.{Whole}
 use Rattle.cxx_subobject.specs.declared.Subobject.{Subobject}
@@ -17,7 +17,7 @@ use Rattle.abi_sound.specs.Locations.{size_of_type}
 use Rattle.abi_sound.specs.Sound.{AreFullRows, IsSoundLayout, is_primary_of}
 use Rattle.abi_print.specs.LayoutTexts.{layout_text, proper}
 use Rattle.abi_print.specs.Texts.{PlaceOf}
-use Rattle.abi_foreign.specs.Lines.{most_number, class_by_number, IsWritable}
+use Rattle.abi_foreign.specs.Lines.{most_number, IsWritable}
 
 -- the texts of the layouts of the first classes, as many as are asked for
 abbrev pub texts_before : Classes → List ClassLayout → PlaceOf → ℕ → List ℕ

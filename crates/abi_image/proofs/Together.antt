@@ -10,10 +10,11 @@ use Rattle.abi_image.specs.declared.TheConstants.{BASE}
 use Rattle.abi_image.specs.declared.draft.Draft.{Draft}
 use Rattle.abi_image.specs.declared.parts.Parts.{Parts}
 use Rattle.abi_image.specs.declared.regions.Region.{Region}
-use Rattle.abi_image.specs.invariants.Drafts.{AllAt, AllBySize, HaveClassWords, Puts, address_in, address_of, class_id, class_address, group_size, info_size, sum_of_sizes, vtt_size}
+use Rattle.abi_image.specs.invariants.Drafts.{AllAt, AllBySize, HaveClassWords, Puts, address_in, address_of, class_address, group_size, info_size, sum_of_sizes, vtt_size}
 use Rattle.abi_image.specs.invariants.Parts.{AreAt, AreImageParts, IsDraftOf, addresses_of, IsRegion, groups_start, infos_start, vtts_start}
 use Rattle.abi_image.specs.invariants.Points.{AreFirstPoints, AreGroupPoints, HasPointAt}
 use Rattle.abi_image.proofs.Filling.{length_after, puts_both}
+use Rattle.cxx_hierarchy.specs.Classes.{class_by_number}
 
 length_map : {A : Type 0} (f : A → ℕ) (xs : List A) → length (map f xs) ≡ length xs
 length_map f [] = refl
@@ -77,7 +78,7 @@ pub together : (codes : List CodeRow) (groups : List Group) (vtts : List (List V
     Puts a b (2 * length vtts) (λ image at. HaveClassWords image parts.firsts.items parts.vtts.at.items vtts at) →
     Puts b c (sum_of_sizes (map group_size groups)) (λ image at. AllBySize group_size (λ i group there. StandsAt image codes (class_address parts.infos.at.items) group there) groups at) →
     Puts c d (sum_of_sizes (map vtt_size vtts)) (λ image at. AllBySize vtt_size (λ i vtt there. AllAt (HasPointAt image groups (address_in parts.groups.at.items)) vtt there) vtts at) →
-    Puts d e (sum_of_sizes (map info_size infos)) (λ image at. AllBySize info_size (λ i info there. HasInfo image (class_address parts.infos.at.items) (class_id i) info there) infos at) →
+    Puts d e (sum_of_sizes (map info_size infos)) (λ image at. AllBySize info_size (λ i info there. HasInfo image (class_address parts.infos.at.items) (class_by_number i) info there) infos at) →
     IsDraftOf codes groups vtts infos parts e
 together codes groups vtts infos parts a b c d e are nothing_yet place first second third fourth =
     let m1 : ℕ = 2 * length vtts in
@@ -93,7 +94,7 @@ together codes groups vtts infos parts a b c d e are nothing_yet place first sec
     let kept : e.records_at ≡ parts.infos.end = fourth.same_place ∙ third.same_place ∙ second.same_place ∙ first.same_place ∙ place in
     let one = puts_both a b c m1 m2 (λ image at. HaveClassWords image parts.firsts.items parts.vtts.at.items vtts at) (λ image at. AllBySize group_size (λ i group there. StandsAt image codes (class_address parts.infos.at.items) group there) groups at) first second in
     let two = puts_both a c d (m1 + m2) m3 _ (λ image at. AllBySize vtt_size (λ i vtt there. AllAt (HasPointAt image groups (address_in parts.groups.at.items)) vtt there) vtts at) one third in
-    let all = puts_both a d e (m1 + m2 + m3) m4 _ (λ image at. AllBySize info_size (λ i info there. HasInfo image (class_address parts.infos.at.items) (class_id i) info there) infos at) two fourth in
+    let all = puts_both a d e (m1 + m2 + m3) m4 _ (λ image at. AllBySize info_size (λ i info there. HasInfo image (class_address parts.infos.at.items) (class_by_number i) info there) infos at) two fourth in
     record {
       place = omega arith;
       says = λ image inside.
@@ -105,7 +106,7 @@ together codes groups vtts infos parts a b c d e are nothing_yet place first sec
           record {
             each_group = λ i group there. stood group_size (λ j g k. StandsAt image codes (class_address parts.infos.at.items) g k) groups (at + 8 * m1) (groups_start vtts) parts.groups.at.items group_place are.groups_at h.0.0.1 i group there;
             each_vtt = λ id words i word there inner. stood vtt_size (λ j vtt k. AllAt (HasPointAt image groups (address_in parts.groups.at.items)) vtt k) vtts (at + 8 * (m1 + m2)) (vtts_start groups vtts) parts.vtts.at.items vtt_place are.vtts_at.each h.0.1 id.0 words there i word inner;
-            each_info = λ id info there. stood info_size (λ j t k. HasInfo image (class_address parts.infos.at.items) (class_id j) t k) infos (at + 8 * (m1 + m2 + m3)) (infos_start groups vtts) parts.infos.at.items info_place are.infos_at.each h.1 id.0 info there;
+            each_info = λ id info there. stood info_size (λ j t k. HasInfo image (class_address parts.infos.at.items) (class_by_number j) t k) infos (at + 8 * (m1 + m2 + m3)) (infos_start groups vtts) parts.infos.at.items info_place are.infos_at.each h.1 id.0 info there;
             directory = λ id words there.
                 let pair = h.0.0.0 id.0 words there in
                 let start : at + 16 * id.0 ≡ BASE + 16 * id.0 = omega arith in

@@ -4,8 +4,9 @@ ghost use Rattle.std.specs.Prelude.{◌≡◌, ◌<◌, ◌*◌, ◌++◌, ◌�
 ghost use Rattle.cxx_hierarchy.specs.declared.records.ClassId.{ClassId};
 ghost use Rattle.abi_slots.specs.declared.words.Group.{Group};
 ghost use Rattle.abi_slots.specs.Images.{point_at, vtt_address, whole_name};
-ghost use Rattle.abi_image.specs.invariants.Drafts.{HaveClassWords, Puts, address_in, class_id};
+ghost use Rattle.abi_image.specs.invariants.Drafts.{HaveClassWords, Puts, address_in};
 ghost use Rattle.abi_image.specs.invariants.Points.{AreGroupPoints, ArePointsOf, AreFirstPoints, is_whole_name};
+ghost use Rattle.cxx_hierarchy.specs.Classes.{class_by_number};
 
 use crate::draft::Draft;
 use crate::vtts::GroupPlaces;
@@ -36,7 +37,7 @@ fn first_of(at: u64, points: &[u64]) -> u64
 
 /// The class below a number of which a name is that of its own group.
 fn own_class(name: &GroupName, classes: usize) -> Option<usize>
-    ensures own { IfSome result (λ c. (c < classes) × (name.now ≡ whole_name (class_id c))) }
+    ensures own { IfSome result (λ c. (c < classes) × (name.now ≡ whole_name (class_by_number c))) }
     ensures none { IfNone result ((c : ClassId) → c.0 < classes → name.now ≡ whole_name c → ⊥) }
 {
     let class = name.complete.0 as usize;

@@ -5,7 +5,8 @@ ghost use Rattle.abi_slots.specs.declared.words.InfoBase.{InfoBase};
 ghost use Rattle.abi_slots.specs.Images.{HasBaseWords, HasInfo, info_bases, info_flags};
 ghost use Rattle.abi_image.specs.Conditions.{AreKnownBases, AreKnownInfos};
 ghost use Rattle.abi_image.specs.declared.TheConstants.{BASE};
-ghost use Rattle.abi_image.specs.invariants.Drafts.{AllBySize, Puts, HasBasesAt, HasHead, class_id, class_address, first_base_address, info_size, sum_of_sizes};
+ghost use Rattle.abi_image.specs.invariants.Drafts.{AllBySize, Puts, HasBasesAt, HasHead, class_address, first_base_address, info_size, sum_of_sizes};
+ghost use Rattle.cxx_hierarchy.specs.Classes.{class_by_number};
 
 use crate::BASE;
 use crate::draft::Draft;
@@ -74,7 +75,7 @@ fn first_base(at: u64, bases: usize) -> Result<u64, NoMemory>
 
 /// Puts the four words of a class's record behind others.
 fn push_head(draft: &mut Draft, c: u32, info: &TypeInfo) -> Result<(), NoMemory>
-    ensures { OnOk result (Puts draft.old draft.new 4 (λ image at. HasHead image (class_id c) info.now at)) }
+    ensures { OnOk result (Puts draft.old draft.new 4 (λ image at. HasHead image (class_by_number c) info.now at)) }
 {
     let at = behind(BASE, draft.words.len())?;
     let bases = base_count(info);
@@ -92,7 +93,7 @@ fn push_head(draft: &mut Draft, c: u32, info: &TypeInfo) -> Result<(), NoMemory>
 /// Puts the record of a class and its bases behind others.
 fn push_info(draft: &mut Draft, infos: &[u64], c: u32, info: &TypeInfo) -> Result<(), NoMemory>
     requires { AreKnownBases (length infos.now) (info_bases info.now) }
-    ensures { OnOk result (Puts draft.old draft.new (info_size info.now) (λ image at. HasInfo image (class_address infos.now) (class_id c) info.now at)) }
+    ensures { OnOk result (Puts draft.old draft.new (info_size info.now) (λ image at. HasInfo image (class_address infos.now) (class_by_number c) info.now at)) }
 {
     push_head(draft, c, info)?;
     push_bases(draft, infos, info)?;
@@ -104,7 +105,7 @@ fn push_info(draft: &mut Draft, infos: &[u64], c: u32, info: &TypeInfo) -> Resul
 /// Errors: want of memory, also where there are more classes than numbers for them.
 pub fn push_infos(draft: &mut Draft, infos_at: &[u64], infos: &[TypeInfo]) -> Result<(), NoMemory>
     requires { AreKnownInfos (length infos_at.now) infos.now }
-    ensures { OnOk result (Puts draft.old draft.new (sum_of_sizes (map info_size infos.now)) (λ image at. AllBySize info_size (λ c info there. HasInfo image (class_address infos_at.now) (class_id c) info there) infos.now at)) }
+    ensures { OnOk result (Puts draft.old draft.new (sum_of_sizes (map info_size infos.now)) (λ image at. AllBySize info_size (λ c info there. HasInfo image (class_address infos_at.now) (class_by_number c) info there) infos.now at)) }
 {
     for (c, info) in infos.iter().enumerate() {
         if c > u32::MAX as usize {

@@ -9,7 +9,7 @@ use Rattle.foundation.proofs.Places.{contains_at, get_mapped, get_within}
 use Rattle.cxx_text.specs.OneToken.{IsToken, is_numeral}
 use Rattle.cxx_text.specs.declared.token.Kind.TheVariants.{Word}
 use Rattle.cxx_hierarchy.specs.declared.records.ClassId.{ClassId}
-use Rattle.cxx_hierarchy.specs.Classes.{Class, Classes, class_names}
+use Rattle.cxx_hierarchy.specs.Classes.{Class, Classes, class_names, class_by_number}
 use Rattle.cxx_hierarchy.specs.Hierarchies.{IsHierarchy}
 use Rattle.abi_sound.specs.Places.{Places}
 use Rattle.abi_print.specs.LayoutTexts.{name_in_class, declared_class_name}
@@ -36,11 +36,8 @@ shorter (x ∷ lines) (suc n) (suc k) le =
     let s = shorter lines n k (omega arith) in
     (s.0, ap (λ (l : List ℕ). x ++ l) s.1 ∙ sym (append_assoc x (concat (take k lines)) s.0))
 
-abbrev class_made : ℕ → ClassId
-class_made n = record { 0 = n }
-
 same_class : (c d : ClassId) → c.0 ≡ d.0 → c ≡ d
-same_class c d e = ap class_made e
+same_class c d e = ap class_by_number e
 
 abbrev seen_of : ℕ → ClassId → List SeenValue → Seen
 seen_of n d leaves = record { object = n; class = d; leaves = leaves }

@@ -8,7 +8,7 @@ use Rattle.cxx_hierarchy.specs.declared.records.PartAt.{PartAt}
 use Rattle.cxx_hierarchy.specs.declared.records.PartKind.TheVariants.{Function as FunctionPart, Destructor}
 use Rattle.cxx_hierarchy.specs.declared.records.ReturnType.TheVariants.{Void}
 use Rattle.cxx_hierarchy.specs.declared.records.Destructor.TheVariants.{Implicit, Virtual}
-use Rattle.cxx_hierarchy.specs.Classes.{Classes}
+use Rattle.cxx_hierarchy.specs.Classes.{Classes, class_by_number}
 use Rattle.cxx_subobject.specs.declared.Subobject.{Subobject}
 use Rattle.cxx_subobject.specs.Subobjects.{shared_base, whole_of}
 use Rattle.cxx_overrider.specs.declared.FunctionId.{FunctionId}
@@ -24,14 +24,11 @@ use Rattle.abi_slots.specs.Listing.{entry_key, entries, offsets, entry_number, v
 use Rattle.abi_slots.specs.Views.{View, heads}
 use Rattle.abi_slots.specs.Groups.{declarer, code_word}
 
-abbrev class_id : ℕ → ClassId
-class_id n = record { 0 = n }
-
 abbrev v : ClassId
-v = class_id 0
+v = class_by_number 0
 
 abbrev d : ClassId
-d = class_id 1
+d = class_by_number 1
 
 abbrev f : Function ClassId
 f = record { name = 102 ∷ []; params = []; ret = Void; is_virtual = true; is_pure = false; at = 0 }

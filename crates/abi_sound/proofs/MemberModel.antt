@@ -12,7 +12,7 @@ use Rattle.cxx_hierarchy.specs.declared.records.ValueType.{ValueType}
 use Rattle.cxx_hierarchy.specs.declared.records.ValueType.TheVariants.{Number}
 use Rattle.cxx_hierarchy.specs.declared.records.FieldType.{FieldType}
 use Rattle.cxx_hierarchy.specs.declared.records.FieldType.TheVariants.{Value, Object}
-use Rattle.cxx_hierarchy.specs.Classes.{Class, Classes, bases_in, members_in, width_of_member}
+use Rattle.cxx_hierarchy.specs.Classes.{Class, Classes, bases_in, members_in, width_of_member, class_by_number}
 use Rattle.cxx_hierarchy.specs.Declarations.{elements_of, has_virtual_function}
 use Rattle.cxx_hierarchy.specs.VirtualBases.{IsDirectBase, HasVirtualBase, direct, further}
 use Rattle.cxx_subobject.specs.declared.locations.Hop.{Hop}
@@ -30,9 +30,6 @@ use Rattle.abi_sound.specs.Chains.{primary_part}
 use Rattle.abi_sound.specs.Sound.{Divides, IsAligned, IsFullRow, IsSoundLayout}
 use Rattle.abi_sound.proofs.LeafSpans.{one_member}
 
-abbrev id : ℕ → ClassId
-id n = record { 0 = n }
-
 abbrev member_of : FieldType ClassId → Member ClassId
 member_of type = record { name = []; ty = type; count = None; width = None; width_at = 0; is_public = true; at = 0 }
 
@@ -43,7 +40,7 @@ abbrev class_with : List (Member ClassId) → Class
 class_with members = record { name = []; at = 0; bases = []; members = members; functions = []; order = []; has_constructor = false; destructor = Implicit }
 
 abbrev pub e_f : Classes
-e_f = class_with (member_of char ∷ []) ∷ class_with (member_of char ∷ member_of (Object (id 0)) ∷ []) ∷ []
+e_f = class_with (member_of char ∷ []) ∷ class_with (member_of char ∷ member_of (Object (class_by_number 0)) ∷ []) ∷ []
 
 abbrev one_byte : Bits
 one_byte = record { first = 0; width = 8 }
@@ -77,7 +74,7 @@ only_whole c _ (shared v path has l) = absurd (no_virtual c v has)
 
 by_class : (class : Class) (n : ℕ) → slice_get e_f n ≡ Some class → has_virtual_function class ≡ true → ⊥
 by_class class zero e says = let same : class_with (member_of char ∷ []) ≡ class = cc in let t : false ≡ true = ap has_virtual_function same ∙ says in cc
-by_class class (suc zero) e says = let same : class_with (member_of char ∷ member_of (Object (id 0)) ∷ []) ≡ class = cc in let t : false ≡ true = ap has_virtual_function same ∙ says in cc
+by_class class (suc zero) e says = let same : class_with (member_of char ∷ member_of (Object (class_by_number 0)) ∷ []) ≡ class = cc in let t : false ≡ true = ap has_virtual_function same ∙ says in cc
 by_class class (suc (suc n)) e says = let k : None ≡ Some class = e in cc
 
 not_dynamic : (c : ClassId) → IsDynamic e_f c → ⊥
@@ -87,28 +84,28 @@ not_dynamic _ (inherits c b way edge rest) = no_edge c b way edge
 
 -- the elements of members
 data IsPart : ClassId → ℕ → ℕ → FieldType ClassId → Type 0 where
-  c_of_e : IsPart (id 0) 0 0 char
-  a_of_f : IsPart (id 1) 0 0 char
-  e_of_f : IsPart (id 1) 1 0 (Object (id 0))
+  c_of_e : IsPart (class_by_number 0) 0 0 char
+  a_of_f : IsPart (class_by_number 1) 0 0 char
+  e_of_f : IsPart (class_by_number 1) 1 0 (Object (class_by_number 0))
 
 elements : (d : ClassId) (m i : ℕ) (type : FieldType ClassId) → IsElement e_f d m i type → IsPart d m i type
 elements d m i type e = by_number d.0 refl e.there
   where
-    of : (n k : ℕ) (t : FieldType ClassId) → d.0 ≡ n → m ≡ k → member_of t ≡ e.member → IsPart (id n) k 0 t → IsPart d m i type
+    of : (n k : ℕ) (t : FieldType ClassId) → d.0 ≡ n → m ≡ k → member_of t ≡ e.member → IsPart (class_by_number n) k 0 t → IsPart d m i type
     of n k t number place same part =
         let within : i < elements_of (member_of t).count = subst (λ (x : Member ClassId). i < elements_of x.count) (sym same) e.within in
         let first : 0 ≡ i = omega (arith, within) in
-        let class : id n ≡ d = ap id (sym number) in
+        let class : class_by_number n ≡ d = ap class_by_number (sym number) in
         let of_type : t ≡ type = ap (λ (x : Member ClassId). x.ty) same ∙ e.type_is in
-        subst (λ (x : ClassId). IsPart x m i type) class (subst (λ k. IsPart (id n) k i type) (sym place) (subst (λ j. IsPart (id n) k j type) first (subst (IsPart (id n) k 0) of_type part)))
+        subst (λ (x : ClassId). IsPart x m i type) class (subst (λ k. IsPart (class_by_number n) k i type) (sym place) (subst (λ j. IsPart (class_by_number n) k j type) first (subst (IsPart (class_by_number n) k 0) of_type part)))
 
     in_e : (k : ℕ) → d.0 ≡ 0 → m ≡ k → slice_get (member_of char ∷ []) k ≡ Some e.member → IsPart d m i type
     in_e zero number place there = of 0 0 char number place (let same : member_of char ≡ e.member = cc in same) c_of_e
     in_e (suc k) number place there = let g : None ≡ Some e.member = there in cc
 
-    in_f : (k : ℕ) → d.0 ≡ 1 → m ≡ k → slice_get (member_of char ∷ member_of (Object (id 0)) ∷ []) k ≡ Some e.member → IsPart d m i type
+    in_f : (k : ℕ) → d.0 ≡ 1 → m ≡ k → slice_get (member_of char ∷ member_of (Object (class_by_number 0)) ∷ []) k ≡ Some e.member → IsPart d m i type
     in_f zero number place there = of 1 0 char number place (let same : member_of char ≡ e.member = cc in same) a_of_f
-    in_f (suc zero) number place there = of 1 1 (Object (id 0)) number place (let same : member_of (Object (id 0)) ≡ e.member = cc in same) e_of_f
+    in_f (suc zero) number place there = of 1 1 (Object (class_by_number 0)) number place (let same : member_of (Object (class_by_number 0)) ≡ e.member = cc in same) e_of_f
     in_f (suc (suc k)) number place there = let g : None ≡ Some e.member = there in cc
 
     by_number : (n : ℕ) → d.0 ≡ n → slice_get (members_in (slice_get e_f n)) m ≡ Some e.member → IsPart d m i type
@@ -117,19 +114,19 @@ elements d m i type e = by_number d.0 refl e.there
     by_number (suc (suc n)) number there = let g : None ≡ Some e.member = there in cc
 
 abbrev whole_hop : ℕ → Hop
-whole_hop n = Inherit (whole_of (id n))
+whole_hop n = Inherit (whole_of (class_by_number n))
 
 -- the numbers in each class, with their places
 data IsLeafAt : ClassId → List Hop → ℕ → Type 0 where
-  c_in_e : IsLeafAt (id 0) (whole_hop 0 ∷ MemberHop 0 0 ∷ []) 0
-  a_in_f : IsLeafAt (id 1) (whole_hop 1 ∷ MemberHop 0 0 ∷ []) 0
-  c_in_f : IsLeafAt (id 1) (whole_hop 1 ∷ MemberHop 1 0 ∷ whole_hop 0 ∷ MemberHop 0 0 ∷ []) 1
+  c_in_e : IsLeafAt (class_by_number 0) (whole_hop 0 ∷ MemberHop 0 0 ∷ []) 0
+  a_in_f : IsLeafAt (class_by_number 1) (whole_hop 1 ∷ MemberHop 0 0 ∷ []) 0
+  c_in_f : IsLeafAt (class_by_number 1) (whole_hop 1 ∷ MemberHop 1 0 ∷ whole_hop 0 ∷ MemberHop 0 0 ∷ []) 1
 
 -- the objects in each class, with their classes and places
 data IsObjectAt : ClassId → ClassId → List Hop → ℕ → Type 0 where
-  whole_e : IsObjectAt (id 0) (id 0) (whole_hop 0 ∷ []) 0
-  whole_f : IsObjectAt (id 1) (id 1) (whole_hop 1 ∷ []) 0
-  e_in_f : IsObjectAt (id 1) (id 0) (whole_hop 1 ∷ MemberHop 1 0 ∷ whole_hop 0 ∷ []) 1
+  whole_e : IsObjectAt (class_by_number 0) (class_by_number 0) (whole_hop 0 ∷ []) 0
+  whole_f : IsObjectAt (class_by_number 1) (class_by_number 1) (whole_hop 1 ∷ []) 0
+  e_in_f : IsObjectAt (class_by_number 1) (class_by_number 0) (whole_hop 1 ∷ MemberHop 1 0 ∷ whole_hop 0 ∷ []) 1
 
 record HasLeaf (c : ClassId) (hops : List Hop) (type : ValueType ClassId) : Type 0 where
   place : ℕ
@@ -146,27 +143,27 @@ same_class c d s e f = let k : Some c ≡ Some d = sym (ap class_of e) ∙ f in 
 value_way : (d : ClassId) (m i : ℕ) (t : FieldType ClassId) (type : ValueType ClassId) → IsPart d m i t → t ≡ Value type → HasLeaf d (Inherit (whole_of d) ∷ MemberHop m i ∷ []) type
 value_way _ _ _ _ type c_of_e e = record { place = 0; is = c_in_e; type_is = let k : Value (Number Char) ≡ Value type = e in cc }
 value_way _ _ _ _ type a_of_f e = record { place = 0; is = a_in_f; type_is = let k : Value (Number Char) ≡ Value type = e in cc }
-value_way _ _ _ _ type e_of_f e = let k : Object (id 0) ≡ Value type = e in cc
+value_way _ _ _ _ type e_of_f e = let k : Object (class_by_number 0) ≡ Value type = e in cc
 
-leaf_inside_e : (e : ClassId) (hops : List Hop) (n : ℕ) (type : ValueType ClassId) → IsLeafAt e hops n → e.0 ≡ 0 → type ≡ Number Char → HasLeaf (id 1) (whole_hop 1 ∷ MemberHop 1 0 ∷ hops) type
+leaf_inside_e : (e : ClassId) (hops : List Hop) (n : ℕ) (type : ValueType ClassId) → IsLeafAt e hops n → e.0 ≡ 0 → type ≡ Number Char → HasLeaf (class_by_number 1) (whole_hop 1 ∷ MemberHop 1 0 ∷ hops) type
 leaf_inside_e _ _ _ type c_in_e z is = record { place = 1; is = c_in_f; type_is = is }
 leaf_inside_e _ _ _ type _ z is = absurd (omega (arith, z))
 
 inner_leaf : (d e : ClassId) (m i : ℕ) (t : FieldType ClassId) (hops : List Hop) (type : ValueType ClassId) → IsPart d m i t → t ≡ Object e → HasLeaf e hops type → HasLeaf d (Inherit (whole_of d) ∷ MemberHop m i ∷ hops) type
 inner_leaf _ e _ _ _ hops type c_of_e f x = let k : Value (Number Char) ≡ Object e = f in cc
 inner_leaf _ e _ _ _ hops type a_of_f f x = let k : Value (Number Char) ≡ Object e = f in cc
-inner_leaf _ e _ _ _ hops type e_of_f f x = let k : id 0 ≡ e = (let g : Object (id 0) ≡ Object e = f in cc) in leaf_inside_e e hops x.place type x.is (sym (ap (λ (y : ClassId). y.0) k)) x.type_is
+inner_leaf _ e _ _ _ hops type e_of_f f x = let k : class_by_number 0 ≡ e = (let g : Object (class_by_number 0) ≡ Object e = f in cc) in leaf_inside_e e hops x.place type x.is (sym (ap (λ (y : ClassId). y.0) k)) x.type_is
 
-object_inside_e : (e d : ClassId) (hops : List Hop) (n : ℕ) → IsObjectAt e d hops n → e.0 ≡ 0 → HasObject (id 1) d (whole_hop 1 ∷ MemberHop 1 0 ∷ hops)
+object_inside_e : (e d : ClassId) (hops : List Hop) (n : ℕ) → IsObjectAt e d hops n → e.0 ≡ 0 → HasObject (class_by_number 1) d (whole_hop 1 ∷ MemberHop 1 0 ∷ hops)
 object_inside_e _ _ _ _ whole_e z = record { place = 1; is = e_in_f }
 object_inside_e _ _ _ _ _ z = absurd (omega (arith, z))
 
 inner_object : (c e d : ClassId) (m i : ℕ) (t : FieldType ClassId) (hops : List Hop) → IsPart c m i t → t ≡ Object e → HasObject e d hops → HasObject c d (Inherit (whole_of c) ∷ MemberHop m i ∷ hops)
 inner_object _ e d _ _ _ hops c_of_e f x = let k : Value (Number Char) ≡ Object e = f in cc
 inner_object _ e d _ _ _ hops a_of_f f x = let k : Value (Number Char) ≡ Object e = f in cc
-inner_object _ e d _ _ _ hops e_of_f f x = let k : id 0 ≡ e = (let g : Object (id 0) ≡ Object e = f in cc) in object_inside_e e d hops x.place x.is (sym (ap (λ (y : ClassId). y.0) k))
+inner_object _ e d _ _ _ hops e_of_f f x = let k : class_by_number 0 ≡ e = (let g : Object (class_by_number 0) ≡ Object e = f in cc) in object_inside_e e d hops x.place x.is (sym (ap (λ (y : ClassId). y.0) k))
 
-whole_object : (n : ℕ) → n < 2 → HasObject (id n) (id n) (whole_hop n ∷ [])
+whole_object : (n : ℕ) → n < 2 → HasObject (class_by_number n) (class_by_number n) (whole_hop n ∷ [])
 whole_object zero lt = record { place = 0; is = whole_e }
 whole_object (suc zero) lt = record { place = 0; is = whole_f }
 whole_object (suc (suc n)) lt = absurd (omega arith)
@@ -201,7 +198,7 @@ objects _ d _ _ lt (to_inner c e k s m i hops t valid class element rest) f =
     inner_class : (c k : ClassId) (m i : ℕ) (t : FieldType ClassId) → IsPart c m i t → t ≡ Object k → k.0 < 2
     inner_class _ k _ _ _ c_of_e g = let j : Value (Number Char) ≡ Object k = g in cc
     inner_class _ k _ _ _ a_of_f g = let j : Value (Number Char) ≡ Object k = g in cc
-    inner_class _ k _ _ _ e_of_f g = let j : id 0 ≡ k = (let x : Object (id 0) ≡ Object k = g in cc) in let z : 0 ≡ k.0 = ap (λ (y : ClassId). y.0) j in omega (arith, z)
+    inner_class _ k _ _ _ e_of_f g = let j : class_by_number 0 ≡ k = (let x : Object (class_by_number 0) ≡ Object k = g in cc) in let z : 0 ≡ k.0 = ap (λ (y : ClassId). y.0) j in omega (arith, z)
 
 -- a byte from a place on
 abbrev byte_at : ℕ → Span
@@ -226,19 +223,19 @@ leaves_differ _ _ _ _ _ _ c_in_f a_in_f same differ = inr (omega arith)
 leaves_differ _ _ _ _ _ _ _ _ same differ = absurd (omega (arith, same))
 
 -- a `char` that is the member m of class d is aligned
-char_aligned : (n m place : ℕ) (e : ClassId) (k : ℕ) → width_of_member e_f (id n) m ≡ None → l.first (id n) m ≡ 0 → (id n ≡ e) × (m ≡ k) → IsAligned (width_of_member e_f e k) (Number Char) place (l.first e k)
+char_aligned : (n m place : ℕ) (e : ClassId) (k : ℕ) → width_of_member e_f (class_by_number n) m ≡ None → l.first (class_by_number n) m ≡ 0 → (class_by_number n ≡ e) × (m ≡ k) → IsAligned (width_of_member e_f e k) (Number Char) place (l.first e k)
 char_aligned n m place e k none first same =
     subst (λ (x : ClassId). IsAligned (width_of_member e_f x k) (Number Char) place (l.first x k)) same.0
-    (subst (λ j. IsAligned (width_of_member e_f (id n) j) (Number Char) place (l.first (id n) j)) same.1
-    (subst (λ (w : Option ℕ). IsAligned w (Number Char) place (l.first (id n) m)) (sym none) (record { times = place; is = omega arith }, first)))
+    (subst (λ j. IsAligned (width_of_member e_f (class_by_number n) j) (Number Char) place (l.first (class_by_number n) j)) same.1
+    (subst (λ (w : Option ℕ). IsAligned w (Number Char) place (l.first (class_by_number n) m)) (sym none) (record { times = place; is = omega arith }, first)))
 
 leaf_aligned : (c : ClassId) (hops : List Hop) (n : ℕ) (e : ClassId) (k : ℕ) → IsLeafAt c hops n → last_member e_f (Some c) hops ≡ Some (e, k) → IsAligned (width_of_member e_f e k) (Number Char) (place_along_hops e_f l c hops) (l.first e k)
 leaf_aligned c hops n e k leaf last = by_leaf c hops n leaf last
   where
     by_leaf : (c : ClassId) (hops : List Hop) (n : ℕ) → IsLeafAt c hops n → last_member e_f (Some c) hops ≡ Some (e, k) → IsAligned (width_of_member e_f e k) (Number Char) (place_along_hops e_f l c hops) (l.first e k)
-    by_leaf c hops _ c_in_e last = char_aligned 0 0 (place_along_hops e_f l c hops) e k refl refl (one_member (last_member e_f (Some c) hops) (id 0) e 0 k refl last)
-    by_leaf c hops _ a_in_f last = char_aligned 1 0 (place_along_hops e_f l c hops) e k refl refl (one_member (last_member e_f (Some c) hops) (id 1) e 0 k refl last)
-    by_leaf c hops _ c_in_f last = char_aligned 0 0 (place_along_hops e_f l c hops) e k refl refl (one_member (last_member e_f (Some c) hops) (id 0) e 0 k refl last)
+    by_leaf c hops _ c_in_e last = char_aligned 0 0 (place_along_hops e_f l c hops) e k refl refl (one_member (last_member e_f (Some c) hops) (class_by_number 0) e 0 k refl last)
+    by_leaf c hops _ a_in_f last = char_aligned 1 0 (place_along_hops e_f l c hops) e k refl refl (one_member (last_member e_f (Some c) hops) (class_by_number 1) e 0 k refl last)
+    by_leaf c hops _ c_in_f last = char_aligned 0 0 (place_along_hops e_f l c hops) e k refl refl (one_member (last_member e_f (Some c) hops) (class_by_number 0) e 0 k refl last)
 
 object_place : (c d : ClassId) (hops : List Hop) (n : ℕ) → IsObjectAt c d hops n → place_along_hops e_f l c hops ≡ n
 object_place _ _ _ _ whole_e = refl
@@ -283,21 +280,21 @@ no_base c d front s n is = let k : Some s ≡ Some (whole_of d) = sym (last_behi
 spans_apart : (a b r s : Span) → a ≡ r → b ≡ s → AreDisjoint r s → AreDisjoint a b
 spans_apart a b r s e f apart = subst (λ (k : Span). AreDisjoint k b) (sym e) (subst (AreDisjoint r) (sym f) apart)
 
-each_class : (P : ClassId → Type 0) → P (id 0) → P (id 1) → (c : ClassId) → c.0 < 2 → P c
+each_class : (P : ClassId → Type 0) → P (class_by_number 0) → P (class_by_number 1) → (c : ClassId) → c.0 < 2 → P c
 each_class P a b c lt = by_number c.0 lt
   where
-    by_number : (n : ℕ) → n < 2 → P (id n)
+    by_number : (n : ℕ) → n < 2 → P (class_by_number n)
     by_number zero lt = a
     by_number (suc zero) lt = b
     by_number (suc (suc n)) lt = absurd (omega arith)
 
 row_full : (n : ℕ) (c : ClassId) (row : ClassLayout) → c.0 ≡ n → slice_get (e_at_one 1) n ≡ Some row → IsFullRow e_f c row
-row_full n c row e there = let first : id n ≡ c = ap id (sym e) in subst (λ (x : ClassId). IsFullRow e_f x row) first (by_number n there)
+row_full n c row e there = let first : class_by_number n ≡ c = ap class_by_number (sym e) in subst (λ (x : ClassId). IsFullRow e_f x row) first (by_number n there)
   where
-    of : (k : ℕ) (x : ClassLayout) → x ≡ row → IsFullRow e_f (id k) x → IsFullRow e_f (id k) row
-    of k x same is = subst (IsFullRow e_f (id k)) same is
+    of : (k : ℕ) (x : ClassLayout) → x ≡ row → IsFullRow e_f (class_by_number k) x → IsFullRow e_f (class_by_number k) row
+    of k x same is = subst (IsFullRow e_f (class_by_number k)) same is
 
-    by_number : (k : ℕ) → slice_get (e_at_one 1) k ≡ Some row → IsFullRow e_f (id k) row
+    by_number : (k : ℕ) → slice_get (e_at_one 1) k ≡ Some row → IsFullRow e_f (class_by_number k) row
     by_number zero f = of 0 (row_with 1 1 (0 ∷ []) (one_byte ∷ [])) (let same : row_with 1 1 (0 ∷ []) (one_byte ∷ []) ≡ row = cc in same) (record { each_base = refl; virtuals = refl; each_virtual = refl; each_holder = refl; each_member = refl; each_bits = refl })
     by_number (suc zero) f = of 1 (row_with 2 1 (0 ∷ 1 ∷ []) (one_byte ∷ one_byte ∷ [])) (let same : row_with 2 1 (0 ∷ 1 ∷ []) (one_byte ∷ one_byte ∷ []) ≡ row = cc in same) (record { each_base = refl; virtuals = refl; each_virtual = refl; each_holder = refl; each_member = refl; each_bits = refl })
     by_number (suc (suc k)) f = let g : None ≡ Some row = f in cc
@@ -342,9 +339,9 @@ member_at_one = record {
 -- aligned to 4, E may not lie there
 pub align_refused : IsSoundLayout e_f (e_at_one 4) → ⊥
 align_refused sound =
-    let inner : LeadsTo e_f (id 0) (whole_hop 0 ∷ []) (Object (id 0)) = to_subobject (id 0) (id 0) (whole_of (id 0)) (whole [] tt) refl in
-    let leads : LeadsTo e_f (id 1) (whole_hop 1 ∷ MemberHop 1 0 ∷ whole_hop 0 ∷ []) (Object (id 0)) =
-    to_inner (id 1) (id 1) (id 0) (whole_of (id 1)) 1 0 (whole_hop 0 ∷ []) (Object (id 0)) (whole [] tt) refl (record { member = member_of (Object (id 0)); there = refl; type_is = refl; within = omega arith }) inner in
-    let multiple : Divides 4 1 = (sound.each (id 1) (omega arith)).object_multiple (id 0) (whole_hop 1 ∷ MemberHop 1 0 ∷ []) leads in
+    let inner : LeadsTo e_f (class_by_number 0) (whole_hop 0 ∷ []) (Object (class_by_number 0)) = to_subobject (class_by_number 0) (class_by_number 0) (whole_of (class_by_number 0)) (whole [] tt) refl in
+    let leads : LeadsTo e_f (class_by_number 1) (whole_hop 1 ∷ MemberHop 1 0 ∷ whole_hop 0 ∷ []) (Object (class_by_number 0)) =
+    to_inner (class_by_number 1) (class_by_number 1) (class_by_number 0) (whole_of (class_by_number 1)) 1 0 (whole_hop 0 ∷ []) (Object (class_by_number 0)) (whole [] tt) refl (record { member = member_of (Object (class_by_number 0)); there = refl; type_is = refl; within = omega arith }) inner in
+    let multiple : Divides 4 1 = (sound.each (class_by_number 1) (omega arith)).object_multiple (class_by_number 0) (whole_hop 1 ∷ MemberHop 1 0 ∷ []) leads in
     let is = multiple.is in
     absurd (omega (arith, is))

@@ -14,7 +14,7 @@ use Rattle.cxx_hierarchy.specs.declared.records.ValueType.{ValueType}
 use Rattle.cxx_hierarchy.specs.declared.records.ValueType.TheVariants.{Number}
 use Rattle.cxx_hierarchy.specs.declared.records.FieldType.{FieldType}
 use Rattle.cxx_hierarchy.specs.declared.records.FieldType.TheVariants.{Value, Object}
-use Rattle.cxx_hierarchy.specs.Classes.{Class, Classes, bases_in, members_in, width_of_member}
+use Rattle.cxx_hierarchy.specs.Classes.{Class, Classes, bases_in, members_in, width_of_member, class_by_number}
 use Rattle.cxx_hierarchy.specs.Declarations.{elements_of, has_virtual_function}
 use Rattle.cxx_hierarchy.specs.VirtualBases.{IsDirectBase, HasVirtualBase, direct, further}
 use Rattle.cxx_subobject.specs.declared.locations.Hop.{Hop}
@@ -34,9 +34,6 @@ use Rattle.abi_sound.specs.Chains.{primary_part, itself, ShareChain, downwards}
 use Rattle.abi_sound.specs.Sound.{Divides, IsAligned, IsFullRow, IsSoundLayout}
 use Rattle.abi_sound.proofs.LeafSpans.{last_element, one_member}
 
-abbrev id : ℕ → ClassId
-id n = record { 0 = n }
-
 abbrev int : ValueType ClassId
 int = Number Int
 
@@ -47,7 +44,7 @@ abbrev a_function : Function ClassId
 a_function = record { name = []; params = []; ret = Void; is_virtual = true; is_pure = false; at = 0 }
 
 abbrev base_of : ℕ → Base ClassId
-base_of n = record { class = id n; is_virtual = false; is_public = true; at = 0 }
+base_of n = record { class = class_by_number n; is_virtual = false; is_public = true; at = 0 }
 
 abbrev class_with : List (Base ClassId) → List (Member ClassId) → List (Function ClassId) → Class
 class_with bases members functions = record { name = []; at = 0; bases = bases; members = members; functions = functions; order = []; has_constructor = false; destructor = Implicit }
@@ -67,18 +64,18 @@ packed = row_of 4 [] (0 ∷ []) (int_bits ∷ []) ∷ row_of 12 [] (8 ∷ []) (i
 
 -- D's bases are the only edges
 data IsEdge : ClassId → Bool → ClassId → Type 0 where
-  to_n : IsEdge (id 2) false (id 0)
-  to_v : IsEdge (id 2) false (id 1)
+  to_n : IsEdge (class_by_number 2) false (class_by_number 0)
+  to_v : IsEdge (class_by_number 2) false (class_by_number 1)
 
 edges : (c b : ClassId) (way : Bool) → IsDirectBase n_v_d c way b → IsEdge c way b
 edges c b way edge = by_number c.0 refl edge.listed
   where
-    is_edge : (x : Base ClassId) → IsEdge (id 2) false x.class → c.0 ≡ 2 → x ≡ edge.base → x.is_virtual ≡ false → IsEdge c way b
+    is_edge : (x : Base ClassId) → IsEdge (class_by_number 2) false x.class → c.0 ≡ 2 → x ≡ edge.base → x.is_virtual ≡ false → IsEdge c way b
     is_edge x e two same plain =
-        let first : id 2 ≡ c = ap id (sym two) in
+        let first : class_by_number 2 ≡ c = ap class_by_number (sym two) in
         let class : x.class ≡ b = ap (λ (y : Base ClassId). y.class) same ∙ edge.class in
         let kind : false ≡ way = sym plain ∙ (ap (λ (y : Base ClassId). y.is_virtual) same ∙ edge.way) in
-        subst (λ (y : ClassId). IsEdge y way b) first (subst (λ (y : ClassId). IsEdge (id 2) way y) class (subst (λ w. IsEdge (id 2) w x.class) kind e))
+        subst (λ (y : ClassId). IsEdge y way b) first (subst (λ (y : ClassId). IsEdge (class_by_number 2) way y) class (subst (λ w. IsEdge (class_by_number 2) w x.class) kind e))
 
     by_place : (k : ℕ) → c.0 ≡ 2 → slice_get (base_of 0 ∷ base_of 1 ∷ []) k ≡ Some edge.base → IsEdge c way b
     by_place zero two e = is_edge (base_of 0) to_n two (let same : base_of 0 ≡ edge.base = cc in same) refl
@@ -105,28 +102,28 @@ no_virtual _ _ (further c b v way edge rest) = no_virtual b v rest
 
 -- the class subobjects of each class, with their places
 data IsSpot : ClassId → Subobject → ClassId → ℕ → Type 0 where
-  whole_n : IsSpot (id 0) (whole_of (id 0)) (id 0) 0
-  whole_v : IsSpot (id 1) (whole_of (id 1)) (id 1) 0
-  whole_d : IsSpot (id 2) (whole_of (id 2)) (id 2) 0
-  n_in_d : IsSpot (id 2) (subobject Whole (id 2 ∷ id 0 ∷ [])) (id 0) 8
-  v_in_d : IsSpot (id 2) (subobject Whole (id 2 ∷ id 1 ∷ [])) (id 1) 12
+  whole_n : IsSpot (class_by_number 0) (whole_of (class_by_number 0)) (class_by_number 0) 0
+  whole_v : IsSpot (class_by_number 1) (whole_of (class_by_number 1)) (class_by_number 1) 0
+  whole_d : IsSpot (class_by_number 2) (whole_of (class_by_number 2)) (class_by_number 2) 0
+  n_in_d : IsSpot (class_by_number 2) (subobject Whole (class_by_number 2 ∷ class_by_number 0 ∷ [])) (class_by_number 0) 8
+  v_in_d : IsSpot (class_by_number 2) (subobject Whole (class_by_number 2 ∷ class_by_number 1 ∷ [])) (class_by_number 1) 12
 
 record HasSpot (c : ClassId) (s : Subobject) : Type 0 where
   class : ClassId
   place : ℕ
   is : IsSpot c s class place
 
-whole_spot : (n : ℕ) → n < 3 → HasSpot (id n) (whole_of (id n))
-whole_spot zero lt = record { class = id 0; place = 0; is = whole_n }
-whole_spot (suc zero) lt = record { class = id 1; place = 0; is = whole_v }
-whole_spot (suc (suc zero)) lt = record { class = id 2; place = 0; is = whole_d }
+whole_spot : (n : ℕ) → n < 3 → HasSpot (class_by_number n) (whole_of (class_by_number n))
+whole_spot zero lt = record { class = class_by_number 0; place = 0; is = whole_n }
+whole_spot (suc zero) lt = record { class = class_by_number 1; place = 0; is = whole_v }
+whole_spot (suc (suc zero)) lt = record { class = class_by_number 2; place = 0; is = whole_d }
 whole_spot (suc (suc (suc n))) lt = absurd (omega arith)
 
 base_spot : (c b : ClassId) (way : Bool) (path : List ClassId) → IsEdge c way b → Leads n_v_d b path → HasSpot c (subobject Whole (c ∷ b ∷ path))
-base_spot _ _ _ [] to_n l = record { class = id 0; place = 8; is = n_in_d }
-base_spot _ _ _ [] to_v l = record { class = id 1; place = 12; is = v_in_d }
-base_spot _ _ _ (e ∷ path) to_n l = let two = from_d (id 0) e false (edges (id 0) e false l.0) in absurd (omega (arith, two))
-base_spot _ _ _ (e ∷ path) to_v l = let two = from_d (id 1) e false (edges (id 1) e false l.0) in absurd (omega (arith, two))
+base_spot _ _ _ [] to_n l = record { class = class_by_number 0; place = 8; is = n_in_d }
+base_spot _ _ _ [] to_v l = record { class = class_by_number 1; place = 12; is = v_in_d }
+base_spot _ _ _ (e ∷ path) to_n l = let two = from_d (class_by_number 0) e false (edges (class_by_number 0) e false l.0) in absurd (omega (arith, two))
+base_spot _ _ _ (e ∷ path) to_v l = let two = from_d (class_by_number 1) e false (edges (class_by_number 1) e false l.0) in absurd (omega (arith, two))
 
 spot : (c : ClassId) (s : Subobject) → c.0 < 3 → IsSubobject n_v_d c s → HasSpot c s
 spot c _ lt (whole [] l) = whole_spot c.0 lt
@@ -329,10 +326,10 @@ no_primary _ _ _ _ whole_d = refl
 no_primary _ _ _ _ n_in_d = refl
 no_primary _ _ _ _ v_in_d = refl
 
-each_class : (P : ClassId → Type 0) → P (id 0) → P (id 1) → P (id 2) → (c : ClassId) → c.0 < 3 → P c
+each_class : (P : ClassId → Type 0) → P (class_by_number 0) → P (class_by_number 1) → P (class_by_number 2) → (c : ClassId) → c.0 < 3 → P c
 each_class P a b d c lt = by_number c.0 lt
   where
-    by_number : (n : ℕ) → n < 3 → P (id n)
+    by_number : (n : ℕ) → n < 3 → P (class_by_number n)
     by_number zero lt = a
     by_number (suc zero) lt = b
     by_number (suc (suc zero)) lt = d
@@ -374,7 +371,7 @@ spans_apart a b r s e f apart = subst (λ (k : Span). AreDisjoint k b) (sym e) (
 no_width : (d : ClassId) → d.0 < 2 → width_of_member n_v_d d 0 ≡ None
 no_width d lt = by_number d.0 lt
   where
-    by_number : (n : ℕ) → n < 2 → width_of_member n_v_d (id n) 0 ≡ None
+    by_number : (n : ℕ) → n < 2 → width_of_member n_v_d (class_by_number n) 0 ≡ None
     by_number zero lt = refl
     by_number (suc zero) lt = refl
     by_number (suc (suc n)) lt = absurd (omega arith)
@@ -382,7 +379,7 @@ no_width d lt = by_number d.0 lt
 no_first : (d : ClassId) → d.0 < 2 → (places_of n_v_d packed).first d 0 ≡ 0
 no_first d lt = by_number d.0 lt
   where
-    by_number : (n : ℕ) → n < 2 → (places_of n_v_d packed).first (id n) 0 ≡ 0
+    by_number : (n : ℕ) → n < 2 → (places_of n_v_d packed).first (class_by_number n) 0 ≡ 0
     by_number zero lt = refl
     by_number (suc zero) lt = refl
     by_number (suc (suc n)) lt = absurd (omega arith)
@@ -401,12 +398,12 @@ leaf_aligned c hops type d m x last =
     )))
 
 row_full : (n : ℕ) (c : ClassId) (row : ClassLayout) → c.0 ≡ n → slice_get packed n ≡ Some row → IsFullRow n_v_d c row
-row_full n c row e there = let first : id n ≡ c = ap id (sym e) in subst (λ (x : ClassId). IsFullRow n_v_d x row) first (by_number n there)
+row_full n c row e there = let first : class_by_number n ≡ c = ap class_by_number (sym e) in subst (λ (x : ClassId). IsFullRow n_v_d x row) first (by_number n there)
   where
-    of : (k : ℕ) (x : ClassLayout) → x ≡ row → IsFullRow n_v_d (id k) x → IsFullRow n_v_d (id k) row
-    of k x same is = subst (IsFullRow n_v_d (id k)) same is
+    of : (k : ℕ) (x : ClassLayout) → x ≡ row → IsFullRow n_v_d (class_by_number k) x → IsFullRow n_v_d (class_by_number k) row
+    of k x same is = subst (IsFullRow n_v_d (class_by_number k)) same is
 
-    by_number : (k : ℕ) → slice_get packed k ≡ Some row → IsFullRow n_v_d (id k) row
+    by_number : (k : ℕ) → slice_get packed k ≡ Some row → IsFullRow n_v_d (class_by_number k) row
     by_number zero f = of 0 (row_of 4 [] (0 ∷ []) (int_bits ∷ [])) (let same : row_of 4 [] (0 ∷ []) (int_bits ∷ []) ≡ row = cc in same) (record { each_base = refl; virtuals = refl; each_virtual = refl; each_holder = refl; each_member = refl; each_bits = refl })
     by_number (suc zero) f = of 1 (row_of 12 [] (8 ∷ []) (int_bits ∷ [])) (let same : row_of 12 [] (8 ∷ []) (int_bits ∷ []) ≡ row = cc in same) (record { each_base = refl; virtuals = refl; each_virtual = refl; each_holder = refl; each_member = refl; each_bits = refl })
     by_number (suc (suc zero)) f = of 2 (row_of 24 (8 ∷ 12 ∷ []) [] []) (let same : row_of 24 (8 ∷ 12 ∷ []) [] [] ≡ row = cc in same) (record { each_base = refl; virtuals = refl; each_virtual = refl; each_holder = refl; each_member = refl; each_bits = refl })

@@ -18,6 +18,10 @@ abbrev pub Classes : Type 0
 Classes = List Class
 
 -- the class of a number
+abbrev pub class_by_number : ℕ → ClassId
+class_by_number n = record { 0 = n }
+
+-- what the class of a number declares
 abbrev pub class_at : Classes → ClassId → Option Class
 class_at h c = slice_get h c.0
 

@@ -10,7 +10,7 @@ use Rattle.cxx_hierarchy.specs.declared.stop.Stop.{Stop}
 use Rattle.cxx_hierarchy.specs.declared.stop.Stop.TheVariants.{Refused, Limit}
 use Rattle.cxx_hierarchy.specs.declared.stop.Rule.TheVariants.{ReturnMismatch, IncompleteClass, AmbiguousCovariant, TwoFinalOverriders, Abstract}
 use Rattle.cxx_hierarchy.specs.declared.stop.LimitNo.TheVariants.{L5}
-use Rattle.cxx_hierarchy.specs.Classes.{Class, Classes, class_at, members_of, functions_of}
+use Rattle.cxx_hierarchy.specs.Classes.{Class, Classes, class_at, members_of, functions_of, class_by_number}
 use Rattle.cxx_hierarchy.specs.Hierarchies.{IsHierarchy}
 use Rattle.cxx_subobject.specs.Parts.{IsWithinLimits}
 use Rattle.cxx_overrider.specs.declared.FunctionId.{FunctionId}
@@ -232,10 +232,6 @@ class_answer h keeps c = ⊎_elim
     (λ none. inr (record { none = λ p i t stop fault. none p i t (fault_at h (spot c p i t) stop fault) }))
     (first_at (FaultAt h c) (decide_fault_at h keeps c) 4 (item_bound h c) 3 (within_bounds h c))
 
--- of the hierarchy
-abbrev class_of_number : ℕ → ClassId
-class_of_number n = record { 0 = n }
-
 decide_first : (h : Classes) → IsHierarchy h → (c : ClassId) → Decided (HasFirst h c)
 decide_first h keeps c = ⊎_elim (λ k. inl k) (λ none. inr (λ k. none.none k.1.part k.1.item k.1.test k.0 k.1.fault)) (class_answer h keeps c)
 
@@ -247,7 +243,7 @@ none_in h keeps c not b stop fault e = ⊎_elim not
 pub some_answer : (h : Classes) → IsHierarchy h → ((c : ClassId) × (stop : Stop) × IsFirstFault h c stop) ⊎ HasNoFault h
 some_answer h keeps = ⊎_elim
     (λ k.
-    let c = class_of_number k.number in
+    let c = class_by_number k.number in
     let f = k.is.1 in
     inl (
       c,
@@ -266,4 +262,4 @@ some_answer h keeps = ⊎_elim
       },
     ))
     (λ none. inr (record { none = λ b stop fault. none_in h keeps b.class (none b.class.0 (fault_known h b stop fault)) b stop fault refl }))
-    (first_below (λ n. HasFirst h (class_of_number n)) (length h) (λ n lt. decide_first h keeps (class_of_number n)))
+    (first_below (λ n. HasFirst h (class_by_number n)) (length h) (λ n lt. decide_first h keeps (class_by_number n)))

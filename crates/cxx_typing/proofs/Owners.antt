@@ -5,7 +5,7 @@ use Rattle.std.proofs.lemmas.List.{map-append}
 use Rattle.foundation.proofs.Members.{Has, EachOnce, contains_from_has, has_left, has_right, has_cases, has_map, from_map, map_same, once_append}
 use Rattle.cxx_hierarchy.specs.declared.records.ClassId.{ClassId}
 use Rattle.cxx_hierarchy.specs.declared.records.Function.{Function}
-use Rattle.cxx_hierarchy.specs.Classes.{Class, Classes, class_at, class_names, functions_in}
+use Rattle.cxx_hierarchy.specs.Classes.{Class, Classes, class_at, class_names, functions_in, class_by_number}
 use Rattle.cxx_hierarchy.specs.ClassPass.{Record, names_of}
 use Rattle.cxx_hierarchy.specs.NameTables.{place_in}
 use Rattle.cxx_hierarchy.specs.Declarations.{is_implicit}
@@ -26,53 +26,50 @@ use Rattle.cxx_search.proofs.Once.{once_map}
 use Rattle.cxx_typing.proofs.Bodies.{typed_owner}
 use Rattle.cxx_typing.proofs.OwnParts.{IsOrdered, record_ordered, IsOwn, has_own, own_has, owners_once}
 
-abbrev class_id : ℕ → ClassId
-class_id n = record { 0 = n }
-
 -- a class of its name
 
 -- the class of a number, with its record
 record IsRecord (records : List Record) (n : ℕ) (r : Record) : Type 0 where
   at : slice_get records n ≡ Some r
-  class : class_at (resolved records) (class_id n) ≡ Some (resolved_class (class_of_name (names_of records)) r)
+  class : class_at (resolved records) (class_by_number n) ≡ Some (resolved_class (class_of_name (names_of records)) r)
   order : IsOrdered r
 
 record_of : (records : List Record) → IsHierarchy (resolved records) → (n : ℕ) (r : Record) → slice_get records n ≡ Some r → IsRecord records n r
 record_of records keeps n r at =
     let by = class_of_name (names_of records) in
     let class = get_map (resolved_class by) records n r at in
-    record { at = at; class = class; order = record_ordered by r (keeps.orders (class_id n) (resolved_class by r) class) }
+    record { at = at; class = class; order = record_ordered by r (keeps.orders (class_by_number n) (resolved_class by r) class) }
 
-named : (h : Classes) → IsHierarchy h → (n : ℕ) (class : Class) → class_at h (class_id n) ≡ Some class → (o : Option ℕ) → place_in (class_names h) class.name ≡ o → unwrap_or (class_numbered o) (class_id 0) ≡ class_id n
+named : (h : Classes) → IsHierarchy h → (n : ℕ) (class : Class) → class_at h (class_by_number n) ≡ Some class → (o : Option ℕ) → place_in (class_names h) class.name ≡ o → unwrap_or (class_numbered o) (class_by_number 0) ≡ class_by_number n
 named h keeps n class at None place =
     let there = is_in_at (class_names h) n class.name class.name (get_map (λ (x : Class). x.name) h n class at) refl in
     absurd (cc)
 named h keeps n class at (Some m) place =
     let r = mapped (λ (x : Class). x.name) h m class.name (place_listed (class_names h) class.name m place) in
-    ap class_id (keeps.names (class_id m) (class_id n) r.item class r.listed at (sym r.same))
+    ap class_by_number (keeps.names (class_by_number m) (class_by_number n) r.item class r.listed at (sym r.same))
 
-found_class : (h : Classes) → IsHierarchy h → (n : ℕ) (class : Class) → class_at h (class_id n) ≡ Some class → class_of_body h class.name ≡ class_id n
+found_class : (h : Classes) → IsHierarchy h → (n : ℕ) (class : Class) → class_at h (class_by_number n) ≡ Some class → class_of_body h class.name ≡ class_by_number n
 unfolding find_class
 found_class h keeps n class at = named h keeps n class at (place_in (class_names h) class.name) refl
 
 -- the owners of the bodies of records from number n on
 abbrev typed_owners : ℕ → List Record → List Owner
 typed_owners n [] = []
-typed_owners n (r ∷ rs) = map (owner_of (class_id n)) (owners_of r) ++ typed_owners (n + 1) rs
+typed_owners n (r ∷ rs) = map (owner_of (class_by_number n)) (owners_of r) ++ typed_owners (n + 1) rs
 
 in_class : (r : Record) (bs : List Body) → All (IsIn r) bs → (b : Body) → Has bs b → IsIn r b
 in_class r bs all b has = let c = contains_from_has bs b has in subst (IsIn r) c.2 (all c.0 b c.1)
 
-owners_listed : (h : Classes) (rs : List Record) (bs : List Body) → AreBodiesOf rs bs → (n : ℕ) → ((i : ℕ) (r : Record) → slice_get rs i ≡ Some r → class_of_body h r.name ≡ class_id (n + i)) → map (typed_owner h) bs ≡ typed_owners n rs
+owners_listed : (h : Classes) (rs : List Record) (bs : List Body) → AreBodiesOf rs bs → (n : ℕ) → ((i : ℕ) (r : Record) → slice_get rs i ≡ Some r → class_of_body h r.name ≡ class_by_number (n + i)) → map (typed_owner h) bs ≡ typed_owners n rs
 owners_listed h _ _ no_class n each = refl
 owners_listed h _ _ (one_class {r = r} {rs = rs} bs more all same rest) n each =
-    let here : class_of_body h r.name ≡ class_id n = each 0 r refl ∙ ap class_id (let e : n + 0 ≡ n = omega arith in e) in
-    let one : map (typed_owner h) bs ≡ map (λ (b : Body). owner_of (class_id n) b.owner) bs = map_same (typed_owner h) (λ (b : Body). owner_of (class_id n) b.owner) bs
+    let here : class_of_body h r.name ≡ class_by_number n = each 0 r refl ∙ ap class_by_number (let e : n + 0 ≡ n = omega arith in e) in
+    let one : map (typed_owner h) bs ≡ map (λ (b : Body). owner_of (class_by_number n) b.owner) bs = map_same (typed_owner h) (λ (b : Body). owner_of (class_by_number n) b.owner) bs
     (λ b has. ap (λ (c : ClassId). owner_of c b.owner) (ap (class_of_body h) (in_class r bs all b has).class ∙ here)) in
-    let later = owners_listed h rs more rest (n + 1) (λ i x at. each (suc i) x at ∙ ap class_id (let e : n + suc i ≡ n + 1 + i = omega arith in e)) in
+    let later = owners_listed h rs more rest (n + 1) (λ i x at. each (suc i) x at ∙ ap class_by_number (let e : n + suc i ≡ n + 1 + i = omega arith in e)) in
     map-append (typed_owner h) bs more
-    ∙ ap (λ (os : List Owner). os ++ map (typed_owner h) more) (one ∙ sym (map-map (owner_of (class_id n)) owner_in bs) ∙ ap (map (owner_of (class_id n))) same)
-    ∙ ap (λ (os : List Owner). map (owner_of (class_id n)) (owners_of r) ++ os) later
+    ∙ ap (λ (os : List Owner). os ++ map (typed_owner h) more) (one ∙ sym (map-map (owner_of (class_by_number n)) owner_in bs) ∙ ap (map (owner_of (class_by_number n))) same)
+    ∙ ap (λ (os : List Owner). map (owner_of (class_by_number n)) (owners_of r) ++ os) later
 
 -- which owners they are
 
@@ -83,29 +80,29 @@ record IsTypedOwner (n : ℕ) (rs : List Record) (o : Owner) : Type 0 where
   at : slice_get rs place ≡ Some rec
   own : BodyOwner
   has : Has (owners_of rec) own
-  same : owner_of (class_id (n + place)) own ≡ o
+  same : owner_of (class_by_number (n + place)) own ≡ o
 
 typed_from : (n : ℕ) (rs : List Record) (o : Owner) → Has (typed_owners n rs) o → IsTypedOwner n rs o
 typed_from n [] o has = absurd has
 typed_from n (r ∷ rs) o has = ⊎_elim
     (λ a.
-    let x = from_map (owner_of (class_id n)) (owners_of r) o a in
-    record { place = 0; rec = r; at = refl; own = x.0; has = x.1; same = ap (λ (m : ℕ). owner_of (class_id m) x.0) (let e : n + 0 ≡ n = omega arith in e) ∙ x.2 })
+    let x = from_map (owner_of (class_by_number n)) (owners_of r) o a in
+    record { place = 0; rec = r; at = refl; own = x.0; has = x.1; same = ap (λ (m : ℕ). owner_of (class_by_number m) x.0) (let e : n + 0 ≡ n = omega arith in e) ∙ x.2 })
     (λ b.
     let x = typed_from (n + 1) rs o b in
-    record { place = suc x.place; rec = x.rec; at = x.at; own = x.own; has = x.has; same = ap (λ (m : ℕ). owner_of (class_id m) x.own) (let e : n + suc x.place ≡ n + 1 + x.place = omega arith in e) ∙ x.same })
-    (has_cases (map (owner_of (class_id n)) (owners_of r)) (typed_owners (n + 1) rs) o has)
+    record { place = suc x.place; rec = x.rec; at = x.at; own = x.own; has = x.has; same = ap (λ (m : ℕ). owner_of (class_by_number m) x.own) (let e : n + suc x.place ≡ n + 1 + x.place = omega arith in e) ∙ x.same })
+    (has_cases (map (owner_of (class_by_number n)) (owners_of r)) (typed_owners (n + 1) rs) o has)
 
-typed_has : (n : ℕ) (rs : List Record) (i : ℕ) (r : Record) → slice_get rs i ≡ Some r → (x : BodyOwner) → Has (owners_of r) x → Has (typed_owners n rs) (owner_of (class_id (n + i)) x)
+typed_has : (n : ℕ) (rs : List Record) (i : ℕ) (r : Record) → slice_get rs i ≡ Some r → (x : BodyOwner) → Has (owners_of r) x → Has (typed_owners n rs) (owner_of (class_by_number (n + i)) x)
 typed_has n [] i r at x has = absurd (cc)
 typed_has n (q ∷ rs) zero r at x has =
     let same : r ≡ q = let e : q ≡ r = cc in sym e in
-    has_left (map (owner_of (class_id n)) (owners_of q)) (typed_owners (n + 1) rs) (owner_of (class_id (n + 0)) x)
-    (subst (λ (m : ℕ). Has (map (owner_of (class_id n)) (owners_of q)) (owner_of (class_id m) x)) (let e : n ≡ n + 0 = omega arith in e)
-    (has_map (owner_of (class_id n)) (owners_of q) x (subst (λ (u : Record). Has (owners_of u) x) same has)))
+    has_left (map (owner_of (class_by_number n)) (owners_of q)) (typed_owners (n + 1) rs) (owner_of (class_by_number (n + 0)) x)
+    (subst (λ (m : ℕ). Has (map (owner_of (class_by_number n)) (owners_of q)) (owner_of (class_by_number m) x)) (let e : n ≡ n + 0 = omega arith in e)
+    (has_map (owner_of (class_by_number n)) (owners_of q) x (subst (λ (u : Record). Has (owners_of u) x) same has)))
 typed_has n (q ∷ rs) (suc i) r at x has =
-    has_right (map (owner_of (class_id n)) (owners_of q)) (typed_owners (n + 1) rs) (owner_of (class_id (n + suc i)) x)
-    (subst (λ (m : ℕ). Has (typed_owners (n + 1) rs) (owner_of (class_id m) x)) (let e : n + 1 + i ≡ n + suc i = omega arith in e) (typed_has (n + 1) rs i r at x has))
+    has_right (map (owner_of (class_by_number n)) (owners_of q)) (typed_owners (n + 1) rs) (owner_of (class_by_number (n + suc i)) x)
+    (subst (λ (m : ℕ). Has (typed_owners (n + 1) rs) (owner_of (class_by_number m) x)) (let e : n + 1 + i ≡ n + suc i = omega arith in e) (typed_has (n + 1) rs i r at x has))
 
 -- an owner says its class and its part
 number_of : Owner → ℕ
@@ -135,20 +132,20 @@ parted c own.Destructor = refl
 typed_once : (n : ℕ) (rs : List Record) → ((i : ℕ) (r : Record) → slice_get rs i ≡ Some r → IsOrdered r) → EachOnce (typed_owners n rs)
 typed_once n [] each = tt
 typed_once n (r ∷ rs) each =
-    once_append (map (owner_of (class_id n)) (owners_of r)) (typed_owners (n + 1) rs)
-    (once_map (owner_of (class_id n)) (owners_of r) (λ x y a b same. sym (parted (class_id n) x) ∙ ap part_of same ∙ parted (class_id n) y) (owners_once r (each 0 r refl)))
+    once_append (map (owner_of (class_by_number n)) (owners_of r)) (typed_owners (n + 1) rs)
+    (once_map (owner_of (class_by_number n)) (owners_of r) (λ x y a b same. sym (parted (class_by_number n) x) ∙ ap part_of same ∙ parted (class_by_number n) y) (owners_once r (each 0 r refl)))
     (typed_once (n + 1) rs (λ i x at. each (suc i) x at))
     (record {
       none = λ o a b.
-          let x = from_map (owner_of (class_id n)) (owners_of r) o a in
+          let x = from_map (owner_of (class_by_number n)) (owners_of r) o a in
           let y = typed_from (n + 1) rs o b in
-          let same : n ≡ n + 1 + y.place = sym (numbered (class_id n) x.0) ∙ ap number_of (x.2 ∙ sym y.same) ∙ numbered (class_id (n + 1 + y.place)) y.own in
+          let same : n ≡ n + 1 + y.place = sym (numbered (class_by_number n) x.0) ∙ ap number_of (x.2 ∙ sym y.same) ∙ numbered (class_by_number (n + 1 + y.place)) y.own in
           omega arith;
     })
 
 -- what the classes declare
 
-has_body : (records : List Record) (n : ℕ) (r : Record) → IsRecord records n r → (x : BodyOwner) → IsOwn r x → HasBody (resolved records) (owner_of (class_id n) x)
+has_body : (records : List Record) (n : ℕ) (r : Record) → IsRecord records n r → (x : BodyOwner) → IsOwn r x → HasBody (resolved records) (owner_of (class_by_number n) x)
 has_body records n r is (own.Function k) f =
     let by = class_of_name (names_of records) in
     (resolved_function by f.function, ap (λ (o : Option Class). slice_get (functions_in o) k) is.class ∙ get_map (resolved_function by) r.functions k f.function f.there, f.pure)
@@ -162,7 +159,7 @@ record IsOfRecord (records : List Record) (o : Owner) : Type 0 where
   at : slice_get records number ≡ Some rec
   own : BodyOwner
   is : IsOwn rec own
-  same : owner_of (class_id number) own ≡ o
+  same : owner_of (class_by_number number) own ≡ o
 
 function_of_record : (records : List Record) (f : FunctionId) (d : Function ClassId) → d.is_pure ≡ false → (o : Option Class) → class_at (resolved records) f.class ≡ o → slice_get (functions_in o) f.index ≡ Some d → IsOfRecord records (owner.Function f)
 function_of_record records f d pure None at is = absurd (cc)
@@ -202,20 +199,20 @@ records_own records keeps = record {
       let x = typed_from 0 records o has in
       let number : 0 + x.place ≡ x.place = omega arith in
       let r = record_of records keeps x.place x.rec x.at in
-      subst (HasBody (resolved records)) (ap (λ (m : ℕ). owner_of (class_id m) x.own) (sym number) ∙ x.same) (has_body records x.place x.rec r x.own (has_own x.rec r.order x.own x.has));
+      subst (HasBody (resolved records)) (ap (λ (m : ℕ). owner_of (class_by_number m) x.own) (sym number) ∙ x.same) (has_body records x.place x.rec r x.own (has_own x.rec r.order x.own x.has));
   once = typed_once 0 records (λ i r at. (record_of records keeps i r at).order);
   all = λ o apart has.
       let x = body_of_record records o apart has in
       let number : 0 + x.number ≡ x.number = omega arith in
       let r = record_of records keeps x.number x.rec x.at in
-      subst (Has (typed_owners 0 records)) (ap (λ (m : ℕ). owner_of (class_id m) x.own) number ∙ x.same) (typed_has 0 records x.number x.rec x.at x.own (own_has x.rec r.order x.own x.is));
+      subst (Has (typed_owners 0 records)) (ap (λ (m : ℕ). owner_of (class_by_number m) x.own) number ∙ x.same) (typed_has 0 records x.number x.rec x.at x.own (own_has x.rec r.order x.own x.is));
 }
 
 pub owners_of_bodies : (records : List Record) (bodies : List Body) → IsHierarchy (resolved records) → AreBodiesOf records bodies → AreOwners (resolved records) (map (typed_owner (resolved records)) bodies)
 owners_of_bodies records bodies keeps are =
     let h = resolved records in
     let listed = owners_listed h records bodies are 0
-    (λ i r at. let x = record_of records keeps i r at in found_class h keeps i (resolved_class (class_of_name (names_of records)) r) x.class ∙ ap class_id (let e : i ≡ 0 + i = omega arith in e)) in
+    (λ i r at. let x = record_of records keeps i r at in found_class h keeps i (resolved_class (class_of_name (names_of records)) r) x.class ∙ ap class_by_number (let e : i ≡ 0 + i = omega arith in e)) in
     subst (AreOwners h) (sym listed) (records_own records keeps)
 
 -- only constructors have initializers

@@ -8,13 +8,12 @@ use Rattle.foundation.specs.declared.memory.NoMemory.{NoMemory as Want}
 use Rattle.cxx_hierarchy.specs.declared.records.ClassId.{ClassId}
 use Rattle.cxx_hierarchy.specs.declared.stop.LimitNo.TheVariants.{L9}
 use Rattle.cxx_hierarchy.specs.declared.stop.Rule.TheVariants.{UnknownName}
-use Rattle.cxx_hierarchy.specs.Classes.{Classes, class_names}
+use Rattle.cxx_hierarchy.specs.Classes.{Classes, class_names, class_by_number}
 use Rattle.abi_sound.specs.declared.class_layout.ClassLayout.{ClassLayout}
 use Rattle.abi_slots.proofs.Loops.{rest_is}
 use Rattle.cxxabi_cmd.specs.declared.listing.Listing.{Listing}
 use Rattle.cxxabi_cmd.specs.declared.reply.Reply.{Reply}
 use Rattle.cxxabi_cmd.specs.declared.status.Status.TheVariants.{Limit, Refused}
-use Rattle.abi_foreign.specs.Lines.{class_by_number}
 use Rattle.cxxabi_cmd.specs.Output.{Answer, AreTexts, no_texts, more_texts, Lists, whole, too_much, line_alone, text_answer, first_classes}
 use Rattle.cxxabi_cmd.specs.invariants.Listings.{IsReady, IsAppended, AreListedTexts, IsTooMuch, ListsName, is_unknown, is_class}
 use Rattle.cxxabi_cmd.specs.invariants.Replies.{as_answer}

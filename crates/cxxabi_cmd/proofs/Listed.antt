@@ -4,7 +4,7 @@ use Rattle.std.specs.Prelude.{slice_get}
 use Rattle.std.specs.List.{AllByRecursion}
 use Rattle.std.proofs.ByRecursion.{All-push}
 use Rattle.cxx_hierarchy.specs.declared.records.ClassId.{ClassId}
-use Rattle.cxx_hierarchy.specs.Classes.{Classes, class_names}
+use Rattle.cxx_hierarchy.specs.Classes.{Classes, class_names, class_by_number}
 use Rattle.cxx_hierarchy.specs.Hierarchies.{IsHierarchy}
 use Rattle.cxx_overrider.specs.Faults.{HasNoFault as HasNoMeaning}
 use Rattle.abi_sound.specs.declared.class_layout.ClassLayout.{ClassLayout}
@@ -17,7 +17,6 @@ use Rattle.abi_print.specs.TableTexts.{tables_text}
 use Rattle.cxxabi_words.specs.declared.command.Command.{Command}
 use Rattle.cxxabi_cmd.specs.declared.listing.Listing.{Listing}
 use Rattle.cxxabi_cmd.specs.declared.listing.Listing.TheVariants.{OfLayout, OfTables}
-use Rattle.abi_foreign.specs.Lines.{class_by_number}
 use Rattle.cxxabi_cmd.specs.Output.{first_classes, AsksFor, all_layouts, one_layout, all_tables, one_tables, IsClassText, AreTexts, no_texts, more_texts}
 
 -- a class has tables, and one list of each

@@ -26,7 +26,6 @@ use Rattle.code_ops.specs.Setups.{setup}
 use Rattle.abi_refine.specs.Executions.{IsExecution}
 use Rattle.cxxabi_words.specs.declared.command.Command.{Command}
 use Rattle.cxxabi_words.specs.declared.command.Command.TheVariants.{Check, Run, Layout, LayoutOf, Tables, TablesOf, Paths, Gen, Array, MemberPointer, Inspect, Foreign}
-use Rattle.foundation.specs.Limits.{most_steps}
 use Rattle.cxxabi_cmd.specs.declared.reply.Reply.{Reply}
 use Rattle.cxxabi_cmd.specs.declared.status.Status.{Status}
 use Rattle.cxxabi_cmd.specs.declared.status.Status.TheVariants.{Refused}

@@ -3,11 +3,10 @@ use Rattle.std.proofs.Common.{◌≡◌, ℕ, zero, suc, ◌<◌, ◌≤◌, ◌
 use Rattle.std.proofs.lemmas.Bool.{cases_order}
 use Rattle.cxx_hierarchy.specs.declared.records.ClassId.{ClassId}
 use Rattle.cxx_hierarchy.specs.declared.stop.Stop.{Stop}
-use Rattle.cxx_hierarchy.specs.Classes.{Class, Classes, class_at}
+use Rattle.cxx_hierarchy.specs.Classes.{Class, Classes, class_at, class_by_number}
 use Rattle.cxx_overrider.specs.Faults.{Spot, spot, size_part, place_part, IsBefore, Fault as MeaningFault, IsFirstFaultIn, HasNoFaultIn}
 use Rattle.abi_layout.specs.Refusals.{IsLargeClass, HasSharedPlace}
 use Rattle.foundation.proofs.Places.{get_within}
-use Rattle.abi_foreign.specs.Lines.{class_by_number}
 use Rattle.cxxabi_cmd.specs.Verdict.{SourceFault, of_meaning, large, shared, StopsFirst, MeetsNoFault}
 use Rattle.cxxabi_cmd.proofs.ClassFaults.{NoMeaningTo, before_size, before_place, at_class, class_before, none_of_known}
 use Rattle.cxxabi_cmd.proofs.MeaningFaults.{part_below}

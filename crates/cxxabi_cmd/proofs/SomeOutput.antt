@@ -11,7 +11,7 @@ use Rattle.cxx_hierarchy.specs.declared.stop.Stop.{Stop}
 use Rattle.cxx_hierarchy.specs.declared.stop.Stop.TheVariants.{Limit as AtLimit}
 use Rattle.cxx_hierarchy.specs.declared.stop.Rule.TheVariants.{UnknownName}
 use Rattle.cxx_hierarchy.specs.declared.stop.LimitNo.TheVariants.{L1, L7, L9}
-use Rattle.cxx_hierarchy.specs.Classes.{Classes, class_names}
+use Rattle.cxx_hierarchy.specs.Classes.{Classes, class_names, class_by_number}
 use Rattle.cxx_hierarchy.specs.ClassPass.{faults_of, first_of}
 use Rattle.cxx_hierarchy.specs.Hierarchies.{IsHierarchy}
 use Rattle.cxx_hierarchy.specs.Resolved.{resolved}
@@ -46,7 +46,6 @@ use Rattle.abi_tables.specs.Counts.{words_of_all_classes, most_words}
 use Rattle.abi_inspect.specs.Faults.{AreNamesWords}
 use Rattle.cxx_syntax.specs.declared.tree.BodyTree.{BodyTree}
 use Rattle.cxxabi_cmd.specs.Verdict.{AreLexemes, SpellsSource, MeetsNoFault, Judgement, Verdict, Stops, Accepts, by_text, by_records, by_classes, by_bodies, by_words, accepted}
-use Rattle.abi_foreign.specs.Lines.{class_by_number}
 use Rattle.text_told.specs.Told.{text_limit}
 use Rattle.cxxabi_cmd.specs.Output.{Answer, AsksFor, all_layouts, one_layout, all_tables, one_tables, AsksForName, named_layout, named_tables, Lists, whole, too_much, Yields, counted, unknown_class, listed, arrayed, pointed, Output, usage, too_long, line_alone, count_answer, text_answer, status_of_stop, first_classes, no_main, inspected, no_layout}
 use Rattle.cxxabi_cmd.proofs.Accepting.{ProgramsAreTyped, source_keeps, accepted_keeps, accepted_fine, accepted_names, accepted_typed, accepted_main}

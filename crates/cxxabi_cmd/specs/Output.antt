@@ -1,5 +1,4 @@
 -- Which text and which status belong to words and the bytes of an input.
-use Rattle.abi_foreign.specs.Lines.{class_by_number}
 use Rattle.std.specs.Prelude.{◌≡◌, ℕ, zero, suc, ◌<◌, ◌≤◌, Bool, Contains, slice_get, List, [], ◌∷◌, ◌++◌, length, map, codes, Option, Some, None, IfSome, string_bytes, String}
 use Rattle.std.specs.Fmt.{decimal}
 use Rattle.foundation.specs.Limits.{source_limit}
@@ -8,7 +7,7 @@ use Rattle.cxx_hierarchy.specs.declared.stop.Rule.TheVariants.{UnknownName}
 use Rattle.cxx_hierarchy.specs.declared.stop.LimitNo.TheVariants.{L1, L9}
 use Rattle.cxx_hierarchy.specs.declared.stop.Stop.{Stop}
 use Rattle.cxx_hierarchy.specs.declared.stop.Stop.TheVariants as stop
-use Rattle.cxx_hierarchy.specs.Classes.{Classes, class_names}
+use Rattle.cxx_hierarchy.specs.Classes.{Classes, class_names, class_by_number}
 use Rattle.cxx_syntax.specs.declared.tree.BodyTree.{BodyTree}
 use Rattle.cxx_syntax.specs.declared.source_text.SourceText.{SourceText}
 use Rattle.cxx_program.specs.declared.program.TypedProgram.{TypedProgram}

@@ -7,20 +7,16 @@ use Rattle.cxx_hierarchy.specs.declared.records.FieldType.TheVariants.{Value, Ob
 use Rattle.cxx_hierarchy.specs.declared.records.ValueType.TheVariants.{Number}
 use Rattle.cxx_hierarchy.specs.declared.records.Scalar.TheVariants.{Int}
 use Rattle.cxx_hierarchy.specs.declared.records.Destructor.TheVariants.{Implicit}
-use Rattle.cxx_hierarchy.specs.Classes.{Class, Classes}
+use Rattle.cxx_hierarchy.specs.Classes.{Class, Classes, class_by_number}
 use Rattle.cxx_subobject.specs.declared.Root.TheVariants.{Whole}
 use Rattle.cxx_subobject.specs.Subobjects.{subobject, whole_of, shared_base}
 use Rattle.path_plan.specs.Places.{ObjectPart, part, element}
 use Rattle.path_plan.specs.Phases.{PartEvent, Begin, Ready, Init, Body, Done, Ending, Bases, End}
 use Rattle.path_plan.specs.Plans.{Bodies}
 
--- the class of this number
-abbrev pub nth_class : ℕ → ClassId
-nth_class n = record { 0 = n }
-
 -- a public direct base
 abbrev pub public_base : (is_virtual : Bool) → ℕ → Base ClassId
-public_base is_virtual n = record { class = nth_class n; is_virtual = is_virtual; is_public = true; at = 0 }
+public_base is_virtual n = record { class = class_by_number n; is_virtual = is_virtual; is_public = true; at = 0 }
 
 -- a class of bases and members alone
 abbrev pub class_with : List (Base ClassId) → List (Member ClassId) → Class
@@ -32,7 +28,7 @@ number_member = record { name = []; ty = Value (Number Int); count = None; width
 
 -- a member that is an array of count elements of a class
 abbrev pub array_member : (class count : ℕ) → Member ClassId
-array_member class count = record { name = []; ty = Object (nth_class class); count = Some count; width = None; width_at = 0; is_public = true; at = 0 }
+array_member class count = record { name = []; ty = Object (class_by_number class); count = Some count; width = None; width_at = 0; is_public = true; at = 0 }
 
 -- the number of the class whose object is made below
 abbrev pub is_three : ℕ → Bool
@@ -45,7 +41,7 @@ declared_in_three = record { constructor = λ c. is_three c.0; destructor = λ c
 
 -- the heap object 7, of class 3
 abbrev pub whole : ObjectPart
-whole = part 7 [] (whole_of (nth_class 3))
+whole = part 7 [] (whole_of (class_by_number 3))
 
 -- struct V {}; struct A : virtual V {}; struct B : virtual V {}; struct D : A, B { D() {} ~D() {} };
 abbrev pub diamond : Classes
@@ -53,15 +49,15 @@ diamond = class_with [] [] ∷ class_with (public_base true 0 ∷ []) [] ∷ cla
 
 -- the V of the diamond, which its A and its B share
 abbrev pub diamond_v : ObjectPart
-diamond_v = part 7 [] (shared_base (nth_class 0))
+diamond_v = part 7 [] (shared_base (class_by_number 0))
 
 -- its A
 abbrev pub diamond_a : ObjectPart
-diamond_a = part 7 [] (subobject Whole (nth_class 3 ∷ nth_class 1 ∷ []))
+diamond_a = part 7 [] (subobject Whole (class_by_number 3 ∷ class_by_number 1 ∷ []))
 
 -- its B
 abbrev pub diamond_b : ObjectPart
-diamond_b = part 7 [] (subobject Whole (nth_class 3 ∷ nth_class 2 ∷ []))
+diamond_b = part 7 [] (subobject Whole (class_by_number 3 ∷ class_by_number 2 ∷ []))
 
 -- V once and first, then A, then B, then the body of D
 abbrev pub diamond_built : List PartEvent
@@ -79,15 +75,15 @@ holder = class_with [] [] ∷ class_with (public_base true 0 ∷ []) [] ∷ clas
 
 -- the element i of m
 abbrev pub holder_m : ℕ → ObjectPart
-holder_m i = element whole 1 i (nth_class 2)
+holder_m i = element whole 1 i (class_by_number 2)
 
 -- its V, which is no other element's
 abbrev pub holder_v : ℕ → ObjectPart
-holder_v i = part 7 (record { base = whole_of (nth_class 3); member = 1; index = i } ∷ []) (shared_base (nth_class 0))
+holder_v i = part 7 (record { base = whole_of (class_by_number 3); member = 1; index = i } ∷ []) (shared_base (class_by_number 0))
 
 -- its A
 abbrev pub holder_a : ℕ → ObjectPart
-holder_a i = part 7 (record { base = whole_of (nth_class 3); member = 1; index = i } ∷ []) (subobject Whole (nth_class 2 ∷ nth_class 1 ∷ []))
+holder_a i = part 7 (record { base = whole_of (class_by_number 3); member = 1; index = i } ∷ []) (subobject Whole (class_by_number 2 ∷ class_by_number 1 ∷ []))
 
 -- in an element V comes before A, and what follows comes behind it
 abbrev pub element_built : ℕ → List PartEvent → List PartEvent

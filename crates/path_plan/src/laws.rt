@@ -2,7 +2,7 @@
 
 ghost use Rattle.std.specs.Prelude.{◌≡◌, ◌⊎◌, ℕ, true, Some, List, ◌∷◌, ◌++◌};
 ghost use Rattle.cxx_hierarchy.specs.declared.records.ClassId.{ClassId};
-ghost use Rattle.cxx_hierarchy.specs.Classes.{Classes};
+ghost use Rattle.cxx_hierarchy.specs.Classes.{Classes, class_by_number};
 ghost use Rattle.cxx_hierarchy.specs.Hierarchies.{IsHierarchy};
 ghost use Rattle.cxx_subobject.specs.declared.Subobject.{Subobject};
 ghost use Rattle.cxx_subobject.specs.Subobjects.{IsSubobject, class_of, join, whole_of};
@@ -15,7 +15,7 @@ ghost use Rattle.path_plan.specs.Views.{Settled, view};
 ghost use Rattle.path_plan.specs.Whole.{IsNew, StandsWhole, IsBuilt, IsUnbuilt, construction, destruction, whole_part};
 ghost use Rattle.path_plan.specs.Runs.{Run, Reached, SettledAt, FitsAt};
 ghost use Rattle.path_plan.specs.Pieces.{Piece, Pending, pending, own_next, AreWaiting, IsStackOf, built_pieces, ended_pieces, opened_pieces, rest_of_plan, StackGoesOn};
-ghost use Rattle.path_plan.specs.Worked.{declared_in_three, diamond, diamond_built, diamond_ended, holder, holder_built, holder_ended, nth_class};
+ghost use Rattle.path_plan.specs.Worked.{declared_in_three, diamond, diamond_built, diamond_ended, holder, holder_built, holder_ended};
 
 /// The plans of a heap object are coherent and settled, and do what they are for: a construction completes all parts of
 /// a new object, a destruction ends all parts of one that stands, and neither changes a part of another object.
@@ -81,8 +81,8 @@ pub fn destructions_by_frames()
 /// Two worked objects: a diamond, and an array of a class with a virtual base. Virtual bases come first and once in each
 /// complete object, then direct bases, members, elements in the order of their index, the body; and backwards.
 pub fn worked_plans()
-    ensures diamond_construction { construction diamond declared_in_three 7 (nth_class 3) ≡ diamond_built }
-    ensures diamond_destruction { destruction diamond declared_in_three 7 (nth_class 3) ≡ diamond_ended }
-    ensures array_construction { construction holder declared_in_three 7 (nth_class 3) ≡ holder_built }
-    ensures array_destruction { destruction holder declared_in_three 7 (nth_class 3) ≡ holder_ended }
+    ensures diamond_construction { construction diamond declared_in_three 7 (class_by_number 3) ≡ diamond_built }
+    ensures diamond_destruction { destruction diamond declared_in_three 7 (class_by_number 3) ≡ diamond_ended }
+    ensures array_construction { construction holder declared_in_three 7 (class_by_number 3) ≡ holder_built }
+    ensures array_destruction { destruction holder declared_in_three 7 (class_by_number 3) ≡ holder_ended }
 {}

@@ -7,7 +7,7 @@ use Rattle.std.proofs.lemmas.Bool.{cases_lt}
 use Rattle.foundation.proofs.Truth.{not_both}
 use Rattle.cxx_hierarchy.specs.declared.records.ClassId.{ClassId}
 use Rattle.cxx_hierarchy.specs.declared.records.Base.{Base}
-use Rattle.cxx_hierarchy.specs.Classes.{Class, Classes, bases_in}
+use Rattle.cxx_hierarchy.specs.Classes.{Class, Classes, bases_in, class_by_number}
 use Rattle.cxx_hierarchy.specs.VirtualBases.{IsDirectBase, HasVirtualBase, direct, further}
 use Rattle.cxx_hierarchy.specs.Hierarchies.{IsHierarchy}
 use Rattle.cxx_subobject.specs.declared.Subobject.{Subobject}
@@ -27,15 +27,15 @@ use Rattle.path_tables.specs.declared.kept.CastKey.{CastKey}
 use Rattle.path_tables.specs.declared.kept.FinalKey.{FinalKey}
 use Rattle.path_tables.specs.declared.parts.PartList.{PartList}
 use Rattle.path_tables.specs.Parts.{IsNumbered, IsPartList, IsFirstTaken, number_where_found, numbered_overrider}
-use Rattle.path_tables.specs.Kept.{id, keyed_function, IsCastAnswer, IsFinalAnswer}
+use Rattle.path_tables.specs.Kept.{keyed_function, IsCastAnswer, IsFinalAnswer}
 use Rattle.path_tables.specs.invariants.Targets.{IsCastTo}
 use Rattle.path_tables.proofs.Numbered.{one_numbered}
 
-pub final_for_all : (h : Classes) → IsHierarchy h → (key : FinalKey) (x y : Subobject) → IsNumbered h (id key.class) key.view x → IsNumbered h (id key.class) key.source y → (answer : Option FinalAt) → answer ≡ numbered_overrider h (id key.class) (final_in h x y (keyed_function key)) → IsFinalAnswer h key answer
+pub final_for_all : (h : Classes) → IsHierarchy h → (key : FinalKey) (x y : Subobject) → IsNumbered h (class_by_number key.class) key.view x → IsNumbered h (class_by_number key.class) key.source y → (answer : Option FinalAt) → answer ≡ numbered_overrider h (class_by_number key.class) (final_in h x y (keyed_function key)) → IsFinalAnswer h key answer
 final_for_all h keeps key x y nx ny answer e = λ s t ns nt of_class is_virtual.
-    let a = one_numbered h keeps (id key.class) key.view x s nx ns in
-    let b = one_numbered h keeps (id key.class) key.source y t ny nt in
-    e ∙ (ap (λ (z : Subobject). numbered_overrider h (id key.class) (final_in h z y (keyed_function key))) a ∙ ap (λ (z : Subobject). numbered_overrider h (id key.class) (final_in h s z (keyed_function key))) b)
+    let a = one_numbered h keeps (class_by_number key.class) key.view x s nx ns in
+    let b = one_numbered h keeps (class_by_number key.class) key.source y t ny nt in
+    e ∙ (ap (λ (z : Subobject). numbered_overrider h (class_by_number key.class) (final_in h z y (keyed_function key))) a ∙ ap (λ (z : Subobject). numbered_overrider h (class_by_number key.class) (final_in h s z (keyed_function key))) b)
 
 -- a class that is not there has no bases
 no_edge : (h : Classes) (c b : ClassId) (way : Bool) → length h ≤ c.0 → IsDirectBase h c way b → ⊥
@@ -62,10 +62,10 @@ class_there h c y f valid class is_virtual = ⊎_elim (λ lt. lt)
     (cases_lt c.0 (length h))
 
 -- nothing is asked of a source of another class
-pub final_other : (h : Classes) → IsHierarchy h → (key : FinalKey) (y : Subobject) → IsNumbered h (id key.class) key.source y → false ≡ is_of_class (id key.owner) y → IsFinalAnswer h key None
+pub final_other : (h : Classes) → IsHierarchy h → (key : FinalKey) (y : Subobject) → IsNumbered h (class_by_number key.class) key.source y → false ≡ is_of_class (class_by_number key.owner) y → IsFinalAnswer h key None
 final_other h keeps key y ny told = λ s t ns nt of_class is_virtual.
-    let same = one_numbered h keeps (id key.class) key.source t y nt ny in
-    absurd (not_both (is_the_class (id key.owner) (class_of y) (ap class_of (sym same) ∙ of_class)) (sym told))
+    let same = one_numbered h keeps (class_by_number key.class) key.source t y nt ny in
+    absurd (not_both (is_the_class (class_by_number key.owner) (class_of y) (ap class_of (sym same) ∙ of_class)) (sym told))
 
 pub within_for_all : (h : Classes) → IsHierarchy h → (c : ClassId) (m n : ℕ) (x y : Subobject) → IsNumbered h c m x → IsNumbered h c n y → (answer : Bool) → answer ≡ is_within h x y → (s t : Subobject) → IsNumbered h c m s → IsNumbered h c n t → answer ≡ is_within h s t
 within_for_all h keeps c m n x y nx ny answer e s t ns nt =
@@ -84,25 +84,25 @@ within_whole h keeps c m n e s t ns nt =
     let same = one_numbered h keeps c 0 (whole_of c) s (whole_number h c) (subst (λ k. IsNumbered h c k s) e ns) in
     sym (inside_within h keeps s t (subst (λ (z : Subobject). IsInside h z t) same (record { class = c; of_class = refl; part = t; valid = nt.valid; joined = (sym (whole_joined h c t nt.valid)) })))
 
-cast_for_all : (h : Classes) → IsHierarchy h → (key : CastKey) (x y : Subobject) → IsNumbered h (id key.class) key.view x → IsNumbered h (id key.class) key.source y → (answer : Option ℕ) → answer ≡ number_where_found h (id key.class) (cast_in h (id key.target) x y) → IsCastAnswer h key answer
+cast_for_all : (h : Classes) → IsHierarchy h → (key : CastKey) (x y : Subobject) → IsNumbered h (class_by_number key.class) key.view x → IsNumbered h (class_by_number key.class) key.source y → (answer : Option ℕ) → answer ≡ number_where_found h (class_by_number key.class) (cast_in h (class_by_number key.target) x y) → IsCastAnswer h key answer
 cast_for_all h keeps key x y nx ny answer e = λ s t ns nt.
-    let a = one_numbered h keeps (id key.class) key.view x s nx ns in
-    let b = one_numbered h keeps (id key.class) key.source y t ny nt in
-    e ∙ (ap (λ (z : Subobject). number_where_found h (id key.class) (cast_in h (id key.target) z y)) a ∙ ap (λ (z : Subobject). number_where_found h (id key.class) (cast_in h (id key.target) s z)) b)
+    let a = one_numbered h keeps (class_by_number key.class) key.view x s nx ns in
+    let b = one_numbered h keeps (class_by_number key.class) key.source y t ny nt in
+    e ∙ (ap (λ (z : Subobject). number_where_found h (class_by_number key.class) (cast_in h (class_by_number key.target) z y)) a ∙ ap (λ (z : Subobject). number_where_found h (class_by_number key.class) (cast_in h (class_by_number key.target) s z)) b)
 
-pub cast_none : (h : Classes) → IsHierarchy h → (key : CastKey) (x y : Subobject) (parts : List Subobject) → IsNumbered h (id key.class) key.view x → IsNumbered h (id key.class) key.source y → IsCastTo h (id key.target) x y parts None → IsCastAnswer h key None
-cast_none h keeps key x y parts nx ny k = cast_for_all h keeps key x y nx ny None (ap (number_where_found h (id key.class)) (sym (is_cast h keeps (id key.class) x nx.valid (id key.target) y None k)))
+pub cast_none : (h : Classes) → IsHierarchy h → (key : CastKey) (x y : Subobject) (parts : List Subobject) → IsNumbered h (class_by_number key.class) key.view x → IsNumbered h (class_by_number key.class) key.source y → IsCastTo h (class_by_number key.target) x y parts None → IsCastAnswer h key None
+cast_none h keeps key x y parts nx ny k = cast_for_all h keeps key x y nx ny None (ap (number_where_found h (class_by_number key.class)) (sym (is_cast h keeps (class_by_number key.class) x nx.valid (class_by_number key.target) y None k)))
 
-pub cast_some : (h : Classes) → IsHierarchy h → (key : CastKey) (x y : Subobject) (parts : List Subobject) (list : PartList) (place n : ℕ) → IsNumbered h (id key.class) key.view x → IsNumbered h (id key.class) key.source y
-    → IsPartList h (id key.class) list → parts ≡ list.parts → IsCastTo h (id key.target) x y parts (Some place) → n ≡ get_or list.numbers.items place 0 → IsCastAnswer h key (Some n)
+pub cast_some : (h : Classes) → IsHierarchy h → (key : CastKey) (x y : Subobject) (parts : List Subobject) (list : PartList) (place n : ℕ) → IsNumbered h (class_by_number key.class) key.view x → IsNumbered h (class_by_number key.class) key.source y
+    → IsPartList h (class_by_number key.class) list → parts ≡ list.parts → IsCastTo h (class_by_number key.target) x y parts (Some place) → n ≡ get_or list.numbers.items place 0 → IsCastAnswer h key (Some n)
 cast_some h keeps key x y parts list place n nx ny is e (t, at, k) number =
-    let c = id key.class in
+    let c = class_by_number key.class in
     let there : slice_get (preorder h c) place ≡ Some t = ap (λ (l : List Subobject). slice_get l place) (sym (e ∙ is.parts)) ∙ at in
     let lt = slice_get_within (preorder h c) place t there in
     let same : Some (get_or (preorder h c) place t) ≡ Some t = sym (slice_get-get_or (preorder h c) place t lt) ∙ there in
     let one : get_or (preorder h c) place t ≡ t = cc in
     let value : n ≡ subobject_number h c t = number ∙ (ap (λ (l : List ℕ). get_or l place 0) is.numbers ∙ (get_or-map (subobject_number h c) (preorder h c) place t 0 lt ∙ ap (subobject_number h c) one)) in
-    cast_for_all h keeps key x y nx ny (Some n) (ap (λ (z : ℕ). Some z) value ∙ ap (number_where_found h c) (sym (is_cast h keeps c x nx.valid (id key.target) y (Some t) k)))
+    cast_for_all h keeps key x y nx ny (Some n) (ap (λ (z : ℕ). Some z) value ∙ ap (number_where_found h c) (sym (is_cast h keeps c x nx.valid (class_by_number key.target) y (Some t) k)))
 
 -- a copy of the first
 pub copied_first : (h : Classes) (c : ClassId) (test : Subobject → Bool) (list : PartList) (parts : List Subobject) (place : ℕ) (found copy : Subobject) → IsPartList h c list → parts ≡ list.parts → IsFirstTaken test parts (Some place) → found ≡ get_or parts place found

@@ -6,7 +6,7 @@ use Rattle.foundation.proofs.Truth.{split, not_both, is_false}
 use Rattle.foundation.proofs.Members.{Has}
 use Rattle.foundation.proofs.Chosen.{find_passes}
 use Rattle.cxx_hierarchy.specs.declared.records.ClassId.{ClassId}
-use Rattle.cxx_hierarchy.specs.Classes.{Classes}
+use Rattle.cxx_hierarchy.specs.Classes.{Classes, class_by_number}
 use Rattle.cxx_hierarchy.specs.Hierarchies.{IsHierarchy}
 use Rattle.cxx_subobject.specs.declared.Root.{Root}
 use Rattle.cxx_subobject.specs.declared.Root.TheVariants.{Whole, Shared}
@@ -22,7 +22,7 @@ use Rattle.cxx_search.proofs.Casts.{of_class, is_the_class}
 use Rattle.path_numbers.specs.Numbers.{base_number, path_number, subobject_number}
 use Rattle.path_tables.specs.declared.kept.DownKey.{DownKey}
 use Rattle.path_tables.specs.Parts.{IsNumbered, number_where_found, derived_in}
-use Rattle.path_tables.specs.Kept.{id, IsDownAnswer}
+use Rattle.path_tables.specs.Kept.{IsDownAnswer}
 use Rattle.path_tables.proofs.Numbered.{one_numbered}
 use Rattle.path_tables.proofs.Within.{walked, same_some, cons_parts}
 
@@ -95,17 +95,17 @@ true_derived h keeps c target i y t offset source ny root leads number vt is =
     and_from (is_of_class target t) (same_subobject (join t i) y) (is_the_class target (class_of t) is.class) (ap (λ (z : Subobject). same_subobject z y) same ∙ same_itself y)
 
 -- none, where no subobject of the class has the number
-pub down_none : (h : Classes) (key : DownKey) → ((t : Subobject) → IsSubobject h (id key.class) t → class_of t ≡ Some (id key.target) → subobject_number h (id key.class) t + key.offset ≡ key.source → ⊥) → IsDownAnswer h key None
+pub down_none : (h : Classes) (key : DownKey) → ((t : Subobject) → IsSubobject h (class_by_number key.class) t → class_of t ≡ Some (class_by_number key.target) → subobject_number h (class_by_number key.class) t + key.offset ≡ key.source → ⊥) → IsDownAnswer h key None
 down_none h key none = λ y i ny root leads number.
-    let c = id key.class in
-    let target = id key.target in
+    let c = class_by_number key.class in
+    let target = class_by_number key.target in
     ap (number_where_found h c) (sym (find_none (is_derived target i y) (preorder h c) (λ t has e. let vt = has_preorder h c t has in let d = derived_true h c target i y t key.offset key.source ny root number vt e in none t vt d.class d.number)))
 
 -- the one of the number
-pub down_some : (h : Classes) → IsHierarchy h → (key : DownKey) (n : ℕ) (t : Subobject) → n + key.offset ≡ key.source → IsNumbered h (id key.class) n t → class_of t ≡ Some (id key.target) → IsDownAnswer h key (Some n)
+pub down_some : (h : Classes) → IsHierarchy h → (key : DownKey) (n : ℕ) (t : Subobject) → n + key.offset ≡ key.source → IsNumbered h (class_by_number key.class) n t → class_of t ≡ Some (class_by_number key.target) → IsDownAnswer h key (Some n)
 down_some h keeps key n t sum nt class = λ y i ny root leads number.
-    let c = id key.class in
-    let target = id key.target in
+    let c = class_by_number key.class in
+    let target = class_by_number key.target in
     let is : is_derived target i y t ≡ true = true_derived h keeps c target i y t key.offset key.source ny root leads number nt.valid (record { class = class; number = ap (λ k. k + key.offset) nt.number ∙ sum }) in
     let found = finds_some (is_derived target i y) (preorder h c) t (preorder_has h c keeps t nt.valid) is in
     let passes = find_passes (is_derived target i y) (preorder h c) found.0 found.1 in

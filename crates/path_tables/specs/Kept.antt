@@ -1,8 +1,7 @@
 -- The answers that are kept: each is right for every two subobjects of its numbers.
 use Rattle.std.specs.Prelude.{◌≡◌, ℕ, Bool, nat_eq, ◌&&◌, Option, Some}
 use Rattle.indexmap.specs.IndexMap.{get_by}
-use Rattle.cxx_hierarchy.specs.declared.records.ClassId.{ClassId}
-use Rattle.cxx_hierarchy.specs.Classes.{Classes}
+use Rattle.cxx_hierarchy.specs.Classes.{Classes, class_by_number}
 use Rattle.cxx_subobject.specs.declared.Root.TheVariants.{Whole}
 use Rattle.cxx_subobject.specs.declared.Subobject.{Subobject}
 use Rattle.cxx_subobject.specs.Subobjects.{class_of, Leads, tail_of}
@@ -59,31 +58,27 @@ down_of table key = get_by (same_down key) table.downs
 abbrev pub list_of : ListTable → ℕ → Option PartList
 list_of table n = get_by (nat_eq n) table.lists
 
--- the class of a number
-abbrev pub id : ℕ → ClassId
-id n = record { 0 = n }
-
 -- where a cast from y in the view x leads, as a number
 abbrev pub IsCastAnswer : Classes → CastKey → Option ℕ → Type 0
-IsCastAnswer h key answer = (x y : Subobject) → IsNumbered h (id key.class) key.view x → IsNumbered h (id key.class) key.source y → answer ≡ number_where_found h (id key.class) (cast_in h (id key.target) x y)
+IsCastAnswer h key answer = (x y : Subobject) → IsNumbered h (class_by_number key.class) key.view x → IsNumbered h (class_by_number key.class) key.source y → answer ≡ number_where_found h (class_by_number key.class) (cast_in h (class_by_number key.target) x y)
 
 -- the function that a key names
 abbrev pub keyed_function : FinalKey → FunctionId
-keyed_function key = record { class = id key.owner; index = key.index }
+keyed_function key = record { class = class_by_number key.owner; index = key.index }
 
 -- the final overrider of a virtual function of the class of y in the view x, with the number of its subobject
 abbrev pub IsFinalAnswer : Classes → FinalKey → Option FinalAt → Type 0
-IsFinalAnswer h key answer = (x y : Subobject) → IsNumbered h (id key.class) key.view x → IsNumbered h (id key.class) key.source y → class_of y ≡ Some (id key.owner) → IsVirtual h (keyed_function key)
-    → answer ≡ numbered_overrider h (id key.class) (final_in h x y (keyed_function key))
+IsFinalAnswer h key answer = (x y : Subobject) → IsNumbered h (class_by_number key.class) key.view x → IsNumbered h (class_by_number key.class) key.source y → class_of y ≡ Some (class_by_number key.owner) → IsVirtual h (keyed_function key)
+    → answer ≡ numbered_overrider h (class_by_number key.class) (final_in h x y (keyed_function key))
 
 -- whether y lies in x
 abbrev pub IsWithinAnswer : Classes → WithinKey → Bool → Type 0
-IsWithinAnswer h key answer = (x y : Subobject) → IsNumbered h (id key.class) key.outer x → IsNumbered h (id key.class) key.inner y → answer ≡ is_within h x y
+IsWithinAnswer h key answer = (x y : Subobject) → IsNumbered h (class_by_number key.class) key.outer x → IsNumbered h (class_by_number key.class) key.inner y → answer ≡ is_within h x y
 
 -- the first subobject of the target class whose base i is y, as a number, where a path of this number leads to i
 abbrev pub IsDownAnswer : Classes → DownKey → Option ℕ → Type 0
-IsDownAnswer h key answer = (y i : Subobject) → IsNumbered h (id key.class) key.source y → i.root ≡ Whole → Leads h (id key.target) (tail_of i.path) → path_number h (id key.target) (tail_of i.path) ≡ key.offset
-    → answer ≡ number_where_found h (id key.class) (derived_in h (id key.class) (id key.target) i y)
+IsDownAnswer h key answer = (y i : Subobject) → IsNumbered h (class_by_number key.class) key.source y → i.root ≡ Whole → Leads h (class_by_number key.target) (tail_of i.path) → path_number h (class_by_number key.target) (tail_of i.path) ≡ key.offset
+    → answer ≡ number_where_found h (class_by_number key.class) (derived_in h (class_by_number key.class) (class_by_number key.target) i y)
 
 -- what is kept is right
 pub record AreCasts (h : Classes) (table : CastTable) : Type 0 where
@@ -99,4 +94,4 @@ pub record AreDowns (h : Classes) (table : DownTable) : Type 0 where
   pub right : (key : DownKey) (answer : Option ℕ) → down_of table key ≡ Some answer → IsDownAnswer h key answer
 
 pub record AreLists (h : Classes) (table : ListTable) : Type 0 where
-  pub right : (n : ℕ) (list : PartList) → list_of table n ≡ Some list → IsPartList h (id n) list
+  pub right : (n : ℕ) (list : PartList) → list_of table n ≡ Some list → IsPartList h (class_by_number n) list

@@ -7,8 +7,9 @@ ghost use Rattle.cxx_subobject.specs.Preorder.{preorder};
 ghost use Rattle.cxx_search.specs.Searches.{is_of_class};
 ghost use Rattle.path_tables.specs.Parts.{IsNumbered, IsPartList, number_where_found, derived_in};
 ghost use Rattle.path_tables.specs.Worlds.{IsWorld};
-ghost use Rattle.path_tables.specs.Kept.{id, IsCastAnswer, IsFinalAnswer, IsWithinAnswer, IsDownAnswer};
+ghost use Rattle.path_tables.specs.Kept.{IsCastAnswer, IsFinalAnswer, IsWithinAnswer, IsDownAnswer};
 ghost use Rattle.cxx_subobject.specs.declared.Root.TheVariants.{Shared};
+ghost use Rattle.cxx_hierarchy.specs.Classes.{class_by_number};
 
 use crate::casts::{Cast, cast_place};
 use crate::finals::{Call, FinalAt, final_at};
@@ -37,7 +38,7 @@ fn number_at(list: &PartList, place: usize) -> u32
 
 /// Where a cast leads, as the number of a subobject (ISO C++03 5.2.7 p8). None: it leads nowhere.
 pub(crate) fn cast_number(h: &Hierarchy, list: &PartList, key: CastKey) -> Option<u32>
-    requires { IsPartList h.now (id key.class) list.now }
+    requires { IsPartList h.now (class_by_number key.class) list.now }
     ensures { IsCastAnswer h.now key result }
 {
     h.keeps();
@@ -67,7 +68,7 @@ pub(crate) fn final_answer(
     key: FinalKey,
 ) -> Result<Option<FinalAt>, NoMemory>
     requires world { IsWorld world.now }
-    requires list { IsPartList world.now.h.now (id key.class) list.now }
+    requires list { IsPartList world.now.h.now (class_by_number key.class) list.now }
     ensures { IfOk result (IsFinalAnswer world.now.h.now key) }
 {
     let h = world.h;
@@ -101,7 +102,7 @@ pub(crate) fn final_answer(
 
 /// Whether the subobject of one number lies in that of another.
 pub(crate) fn within_answer(h: &Hierarchy, list: &PartList, key: WithinKey) -> bool
-    requires { IsPartList h.now (id key.class) list.now }
+    requires { IsPartList h.now (class_by_number key.class) list.now }
     ensures { IsWithinAnswer h.now key result }
 {
     h.keeps();
@@ -118,7 +119,7 @@ pub(crate) fn within_answer(h: &Hierarchy, list: &PartList, key: WithinKey) -> b
 /// The number of the subobject of the target class in which the source is the base that has this number there. A part of
 /// another class may have the number too.
 pub(crate) fn down_number(h: &Hierarchy, list: &PartList, key: DownKey) -> Option<u32>
-    requires { IsPartList h.now (id key.class) list.now }
+    requires { IsPartList h.now (class_by_number key.class) list.now }
     ensures { IsDownAnswer h.now key result }
 {
     h.keeps();

@@ -7,7 +7,7 @@ ghost use Rattle.cxx_hierarchy.specs.Classes.{Classes};
 ghost use Rattle.cxx_subobject.specs.Parts.{IsWithinLimits};
 ghost use Rattle.path_numbers.specs.Numbers.{AreClassNumbers};
 ghost use Rattle.path_tables.specs.Parts.{IsPartList};
-ghost use Rattle.path_tables.specs.Kept.{id, list_of, AreLists};
+ghost use Rattle.path_tables.specs.Kept.{list_of, AreLists};
 
 use crate::parts::{PartList, list_parts};
 use cxx_hierarchy::{ClassId, Hierarchy};

@@ -7,7 +7,7 @@ use Rattle.cxx_hierarchy.specs.declared.records.Member.{Member}
 use Rattle.cxx_hierarchy.specs.declared.records.FieldType.{FieldType}
 use Rattle.cxx_hierarchy.specs.declared.records.FieldType.TheVariants.{Value, Object}
 use Rattle.cxx_hierarchy.specs.Declarations.{is_plain_base, elements_of}
-use Rattle.cxx_hierarchy.specs.Classes.{Classes, bases_of, members_of}
+use Rattle.cxx_hierarchy.specs.Classes.{Classes, bases_of, members_of, class_by_number}
 use Rattle.cxx_subobject.specs.declared.Root.TheVariants.{Whole}
 use Rattle.cxx_subobject.specs.declared.Subobject.{Subobject}
 use Rattle.cxx_subobject.specs.Subobjects.{subobject, shared_base, same_subobject}
@@ -21,7 +21,6 @@ use Rattle.abi_print.specs.LayoutTexts.{proper}
 use Rattle.abi_print.specs.Texts.{PlaceOf}
 use Rattle.abi_foreign.specs.declared.said.MemberPlace.{MemberPlace}
 use Rattle.abi_foreign.specs.declared.said.ClassSaid.{ClassSaid}
-use Rattle.abi_foreign.specs.Lines.{class_by_number}
 use Rattle.abi_foreign.specs.Listings.{cut_bits}
 
 -- the place that the lines of a class say of a base subobject

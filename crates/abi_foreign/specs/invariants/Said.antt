@@ -3,7 +3,7 @@ use Rattle.std.specs.Prelude.{◌≡◌, ℕ, zero, suc, ◌≤◌, Contains, Op
 use Rattle.std.specs.Fmt.{decimal}
 use Rattle.cxx_hierarchy.specs.declared.records.ClassId.{ClassId}
 use Rattle.cxx_hierarchy.specs.declared.records.Member.{Member}
-use Rattle.cxx_hierarchy.specs.Classes.{Classes, members_of}
+use Rattle.cxx_hierarchy.specs.Classes.{Classes, members_of, class_by_number}
 use Rattle.cxx_subobject.specs.declared.Subobject.{Subobject}
 use Rattle.cxx_subobject.specs.Preorder.{preorder, ListsSubobjects}
 use Rattle.abi_primary.specs.declared.Primary.{Primary}
@@ -11,7 +11,7 @@ use Rattle.abi_print.specs.LayoutTexts.{declared_class_name, primary_text, subob
 use Rattle.abi_foreign.specs.declared.said.Sizes.{Sizes}
 use Rattle.abi_foreign.specs.declared.said.MemberPlace.{MemberPlace}
 use Rattle.abi_foreign.specs.declared.said.ClassSaid.{ClassSaid}
-use Rattle.abi_foreign.specs.Lines.{most_number, class_by_number, sizes_line, primary_line, base_line, member_line, class_lines, lines_before, first_line, IsWritable}
+use Rattle.abi_foreign.specs.Lines.{most_number, sizes_line, primary_line, base_line, member_line, class_lines, lines_before, first_line, IsWritable}
 use Rattle.abi_foreign.specs.invariants.Pieces.{HasNoneBefore, IsNumberBefore}
 use Rattle.abi_foreign.specs.invariants.Reading.{IsRead, IsReadTo}
 

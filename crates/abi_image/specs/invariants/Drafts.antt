@@ -87,9 +87,6 @@ pub record HasHead (image : Image) (c : ClassId) (info : TypeInfo) (at : ℕ) : 
   pub flags_fit : info_flags info < 2 ^ 32
   pub count_fits : length (info_bases info) < 2 ^ 32
 
-abbrev pub class_id : ℕ → ClassId
-class_id c = record { 0 = c }
-
 -- the words of the directory: the first address point of each class, and the address of its VTT
 abbrev pub HaveClassWords : Image → (firsts vtt_at : List ℕ) → List (List VttWord) → ℕ → Type 0
 HaveClassWords image firsts vtt_at vtts at = (c : ℕ) (vtt : List VttWord) → slice_get vtts c ≡ Some vtt →
