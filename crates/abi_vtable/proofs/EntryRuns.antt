@@ -12,7 +12,7 @@ use Rattle.cxx_subobject.specs.Inside.{IsInside}
 use Rattle.cxx_subobject.specs.Preorder.{preorder}
 use Rattle.cxx_overrider.specs.declared.FunctionId.{FunctionId}
 use Rattle.cxx_overrider.specs.declared.Overrider.{Overrider}
-use Rattle.cxx_overrider.specs.Functions.{is_pure}
+use Rattle.cxx_overrider.specs.Functions.{is_pure, overrider}
 use Rattle.cxx_overrider.specs.Overriding.{IsVirtual, IsFinalOverrider}
 use Rattle.abi_sound.specs.declared.class_layout.ClassLayout.{ClassLayout}
 use Rattle.abi_sound.specs.Places.{Places, places_of}
@@ -32,7 +32,7 @@ use Rattle.abi_vtable.specs.declared.view.Part.{Part}
 use Rattle.abi_vtable.specs.declared.view.ViewParts.{ViewParts}
 use Rattle.abi_vtable.specs.declared.words.Declarer.{Declarer}
 use Rattle.abi_vtable.specs.invariants.Parts.{NumbersSubobject, number, IsViewPart, at_of, IsViewParts, view_of_parts}
-use Rattle.abi_vtable.specs.invariants.Words.{HasVcall, IsDeclaredBy, nowhere, at_part, overrider_in_subobject}
+use Rattle.abi_vtable.specs.invariants.Words.{HasVcall, IsDeclaredBy, nowhere, at_part}
 use Rattle.abi_vtable.proofs.Parts.{class_known}
 use Rattle.abi_vtable.proofs.Over.{same_part, other_name, has_vcall}
 
@@ -122,16 +122,16 @@ pub unused_word : (h : Classes) (l : Places) (v : ViewParts) (k : EntryKey) (n :
 unused_word h l v k n t at e = nothing (from_part h l v k n t None at e)
 
 pub pure_word : (h : Classes) (l : Places) (v : ViewParts) (k : EntryKey) (n : ℕ) (t at_sub : Subobject) (part : Part) (f g : FunctionId) → slice_get (preorder h v.class) n ≡ Some t →
-    Declares h l v k (first_from h l v k n) part f → IsFinalOverrider h v.class part.at f (overrider_in_subobject at_sub g) → is_pure h g ≡ true → IsEntryWord h l (view_of_parts v) t k (Pure g)
+    Declares h l v k (first_from h l v k n) part f → IsFinalOverrider h v.class part.at f (overrider at_sub g) → is_pure h g ≡ true → IsEntryWord h l (view_of_parts v) t k (Pure g)
 pure_word h l v k n t at_sub part f g at d final pure =
     let x = view_of_parts v in
-    run_word h l x t k part.at (overrider_in_subobject at_sub g) (Pure g) (from_part h l v k n t (Some part.at) at d.is) (other_name h v.class part.at f k.function (overrider_in_subobject at_sub g) d.named final)
+    run_word h l x t k part.at (overrider at_sub g) (Pure g) (from_part h l v k n t (Some part.at) at d.is) (other_name h v.class part.at f k.function (overrider at_sub g) d.named final)
     (sym (ap (λ b. if b then Pure g else Code g k.kind (this_adjust l x.complete (seen x part.at) (seen x at_sub) (vcall_for h l k.function part.at at_sub)) (return_for h l g k.function)) pure))
 
 pub code_runs : (h : Classes) → IsHierarchy h → (l : Places) (v : ViewParts) (k : EntryKey) (n : ℕ) (t at_sub : Subobject) (part to : Part) (f g : FunctionId) (w : EntryWord) → slice_get (preorder h v.class) n ≡ Some t →
-    Declares h l v k (first_from h l v k n) part f → IsFinalOverrider h v.class part.at f (overrider_in_subobject at_sub g) →
-    IsViewPart h l (view_of_parts v) (preorder h v.class) to → to.class ≡ g.class → IsInside h to.at part.at → w ≡ code_word h l (view_of_parts v) k part.at (overrider_in_subobject to.at g) → IsEntryWord h l (view_of_parts v) t k w
+    Declares h l v k (first_from h l v k n) part f → IsFinalOverrider h v.class part.at f (overrider at_sub g) →
+    IsViewPart h l (view_of_parts v) (preorder h v.class) to → to.class ≡ g.class → IsInside h to.at part.at → w ≡ code_word h l (view_of_parts v) k part.at (overrider to.at g) → IsEntryWord h l (view_of_parts v) t k w
 code_runs h keeps l v k n t at_sub part to f g w at d final of class inside is =
     let x = view_of_parts v in
     let same = same_part h keeps l x (preorder h v.class) part.at at_sub f g to final of class inside in
-    run_word h l x t k part.at (overrider_in_subobject at_sub g) w (from_part h l v k n t (Some part.at) at d.is) (other_name h v.class part.at f k.function (overrider_in_subobject at_sub g) d.named final) (is ∙ ap (λ a. code_word h l x k part.at (overrider_in_subobject a g)) same)
+    run_word h l x t k part.at (overrider at_sub g) w (from_part h l v k n t (Some part.at) at d.is) (other_name h v.class part.at f k.function (overrider at_sub g) d.named final) (is ∙ ap (λ a. code_word h l x k part.at (overrider a g)) same)

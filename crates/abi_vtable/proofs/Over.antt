@@ -36,9 +36,10 @@ use Rattle.abi_vtable.specs.declared.view.Part.{Part}
 use Rattle.abi_vtable.specs.declared.view.ViewParts.{ViewParts}
 use Rattle.abi_vtable.specs.invariants.Parts.{IsViewPart, at_of, AreParts, AreStarts, IsViewParts, IsSomeView}
 use Rattle.abi_vtable.specs.invariants.Returns.{AreKnown}
-use Rattle.abi_vtable.specs.invariants.Words.{LiesInClass, AreNotOver, HasVcall, overrider_in_subobject}
+use Rattle.abi_vtable.specs.invariants.Words.{LiesInClass, AreNotOver, HasVcall}
 use Rattle.abi_vtable.proofs.Lists.{read_at}
 use Rattle.abi_vtable.proofs.Parts.{listed_place}
+use Rattle.cxx_overrider.specs.Functions.{overrider}
 
 pub view_known : (h : Classes) → IsHierarchy h → (x : View) → IsView h x → x.class.0 < length h
 view_known h keeps x view = class_inside h keeps x.complete x.class x.at_sub view.known view.valid view.of_class
@@ -81,8 +82,8 @@ pub final_over : (h : Classes) (c : ClassId) (s : Subobject) (f : FunctionId) (o
 final_over h c s f o final = record { holder = o.at; valid = final.left.candidate.valid; class = final.left.candidate.class; inside = final.left.candidate.contains }
 
 -- the part is the overrider's subobject
-pub same_part : (h : Classes) → IsHierarchy h → (l : Places) (x : View) (list : List Subobject) (s at : Subobject) (f g : FunctionId) (part : Part) → IsFinalOverrider h x.class s f (overrider_in_subobject at g) → IsViewPart h l x list part → part.class ≡ g.class → IsInside h part.at s → part.at ≡ at
-same_part h keeps l x list s at f g part final is class inside = one_of_class h keeps x.class s part.at f (overrider_in_subobject at g) final is.valid (is.class ∙ ap (λ a. Some a) class) inside
+pub same_part : (h : Classes) → IsHierarchy h → (l : Places) (x : View) (list : List Subobject) (s at : Subobject) (f g : FunctionId) (part : Part) → IsFinalOverrider h x.class s f (overrider at g) → IsViewPart h l x list part → part.class ≡ g.class → IsInside h part.at s → part.at ≡ at
+same_part h keeps l x list s at f g part final is class inside = one_of_class h keeps x.class s part.at f (overrider at g) final is.valid (is.class ∙ ap (λ a. Some a) class) inside
 
 pub base_word : (h : Classes) (l : Places) (x : View) (t : Subobject) (v : ClassId) (o : Offset) (d : ℤ) → o ≡ ToBase v → d ≡ between l x.complete (seen x t) (seen x (shared_base v)) → IsOffsetWord h l x t o (Vbase d v)
 base_word h l x t v o d is e = subst (λ a. IsOffsetWord h l x t a (Vbase d v)) (sym is) (subst (λ a. IsOffsetWord h l x t (ToBase v) (Vbase a v)) (sym e) (to_base v))
@@ -91,13 +92,13 @@ base_word h l x t v o d is e = subst (λ a. IsOffsetWord h l x t a (Vbase d v)) 
 pub part_place : (h : Classes) (l : Places) (x : View) (list : List Subobject) (part : Part) (n : ℕ) → IsViewPart h l x list part → n ≡ l.place x.complete part.seen → n ≡ place l x part.at
 part_place h l x list part n of is = is ∙ ap (l.place x.complete) of.seen
 
-pub call_word : (h : Classes) → IsHierarchy h → (l : Places) (x : View) (list : List Subobject) (t s at : Subobject) (path : List ClassId) (f g : FunctionId) (part : Part) (o : Offset) (start end : ℕ) (d : ℤ) → o ≡ ToOverrider path f → s ≡ named_in x.class path → IsFinalOverrider h x.class s f (overrider_in_subobject at g) →
+pub call_word : (h : Classes) → IsHierarchy h → (l : Places) (x : View) (list : List Subobject) (t s at : Subobject) (path : List ClassId) (f g : FunctionId) (part : Part) (o : Offset) (start end : ℕ) (d : ℤ) → o ≡ ToOverrider path f → s ≡ named_in x.class path → IsFinalOverrider h x.class s f (overrider at g) →
     IsViewPart h l x list part → part.class ≡ g.class → IsInside h part.at s → start ≡ place l x t → end ≡ l.place x.complete part.seen → d ≡ pos end -ℤ pos start → IsOffsetWord h l x t o (Vcall d f)
 call_word h keeps l x list t s at path f g part o start end d is named final of class inside from to e =
     let same = same_part h keeps l x list s at f g part final of class inside in
     let there : end ≡ place l x at = part_place h l x list part end of to ∙ ap (place l x) same in
     let value : d ≡ between l x.complete (seen x t) (seen x at) = e ∙ ap (λ n. pos n -ℤ pos start) there ∙ ap (λ n. pos (place l x at) -ℤ pos n) from in
-    let word : IsOffsetWord h l x t (ToOverrider path f) (Vcall (between l x.complete (seen x t) (seen x at)) f) = to_overrider path f (overrider_in_subobject at g) (subst (λ a. IsFinalOverrider h x.class a f (overrider_in_subobject at g)) named final) in
+    let word : IsOffsetWord h l x t (ToOverrider path f) (Vcall (between l x.complete (seen x t) (seen x at)) f) = to_overrider path f (overrider at g) (subst (λ a. IsFinalOverrider h x.class a f (overrider at g)) named final) in
     subst (λ a. IsOffsetWord h l x t a (Vcall d f)) (sym is) (subst (λ a. IsOffsetWord h l x t (ToOverrider path f) (Vcall a f)) (sym value) word)
 
 -- results

@@ -7,7 +7,7 @@ ghost use Rattle.cxx_subobject.specs.declared.Subobject.{Subobject};
 ghost use Rattle.cxx_subobject.specs.Subobjects.{IsSubobject};
 ghost use Rattle.cxx_subobject.specs.Inside.{IsInside};
 ghost use Rattle.cxx_subobject.specs.Preorder.{preorder};
-ghost use Rattle.cxx_overrider.specs.Functions.{is_pure};
+ghost use Rattle.cxx_overrider.specs.Functions.{is_pure, overrider};
 ghost use Rattle.abi_sound.specs.Places.{Places, places_of};
 ghost use Rattle.abi_slots.specs.declared.words.EntryKey.{EntryKey};
 ghost use Rattle.abi_slots.specs.declared.words.Offset.{Offset};
@@ -17,7 +17,7 @@ ghost use Rattle.abi_slots.specs.Groups.{GoAlong, named_in, vcall_for, code_word
 ghost use Rattle.abi_vtable.specs.invariants.Parts.{NumbersSubobject, IsViewPart, IsViewParts, IsSomeView, view_of_parts};
 ghost use Rattle.abi_vtable.specs.invariants.Returns.{AreKnown};
 ghost use Rattle.abi_vtable.specs.invariants.Sites.{IsTableSite};
-ghost use Rattle.abi_vtable.specs.invariants.Words.{NamesVirtual, LiesInClass, HasVcall, AreAlong, overrider_in_subobject, IsFirstDeclarer};
+ghost use Rattle.abi_vtable.specs.invariants.Words.{NamesVirtual, LiesInClass, HasVcall, AreAlong, IsFirstDeclarer};
 
 use crate::returns::{KnownReturn, return_for};
 use crate::table_sites::TableSite;
@@ -208,7 +208,7 @@ fn code_word<L: SoundLayout>(
     requires function { g.class.0 < length site.now.h.now }
     requires vcall { HasVcall site.now.h.now (places_of site.now.h.now (L.rows site.now.layout.now)) key.function from.now.at.root }
     requires code { is_pure site.now.h.now g ≡ false }
-    ensures word { IfOk result (λ word. word ≡ code_word site.now.h.now (places_of site.now.h.now (L.rows site.now.layout.now)) (view_of_parts x.now) key from.now.at (overrider_in_subobject to.now.at g)) }
+    ensures word { IfOk result (λ word. word ≡ code_word site.now.h.now (places_of site.now.h.now (L.rows site.now.layout.now)) (view_of_parts x.now) key from.now.at (overrider to.now.at g)) }
     ensures known { OnOk result (AreKnown site.now.h.now (places_of site.now.h.now (L.rows site.now.layout.now)) known.new.items) }
 {
     let vcall = vcall_for(site.slots, key.function, &from.at, &to.at);

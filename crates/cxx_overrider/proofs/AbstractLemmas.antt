@@ -16,7 +16,7 @@ use Rattle.cxx_overrider.specs.declared.FunctionId.{FunctionId}
 use Rattle.cxx_overrider.specs.declared.Overrider.{Overrider}
 use Rattle.cxx_overrider.specs.declared.entries.Entry.{Entry}
 use Rattle.cxx_overrider.specs.declared.tables.Tables.{Tables}
-use Rattle.cxx_overrider.specs.Functions.{Signature, signature_of, is_pure}
+use Rattle.cxx_overrider.specs.Functions.{Signature, signature_of, is_pure, overrider}
 use Rattle.cxx_overrider.specs.Overriding.{HasPart, HasVirtual, IsVirtual, IsCandidate, IsLeft, IsAbstract}
 use Rattle.cxx_overrider.specs.invariants.Numbers.{IsNumbering, IsNumberOf}
 use Rattle.cxx_overrider.specs.invariants.Marks.{mark_of}
@@ -25,7 +25,6 @@ use Rattle.cxx_overrider.specs.invariants.Pure.{LeavesPure}
 use Rattle.cxx_overrider.specs.invariants.Within.{HasVirtualWithin}
 use Rattle.cxx_overrider.specs.invariants.Tables.{AreTables}
 use Rattle.cxx_overrider.specs.invariants.Abstract.{HasPureAt}
-use Rattle.cxx_overrider.proofs.SettlingLemmas.{overrider}
 use Rattle.cxx_subobject.proofs.InsideLemmas.{join_class}
 use Rattle.cxx_overrider.proofs.CovarianceLemmas.{virtual_part}
 use Rattle.cxx_overrider.proofs.Finals.{top_final, top_only}

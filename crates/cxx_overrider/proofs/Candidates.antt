@@ -12,11 +12,10 @@ use Rattle.cxx_subobject.proofs.PathLemmas.{leads_rest, leads_front, not_longer}
 use Rattle.cxx_overrider.specs.declared.FunctionId.{FunctionId}
 use Rattle.cxx_overrider.specs.declared.Overrider.{Overrider}
 use Rattle.cxx_overrider.specs.declared.entries.Entry.{Entry}
-use Rattle.cxx_overrider.specs.Functions.{Signature, signature_of}
+use Rattle.cxx_overrider.specs.Functions.{Signature, signature_of, overrider}
 use Rattle.cxx_overrider.specs.Overriding.{IsCandidate, IsLeft}
 use Rattle.cxx_overrider.specs.invariants.Entries.{Tells}
 use Rattle.cxx_overrider.specs.invariants.Pure.{DeclaresNone, StandsFirst, here, below}
-use Rattle.cxx_overrider.proofs.SettlingLemmas.{overrider}
 use Rattle.cxx_overrider.proofs.Finals.{IsTopCandidate, FirstOn, found, later, first_longer}
 use Rattle.cxx_overrider.proofs.OneFinal.{IsOnPath, greatest_contains, greatest_candidate}
 

@@ -15,14 +15,14 @@ use Rattle.cxx_subobject.proofs.InsideLemmas.{join_valid, inside_itself, inside_
 use Rattle.cxx_subobject.proofs.PathLemmas.{class_there}
 use Rattle.cxx_overrider.specs.declared.FunctionId.{FunctionId}
 use Rattle.cxx_overrider.specs.declared.Overrider.{Overrider}
-use Rattle.cxx_overrider.specs.Functions.{Signature, signature_of}
+use Rattle.cxx_overrider.specs.Functions.{Signature, signature_of, overrider}
 use Rattle.cxx_overrider.specs.Overriding.{IsVirtualIn, IsCandidate, IsLeft, IsFinalOverrider, HasTwoFinalOverriders}
 use Rattle.cxx_overrider.specs.Virtuals.{function_at}
 use Rattle.cxx_overrider.specs.Faults.{HasNoFault, two_overriders, spot, overrider_part}
 use Rattle.cxx_overrider.specs.invariants.Pure.{DeclaresNone}
 use Rattle.foundation.proofs.Places.{get_within}
 use Rattle.cxx_overrider.proofs.Numbering.{signature_index, signature_class}
-use Rattle.cxx_overrider.proofs.SettlingLemmas.{overrider, same_class, same_overrider}
+use Rattle.cxx_overrider.proofs.SettlingLemmas.{same_class, same_overrider}
 use Rattle.cxx_overrider.proofs.Paths.{inside_antisymmetric}
 use Rattle.cxx_overrider.proofs.Finals.{IsTopCandidate, top_final}
 use Rattle.foundation.proofs.Deciding.{Decided, decide_below}

@@ -20,7 +20,7 @@ use Rattle.cxx_overrider.specs.invariants.Settling.{IsMade, key}
 use Rattle.cxx_overrider.specs.invariants.Tables.{AreTables}
 use Rattle.cxx_overrider.specs.declared.sites.ClassSite.{ClassSite}
 use Rattle.cxx_overrider.specs.invariants.Sites.{numbers_at, IsClassSite, IsMadeToEnd}
-use Rattle.cxx_overrider.specs.Functions.{Signature, signature_of}
+use Rattle.cxx_overrider.specs.Functions.{Signature, signature_of, overrider}
 use Rattle.cxx_overrider.specs.Overriding.{HasPart, IsVirtual, IsVirtualIn, IsCandidate, IsFinalOverrider}
 use Rattle.cxx_overrider.specs.invariants.Numbers.{number_of, IsNumbering, IsNumberOf}
 use Rattle.cxx_overrider.specs.invariants.Entries.{Declares, Tells, TellsOf}
@@ -30,7 +30,6 @@ use Rattle.cxx_overrider.specs.invariants.Marks.{mark_of}
 use Rattle.cxx_overrider.proofs.Numbering.{signature_class}
 use Rattle.cxx_overrider.proofs.WithinLemmas.{virtual_source}
 use Rattle.cxx_overrider.proofs.MarkLemmas.{number_says, says_number}
-use Rattle.cxx_overrider.proofs.SettlingLemmas.{overrider}
 use Rattle.cxx_overrider.proofs.Finals.{IsTopCandidate, top_final, FirstOn, found, later, first_front, first_same, first_longer, EndsAt, first_ends}
 use Rattle.cxx_overrider.proofs.OneFinal.{table_told, IsOnPath, front_inside, whole_on_path, none_on_path}
 use Rattle.cxx_overrider.proofs.Candidates.{greatest_top}

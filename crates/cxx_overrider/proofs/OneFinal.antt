@@ -15,7 +15,7 @@ use Rattle.cxx_overrider.specs.declared.Overrider.{Overrider}
 use Rattle.cxx_overrider.specs.declared.entries.Entry.{Entry}
 use Rattle.cxx_overrider.specs.declared.entries.EntryTable.{EntryTable}
 use Rattle.cxx_overrider.specs.declared.tables.Tables.{Tables}
-use Rattle.cxx_overrider.specs.Functions.{Signature, signature_of}
+use Rattle.cxx_overrider.specs.Functions.{Signature, signature_of, overrider}
 use Rattle.cxx_overrider.specs.Overriding.{IsVirtualIn, IsCandidate, IsLeft, HasTwoFinalOverriders}
 use Rattle.cxx_overrider.specs.invariants.Numbers.{IsNumberOf}
 use Rattle.cxx_overrider.specs.invariants.Entries.{Declares, Tells, TellsOf}
@@ -25,7 +25,7 @@ use Rattle.cxx_overrider.specs.invariants.Tables.{AreTables}
 use Rattle.cxx_overrider.specs.invariants.Within.{HasVirtualWithin}
 use Rattle.cxx_overrider.specs.declared.places.Place.TheVariants.{Itself}
 use Rattle.cxx_overrider.specs.invariants.Pure.{DeclaresNone}
-use Rattle.cxx_overrider.proofs.SettlingLemmas.{overrider, own_tells}
+use Rattle.cxx_overrider.proofs.SettlingLemmas.{own_tells}
 use Rattle.cxx_overrider.proofs.FinalLaws.{decide_declares}
 use Rattle.cxx_overrider.proofs.Finals.{contains_by}
 

@@ -19,7 +19,7 @@ use Rattle.cxx_overrider.specs.declared.places.Place.TheVariants.{Itself, InBase
 use Rattle.cxx_overrider.specs.declared.entries.Entry.{Entry}
 use Rattle.cxx_overrider.specs.declared.settling.Settled.{Settled}
 use Rattle.cxx_overrider.specs.declared.settling.Settled.TheVariants.{Nothing, One, Two}
-use Rattle.cxx_overrider.specs.Functions.{Signature, signature_of}
+use Rattle.cxx_overrider.specs.Functions.{Signature, overrider, signature_of}
 use Rattle.cxx_overrider.specs.Overriding.{HasVirtual, IsLeft, HasTwoFinalOverriders}
 use Rattle.cxx_overrider.specs.invariants.Places.{place_of_subobject, lifted, base_place, base_of, IsThrough}
 use Rattle.cxx_overrider.specs.invariants.Entries.{Declares, Tells, TellsOf}
@@ -30,9 +30,6 @@ use Rattle.std.proofs.lemmas.Bool.{cases_lt}
 use Rattle.cxx_overrider.proofs.Numbering.{same_function}
 use Rattle.cxx_overrider.proofs.MarkLemmas.{part_itself}
 use Rattle.cxx_overrider.proofs.Paths.{inside_antisymmetric, through_cases, through_valid, through_class, through_place, through_inside, through_join, place_through, place_shared, inside_cases}
-
-abbrev pub overrider : Subobject → FunctionId → Overrider
-overrider s f = record { at = s; function = f }
 
 -- a declaration below a direct base
 pub declares_below : (h : Classes) (c v : ClassId) (s : Signature) (base : Base ClassId) (p : Overrider) → (t : IsThrough h c base p.at) → Declares h c v s p → Declares h base.class v s (overrider t.part p.function)

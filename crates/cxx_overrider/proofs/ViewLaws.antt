@@ -12,9 +12,9 @@ use Rattle.cxx_subobject.proofs.InsideLemmas.{join_valid, join_class, join_insid
 use Rattle.cxx_subobject.proofs.PathLemmas.{class_there, last_below, virtual_below, class_low}
 use Rattle.cxx_overrider.specs.declared.FunctionId.{FunctionId}
 use Rattle.cxx_overrider.specs.declared.Overrider.{Overrider}
-use Rattle.cxx_overrider.specs.Functions.{Signature}
+use Rattle.cxx_overrider.specs.Functions.{Signature, overrider}
 use Rattle.cxx_overrider.specs.Overriding.{IsCandidate, IsFinalOverrider, IsCandidateIn, IsFinalIn}
-use Rattle.cxx_overrider.proofs.SettlingLemmas.{overrider, same_class, same_overrider}
+use Rattle.cxx_overrider.proofs.SettlingLemmas.{same_class, same_overrider}
 use Rattle.cxx_overrider.proofs.Paths.{inside_antisymmetric}
 use Rattle.cxx_overrider.proofs.Finals.{contains_by}
 use Rattle.cxx_subobject.proofs.WalkLemmas.{placed_below}

@@ -7,7 +7,9 @@ use Rattle.cxx_hierarchy.specs.declared.records.ReturnType.{ReturnType}
 use Rattle.cxx_hierarchy.specs.declared.records.Destructor.{Destructor}
 use Rattle.cxx_hierarchy.specs.Declarations.{is_virtual_destructor}
 use Rattle.cxx_hierarchy.specs.Classes.{Class, Classes, class_at, functions_of}
+use Rattle.cxx_subobject.specs.declared.Subobject.{Subobject}
 use Rattle.cxx_overrider.specs.declared.FunctionId.{FunctionId}
+use Rattle.cxx_overrider.specs.declared.Overrider.{Overrider}
 use Rattle.cxx_hierarchy.specs.declared.records.ReturnType.TheVariants.{Void, Value}
 use Rattle.cxx_hierarchy.specs.declared.records.ValueType.TheVariants.{Number, Pointer}
 
@@ -15,6 +17,10 @@ use Rattle.cxx_hierarchy.specs.declared.records.ValueType.TheVariants.{Number, P
 pub data Signature : Type 0 where
   named : List ℕ → List (ValueType ClassId) → Signature
   destructor : Signature
+
+-- the function f in the subobject s
+abbrev pub overrider : Subobject → FunctionId → Overrider
+overrider s f = record { at = s; function = f }
 
 -- what a class declares under an index, if it is no destructor
 abbrev pub declaration_of : Classes → FunctionId → Option (Function ClassId)

@@ -10,7 +10,7 @@ use Rattle.cxx_subobject.specs.Inside.{IsInside}
 use Rattle.cxx_subobject.proofs.InsideLemmas.{join_class, whole_inside, inside_valid}
 use Rattle.cxx_overrider.specs.declared.FunctionId.{FunctionId}
 use Rattle.cxx_overrider.specs.declared.Overrider.{Overrider}
-use Rattle.cxx_overrider.specs.Functions.{Signature, signature_of}
+use Rattle.cxx_overrider.specs.Functions.{Signature, signature_of, overrider}
 use Rattle.cxx_overrider.specs.Faults.{HasNoFault}
 use Rattle.cxx_overrider.specs.Overriding.{IsVirtual, IsFinalOverrider, IsCandidateIn, IsFinalIn}
 use Rattle.cxx_overrider.specs.Virtuals.{same_name, declared}
@@ -19,7 +19,7 @@ use Rattle.cxx_overrider.proofs.FinalLaws.{some_final}
 use Rattle.cxx_overrider.proofs.ViewLaws.{view_final, one_in_view, whole_final}
 use Rattle.foundation.proofs.Members.{Has, has_map, from_map, has_flat_map, from_flat_map}
 use Rattle.foundation.proofs.Chosen.{has_filter, filter_has, all_each, each_all, find_passes}
-use Rattle.cxx_search.specs.Searches.{subobjects_under, is_within, overrider, overriders_in, contains_all, candidates, final_in}
+use Rattle.cxx_search.specs.Searches.{subobjects_under, is_within, overriders_in, contains_all, candidates, final_in}
 use Rattle.cxx_search.proofs.Finding.{finds_some}
 use Rattle.cxx_search.proofs.Within.{parts_inside, inside_parts, within_inside, inside_within}
 use Rattle.cxx_search.proofs.Names.{name_signature, signature_name}

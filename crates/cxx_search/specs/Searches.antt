@@ -10,7 +10,7 @@ use Rattle.cxx_subobject.specs.Preorder.{preorder}
 use Rattle.cxx_subobject.specs.VirtualBases.{virtual_bases}
 use Rattle.cxx_overrider.specs.declared.FunctionId.{FunctionId}
 use Rattle.cxx_overrider.specs.declared.Overrider.{Overrider}
-use Rattle.cxx_overrider.specs.Functions.{is_pure}
+use Rattle.cxx_overrider.specs.Functions.{is_pure, overrider}
 use Rattle.cxx_overrider.specs.Virtuals.{same_name, declared, own}
 
 -- the subobjects of a class that is known
@@ -52,10 +52,6 @@ is_class c (Some d) = nat_eq c.0 d.0
 -- the class of the subobject is c
 abbrev pub is_of_class : ClassId → Subobject → Bool
 is_of_class c s = is_class c (class_of s)
-
--- the function g in the subobject t
-abbrev pub overrider : Subobject → FunctionId → Overrider
-overrider t g = record { at = t; function = g }
 
 -- the functions of the name and parameters of f that the class of t declares
 abbrev pub overriders_in : Classes → FunctionId → Subobject → Option ClassId → List Overrider

@@ -9,7 +9,6 @@ use Rattle.cxx_subobject.specs.declared.Subobject.{Subobject}
 use Rattle.cxx_subobject.specs.Subobjects.{IsSubobject, class_of}
 use Rattle.cxx_subobject.specs.Inside.{IsInside}
 use Rattle.cxx_overrider.specs.declared.FunctionId.{FunctionId}
-use Rattle.cxx_overrider.specs.declared.Overrider.{Overrider}
 use Rattle.cxx_overrider.specs.Overriding.{IsVirtualIn}
 use Rattle.abi_sound.specs.Places.{Places}
 use Rattle.abi_slots.specs.declared.words.EntryKey.{EntryKey}
@@ -36,10 +35,6 @@ pub record LiesInClass (h : Classes) (c : ClassId) (s : Subobject) (d : ClassId)
   pub valid : IsSubobject h c holder
   pub class : class_of holder ≡ Some d
   pub inside : IsInside h holder s
-
--- the final overrider of a function, in a subobject
-abbrev pub overrider_in_subobject : Subobject → FunctionId → Overrider
-overrider_in_subobject at_sub f = record { at = at_sub; function = f }
 
 -- no part before a place is of class d and has s in it
 pub record AreNotOver (h : Classes) (parts : List Part) (s : Subobject) (d : ClassId) (i : ℕ) : Type 0 where

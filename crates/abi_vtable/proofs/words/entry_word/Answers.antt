@@ -6,7 +6,7 @@ use Rattle.cxx_subobject.specs.Preorder.{preorder}
 use Rattle.abi_sound.specs.Places.{places_of}
 use Rattle.abi_slots.specs.Groups.{code_word, IsEntryWord}
 use Rattle.abi_vtable.specs.invariants.Parts.{view_of_parts}
-use Rattle.abi_vtable.specs.invariants.Words.{overrider_in_subobject}
+use Rattle.cxx_overrider.specs.Functions.{overrider}
 use Rattle.abi_vtable.proofs.Over.{some_view, view_known}
 use Rattle.abi_vtable.proofs.EntryRuns.{first_from, start_number, found_from, none_of, found_within, declared_from, overrider_known, unused_word, pure_word, code_runs}
 use Rattle.abi_vtable.proofs.words.entry_word.Goals as goal
@@ -58,7 +58,7 @@ final_function-g-requires g c =
     }
 
 pub is_pure-requires : goal.is_pure-requires
-is_pure-requires g c = overrider_known c.args.site.now.h.now c.keeps.ensures (places_of c.args.site.now.h.now (g.L.SoundLayout.rows c.args.site.now.layout.now)) c.args.x.now c.requires.view c.index-as_slice-found.result.at c.in-Some.found.function (overrider_in_subobject c.final_function-g.ensures.0 c.final_function-g.result) c.final_function-g.ensures.1
+is_pure-requires g c = overrider_known c.args.site.now.h.now c.keeps.ensures (places_of c.args.site.now.h.now (g.L.SoundLayout.rows c.args.site.now.layout.now)) c.args.x.now c.requires.view c.index-as_slice-found.result.at c.in-Some.found.function (overrider c.final_function-g.ensures.0 c.final_function-g.result) c.final_function-g.ensures.1
 
 pub returns-then-is_pure-clause-word : goal.returns-then-is_pure-clause-word
 returns-then-is_pure-clause-word g c = λ t at.
@@ -93,7 +93,7 @@ code_word-requires g c =
       from = declared.of;
       to = c.part_over-to.ensures.part (places_of h rows) c.requires.view;
       key = c.requires.key;
-      function = overrider_known h c.keeps.ensures (places_of h rows) v c.requires.view c.index-as_slice-found.result.at c.in-Some.found.function (overrider_in_subobject c.final_function-g.ensures.0 c.final_function-g.result) c.final_function-g.ensures.1;
+      function = overrider_known h c.keeps.ensures (places_of h rows) v c.requires.view c.index-as_slice-found.result.at c.in-Some.found.function (overrider c.final_function-g.ensures.0 c.final_function-g.result) c.final_function-g.ensures.1;
       vcall = declared.vcall;
       code = sym c.is_pure.ensures ∙ c.if-is_pure.false;
     }
@@ -106,6 +106,6 @@ returns-clause-word g c =
     let declared = declared_from h rows c.keeps.ensures (g.met.L.SoundLayout.sound c.args.site.now.layout.now h c.requires.layout) v c.requires.view c.args.key c.args.number c.requires.number c.declarer_below.result c.in-Some.found c.in-Some.is (λ number. c.declarer_below.ensures (places_of h rows) c.args.key (slice_get (preorder h v.class) c.args.number) c.requires.view c.requires.site.are_slots number c.requires.along) c.as_slice.result.now c.index-as_slice-found.result c.as_slice.ensures c.index-as_slice-found.is in
     let l = places_of h rows in
     let part = c.index-as_slice-found.result in
-    IfOk-weaker c.code_word.result (λ word. word ≡ code_word h l (view_of_parts v) c.args.key part.at (overrider_in_subobject c.part_over-to.result.now.at c.final_function-g.result)) (λ word. (t : Subobject) → slice_get (preorder h v.class) c.args.number ≡ Some t → IsEntryWord h l (view_of_parts v) t c.args.key word)
+    IfOk-weaker c.code_word.result (λ word. word ≡ code_word h l (view_of_parts v) c.args.key part.at (overrider c.part_over-to.result.now.at c.final_function-g.result)) (λ word. (t : Subobject) → slice_get (preorder h v.class) c.args.number ≡ Some t → IsEntryWord h l (view_of_parts v) t c.args.key word)
     (λ word is t at. code_runs h c.keeps.ensures l v c.args.key c.args.number t c.final_function-g.ensures.0 part c.part_over-to.result.now c.in-Some.found.function c.final_function-g.result word at declared c.final_function-g.ensures.1 (c.part_over-to.ensures.part l c.requires.view) c.part_over-to.ensures.class c.part_over-to.ensures.inside is)
     c.code_word.ensures.word
