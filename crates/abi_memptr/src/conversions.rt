@@ -1,7 +1,7 @@
 //! Pointers to members of a base as pointers to members of a derived class.
 
 ghost use Rattle.std.specs.Prelude.{◌≡◌, ◌<◌, IfOk, IfErr, length};
-ghost use Rattle.cxx_lookup.specs.UniqueBase.{IsOfClass};
+ghost use Rattle.cxx_subobject.specs.Subobjects.{IsOfClass};
 ghost use Rattle.abi_memptr.specs.Pointers.{IsPointerOf, IsMemberRefusal, base_for, converted_pointer, given};
 ghost use Rattle.abi_memptr.specs.invariants.Faults.{member_fault};
 

@@ -6,11 +6,10 @@ use Rattle.std.proofs.lemmas.List.{append-nil, drop_all}
 use Rattle.cxx_hierarchy.specs.declared.records.ClassId.{ClassId}
 use Rattle.cxx_hierarchy.specs.Classes.{Classes}
 use Rattle.cxx_subobject.specs.declared.Subobject.{Subobject}
-use Rattle.cxx_subobject.specs.Subobjects.{IsSubobject, subobject, class_of}
+use Rattle.cxx_subobject.specs.Subobjects.{IsSubobject, subobject, class_of, is_class}
 use Rattle.cxx_subobject.specs.Preorder.{preorder, ListsSubobjects}
 use Rattle.abi_slots.proofs.Lists.{Item, found_passes}
 use Rattle.abi_slots.proofs.Bases.{contains_item}
-use Rattle.cxx_search.specs.Searches.{is_class}
 use Rattle.abi_slots.specs.Listing.{base_of_class}
 
 -- the item at the place, and the rest

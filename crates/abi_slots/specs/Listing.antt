@@ -5,7 +5,7 @@ use Rattle.cxx_hierarchy.specs.declared.records.ClassId.{ClassId}
 use Rattle.cxx_hierarchy.specs.declared.records.Base.{Base}
 use Rattle.cxx_hierarchy.specs.Classes.{Classes, bases_of}
 use Rattle.cxx_subobject.specs.declared.Subobject.{Subobject}
-use Rattle.cxx_subobject.specs.Subobjects.{class_of, is_shared_root}
+use Rattle.cxx_subobject.specs.Subobjects.{class_of, is_shared_root, is_class}
 use Rattle.cxx_subobject.specs.Preorder.{preorder}
 use Rattle.cxx_subobject.specs.VirtualBases.{virtual_bases}
 use Rattle.cxx_overrider.specs.declared.FunctionId.{FunctionId}
@@ -19,7 +19,6 @@ use Rattle.abi_slots.specs.declared.words.Conversion.{Conversion}
 use Rattle.abi_slots.specs.declared.words.EntryKey.{EntryKey}
 use Rattle.abi_slots.specs.declared.words.Offset.{Offset}
 use Rattle.abi_slots.specs.declared.words.Offset.TheVariants.{ToBase, ToOverrider}
-use Rattle.cxx_search.specs.Searches.{is_class}
 use Rattle.cxx_overrider.specs.Virtuals.{same_name, own}
 use Rattle.abi_primary.specs.PrimaryBase.{is_direct_primary}
 

@@ -7,12 +7,11 @@ ghost use Rattle.cxx_hierarchy.specs.Classes.{Classes};
 ghost use Rattle.cxx_hierarchy.specs.declared.records.PartAt.{PartAt};
 ghost use Rattle.cxx_hierarchy.specs.Limits.{most_declared};
 ghost use Rattle.cxx_subobject.specs.declared.Subobject.{Subobject};
-ghost use Rattle.cxx_subobject.specs.Subobjects.{IsSubobject, class_of};
+ghost use Rattle.cxx_subobject.specs.Subobjects.{IsSubobject, class_of, is_class};
 ghost use Rattle.cxx_overrider.specs.Functions.{return_of, pointee};
 ghost use Rattle.cxx_overrider.specs.invariants.Numbers.{IsNumbering};
 ghost use Rattle.cxx_overrider.specs.Overriders.{AreOverriders};
 ghost use Rattle.cxx_overrider.specs.Virtuals.{function_at, index_of, declared, same_name, is_virtual, own};
-ghost use Rattle.cxx_search.specs.Searches.{is_class};
 ghost use Rattle.abi_slots.specs.Listing.{conversion, base_of_class};
 
 use crate::words::Conversion;

@@ -24,7 +24,7 @@ use Rattle.cxx_program.specs.declared.statement.TypedPlace.{TypedPlace}
 use Rattle.cxx_program.specs.declared.statement.TypedRight.{TypedRight}
 use Rattle.cxx_program.specs.declared.statement.TypedRight.TheVariants.{Address, Arithmetic, Call as CallRight, Cast, New, Not, Operand, Read, SamePointer, TypeEqual}
 use Rattle.cxx_program.specs.declared.statement.TypedStatement.{TypedStatement}
-use Rattle.cxx_search.specs.Searches.{is_of_class}
+use Rattle.cxx_subobject.specs.Subobjects.{is_of_class}
 use Rattle.cxx_subobject.specs.Locations.{ObjectPart}
 use Rattle.cxx_subobject.specs.Preorder.{preorder}
 use Rattle.cxx_subobject.specs.declared.Subobject.{Subobject}

@@ -29,9 +29,9 @@ use Rattle.cxx_program.specs.declared.operand.Conversion.{Conversion}
 use Rattle.cxx_program.specs.declared.operand.Conversion.TheVariants.{Base as ToBase, Same as ToSame}
 use Rattle.cxx_program.specs.declared.operand.Variable.{Variable}
 use Rattle.cxx_program.specs.declared.program.TypedBody.{TypedBody}
-use Rattle.cxx_search.specs.Searches.{destructor_of, is_class, is_of_class}
+use Rattle.cxx_search.specs.Searches.{destructor_of}
 use Rattle.cxx_subobject.specs.Preorder.{preorder}
-use Rattle.cxx_subobject.specs.Subobjects.{class_of}
+use Rattle.cxx_subobject.specs.Subobjects.{class_of, is_class, is_of_class}
 use Rattle.cxx_subobject.specs.declared.Subobject.{Subobject}
 use Rattle.foundation.proofs.Truth.{is_false, same_test}
 use Rattle.path_model.specs.Effects.{base_conversion, conversion_to_class, result_conversion}

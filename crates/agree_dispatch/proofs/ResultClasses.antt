@@ -11,7 +11,7 @@ use Rattle.cxx_hierarchy.specs.declared.records.ValueType.TheVariants.{Pointer}
 use Rattle.cxx_hierarchy.specs.Classes.{Class, Classes, class_at, functions_in}
 use Rattle.cxx_hierarchy.specs.Hierarchies.{IsHierarchy}
 use Rattle.cxx_subobject.specs.declared.Subobject.{Subobject}
-use Rattle.cxx_subobject.specs.Subobjects.{class_of}
+use Rattle.cxx_subobject.specs.Subobjects.{class_of, is_class}
 use Rattle.cxx_subobject.specs.Preorder.{preorder}
 use Rattle.cxx_overrider.specs.declared.FunctionId.{FunctionId}
 use Rattle.cxx_overrider.specs.Functions.{Signature, named, destructor, signature_at, signature_in, signature_of, return_at, return_of, pointee}
@@ -19,7 +19,6 @@ use Rattle.cxx_overrider.specs.Covariance.{Overrides, IsOnlyBase, PointsToDerive
 use Rattle.cxx_overrider.specs.Faults.{HasNoFault}
 use Rattle.cxx_overrider.proofs.ReturnLaws.{fits}
 use Rattle.cxx_subobject.proofs.PathLemmas.{same_id}
-use Rattle.cxx_search.specs.Searches.{is_class}
 use Rattle.abi_slots.specs.Listing.{base_of_class}
 use Rattle.abi_slots.proofs.Lists.{any_item, found_passes, found_some}
 use Rattle.abi_slots.proofs.Bases.{preorder_item, item_preorder}

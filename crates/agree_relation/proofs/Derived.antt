@@ -7,11 +7,11 @@ use Rattle.foundation.proofs.Chosen.{find_passes}
 use Rattle.cxx_hierarchy.specs.declared.records.ClassId.{ClassId}
 use Rattle.cxx_subobject.specs.declared.Subobject.{Subobject}
 use Rattle.cxx_subobject.specs.declared.Root.TheVariants.{Whole}
-use Rattle.cxx_subobject.specs.Subobjects.{IsSubobject, class_of, join, same_subobject}
+use Rattle.cxx_subobject.specs.Subobjects.{IsSubobject, class_of, join, same_subobject, is_class, is_of_class}
 use Rattle.cxx_subobject.specs.Preorder.{preorder}
 use Rattle.cxx_subobject.specs.Locations.{ObjectPart}
 use Rattle.cxx_subobject.proofs.TreeLemmas.{subobject_same, same_itself, preorder_has, has_preorder}
-use Rattle.cxx_search.specs.Searches.{is_class, is_of_class, preorder_of}
+use Rattle.cxx_search.specs.Searches.{preorder_of}
 use Rattle.cxx_search.proofs.Finding.{finds_some}
 use Rattle.path_plan.specs.Places.{part}
 use Rattle.path_model.specs.Values.{Objects, inner_part}

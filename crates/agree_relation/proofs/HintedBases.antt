@@ -10,10 +10,10 @@ use Rattle.cxx_hierarchy.specs.Classes.{Classes}
 use Rattle.cxx_subobject.specs.declared.Root.{Root}
 use Rattle.cxx_subobject.specs.declared.Root.TheVariants.{Whole, Shared}
 use Rattle.cxx_subobject.specs.declared.Subobject.{Subobject}
-use Rattle.cxx_subobject.specs.Subobjects.{class_of, whole_of, is_shared_root}
+use Rattle.cxx_subobject.specs.Subobjects.{class_of, whole_of, is_shared_root, is_of_class}
 use Rattle.cxx_subobject.specs.Preorder.{preorder}
 use Rattle.cxx_subobject.proofs.TreeLemmas.{has_preorder}
-use Rattle.cxx_search.specs.Searches.{is_of_class, is_public_in, the_only}
+use Rattle.cxx_search.specs.Searches.{is_public_in, the_only}
 use Rattle.cxx_search.proofs.Casts.{of_class}
 use Rattle.cxx_search.proofs.Walks.{public_walk}
 use Rattle.path_model.specs.Uses.{is_shared}

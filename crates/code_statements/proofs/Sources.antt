@@ -7,10 +7,10 @@ use Rattle.foundation.proofs.Chosen.{has_filter}
 use Rattle.cxx_hierarchy.specs.declared.records.ClassId.{ClassId}
 use Rattle.cxx_hierarchy.specs.Classes.{Classes}
 use Rattle.cxx_subobject.specs.declared.Subobject.{Subobject}
-use Rattle.cxx_subobject.specs.Subobjects.{IsSubobject, whole_of}
+use Rattle.cxx_subobject.specs.Subobjects.{IsSubobject, whole_of, is_of_class}
 use Rattle.cxx_subobject.specs.Preorder.{preorder}
 use Rattle.cxx_subobject.proofs.TreeLemmas.{has_preorder}
-use Rattle.cxx_search.specs.Searches.{is_of_class, is_public_in, the_only}
+use Rattle.cxx_search.specs.Searches.{is_public_in, the_only}
 use Rattle.path_model.specs.Uses.{is_shared}
 use Rattle.abi_sound.specs.Places.{Places}
 use Rattle.code_statements.specs.Hints.{sources, plain_place, hint_by, hint_of}

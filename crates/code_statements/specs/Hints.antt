@@ -5,9 +5,9 @@ use Rattle.std.specs.List.{list_any}
 use Rattle.cxx_hierarchy.specs.declared.records.ClassId.{ClassId}
 use Rattle.cxx_hierarchy.specs.Classes.{Classes}
 use Rattle.cxx_subobject.specs.declared.Subobject.{Subobject}
-use Rattle.cxx_subobject.specs.Subobjects.{whole_of}
+use Rattle.cxx_subobject.specs.Subobjects.{whole_of, is_of_class}
 use Rattle.cxx_subobject.specs.Preorder.{preorder}
-use Rattle.cxx_search.specs.Searches.{is_of_class, is_public_in, the_only}
+use Rattle.cxx_search.specs.Searches.{is_public_in, the_only}
 use Rattle.path_model.specs.Uses.{is_shared}
 use Rattle.abi_sound.specs.Places.{Places}
 

@@ -6,8 +6,8 @@
 ghost use Rattle.std.specs.Prelude.{◌≡◌, ◌<◌, IfOk, Contains, filter, length};
 ghost use Rattle.std.specs.List.{list_any};
 ghost use Rattle.cxx_subobject.specs.declared.Subobject.{Subobject};
-ghost use Rattle.cxx_subobject.specs.Subobjects.{IsSubobject, whole_of};
-ghost use Rattle.cxx_search.specs.Searches.{is_of_class, is_public_in, the_only};
+ghost use Rattle.cxx_subobject.specs.Subobjects.{IsSubobject, whole_of, is_of_class};
+ghost use Rattle.cxx_search.specs.Searches.{is_public_in, the_only};
 ghost use Rattle.path_model.specs.Uses.{is_shared};
 ghost use Rattle.abi_sound.specs.Places.{places_of};
 ghost use Rattle.code_statements.specs.Hints.{sources, plain_place, hint_by, hint_of};

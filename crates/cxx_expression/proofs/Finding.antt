@@ -12,7 +12,7 @@ use Rattle.cxx_hierarchy.specs.Classes.{Class, Classes, class_at, class_names, b
 use Rattle.cxx_hierarchy.specs.Hierarchies.{IsHierarchy}
 use Rattle.cxx_hierarchy.specs.NameTables.{Text, place_in}
 use Rattle.cxx_subobject.specs.declared.Subobject.{Subobject}
-use Rattle.cxx_subobject.specs.Subobjects.{whole_of, base_subobject, class_of}
+use Rattle.cxx_subobject.specs.Subobjects.{whole_of, base_subobject, class_of, is_of_class}
 use Rattle.cxx_subobject.specs.Preorder.{preorder, tree, firsts}
 use Rattle.cxx_lookup.specs.declared.Found.{Found}
 use Rattle.cxx_lookup.specs.declared.Found.TheVariants.{Member as AMember, Function as AFunction}
@@ -20,7 +20,7 @@ use Rattle.cxx_lookup.specs.declared.LookupFault.TheVariants.{NoSuchMember}
 use Rattle.cxx_lookup.specs.declared.BaseFault.TheVariants.{NotBase as NoBase}
 use Rattle.cxx_lookup.specs.Lookup.{IsFound as IsNameFound, TwoRemain, IsLookupFault}
 use Rattle.cxx_lookup.specs.UniqueBase.{IsUniqueBase, HasTwoBases, IsBaseFault}
-use Rattle.cxx_lookup.specs.Findings.{finds_none, finds_one, finds_more, found_among, declared_as, declaration_at, is_of_sought_class, the_only_found}
+use Rattle.cxx_lookup.specs.Findings.{finds_none, finds_one, finds_more, found_among, declared_as, declaration_at, the_only_found}
 use Rattle.cxx_overrider.specs.declared.FunctionId.{FunctionId}
 use Rattle.cxx_overrider.specs.Virtuals.{is_virtual, function_ids_in as declared_by}
 use Rattle.cxx_search.specs.Searches.{is_abstract, has_pure_in, is_pure_overrider, final_in}
@@ -85,16 +85,16 @@ missing_beyond h c name none =
     ap (λ (list : List Subobject). as_looked (found_among h (filter_map (declaration_at h name) list))) (lone h c none)
     ∙ ap (λ (list : List Found). as_looked (found_among h list)) (nothing_listed (declaration_at h name) (whole_of c) empty)
 
-pub itself_beyond : (h : Classes) (c d : ClassId) → class_at h c ≡ None → nat_eq c.0 d.0 ≡ true → base_up h c d ≡ ABase (whole_of c)
+pub itself_beyond : (h : Classes) (c d : ClassId) → class_at h c ≡ None → nat_eq d.0 c.0 ≡ true → base_up h c d ≡ ABase (whole_of c)
 unfolding base_up
 itself_beyond h c d none same =
-    ap (λ (list : List Subobject). as_based (the_only_found (filter (is_of_sought_class d) list))) (lone h c none)
+    ap (λ (list : List Subobject). as_based (the_only_found (filter (is_of_class d) list))) (lone h c none)
     ∙ ap (λ (b : Bool). as_based (the_only_found (cond b (whole_of c ∷ []) []))) same
 
-pub other_beyond : (h : Classes) (c d : ClassId) → class_at h c ≡ None → nat_eq c.0 d.0 ≡ false → base_up h c d ≡ NotBase
+pub other_beyond : (h : Classes) (c d : ClassId) → class_at h c ≡ None → nat_eq d.0 c.0 ≡ false → base_up h c d ≡ NotBase
 unfolding base_up
 other_beyond h c d none differ =
-    ap (λ (list : List Subobject). as_based (the_only_found (filter (is_of_sought_class d) list))) (lone h c none)
+    ap (λ (list : List Subobject). as_based (the_only_found (filter (is_of_class d) list))) (lone h c none)
     ∙ ap (λ (b : Bool). as_based (the_only_found (cond b (whole_of c ∷ []) []))) differ
 
 pub plain_beyond : (h : Classes) (c : ClassId) → class_at h c ≡ None → is_polymorphic h c ≡ false

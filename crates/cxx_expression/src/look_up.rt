@@ -93,7 +93,7 @@ fn lone_base(alloc: Global, h: &Hierarchy, c: ClassId, d: ClassId) -> Result<Bas
     requires unknown { length h.now ≤ c.0 }
     ensures { IfOk result (λ based. base_up h.now c d ≡ based) }
 {
-    if c.0 != d.0 {
+    if d.0 != c.0 {
         return Ok(Based::NotBase);
     }
     let mut path = Sequence::new(alloc);

@@ -7,11 +7,10 @@ use Rattle.cxx_hierarchy.specs.declared.records.ClassId.{ClassId}
 use Rattle.cxx_hierarchy.specs.Classes.{Classes}
 use Rattle.cxx_hierarchy.specs.Hierarchies.{IsHierarchy}
 use Rattle.cxx_subobject.specs.declared.Subobject.{Subobject}
-use Rattle.cxx_subobject.specs.Subobjects.{whole_of, class_of}
+use Rattle.cxx_subobject.specs.Subobjects.{whole_of, class_of, is_of_class, IsOfClass}
 use Rattle.cxx_subobject.specs.Preorder.{tree, preorder}
 use Rattle.cxx_subobject.proofs.TreeLemmas.{preorder_has, has_preorder, firsts_once}
-use Rattle.cxx_lookup.specs.UniqueBase.{IsOfClass}
-use Rattle.cxx_lookup.specs.Findings.{Finding, finds_none, finds_one, finds_more, is_of_sought_class, the_only_found, base_by, IsBaseFinding}
+use Rattle.cxx_lookup.specs.Findings.{Finding, finds_none, finds_one, finds_more, the_only_found, base_by, IsBaseFinding}
 use Rattle.cxx_lookup.proofs.OfClass.{tells_class, told_class}
 
 -- the list has those of the class, each once
@@ -25,15 +24,15 @@ only_finding h c d [] are = λ s is. are.listed s is
 only_finding h c d (one ∷ []) are = record { is = are.valid one (inl refl); only = λ s is. ⊎_elim (λ e. sym e) (λ none. absurd none) (are.listed s is) }
 only_finding h c d (one ∷ other ∷ rest) are = record { one = one; other = other; is_one = are.valid one (inl refl); is_other = are.valid other (inr (inl refl)); differ = λ e. are.once.0 (inl (sym e)) }
 
-of_class : (h : Classes) → IsHierarchy h → (c d : ClassId) → AreOfClass h c d (filter (is_of_sought_class d) (preorder h c))
+of_class : (h : Classes) → IsHierarchy h → (c d : ClassId) → AreOfClass h c d (filter (is_of_class d) (preorder h c))
 of_class h keeps c d = record {
-  valid = λ s has. let k = has_filter (is_of_sought_class d) (preorder h c) s has in record { valid = has_preorder h c s k.0; class = tells_class d s k.1 };
-  listed = λ s is. filter_has (is_of_sought_class d) (preorder h c) s (preorder_has h c keeps s is.valid) (told_class d s is.class);
-  once = once_filter (is_of_sought_class d) (preorder h c) (firsts_once (tree h (c.0 + 1) c (whole_of c)));
+  valid = λ s has. let k = has_filter (is_of_class d) (preorder h c) s has in record { valid = has_preorder h c s k.0; class = tells_class d s k.1 };
+  listed = λ s is. filter_has (is_of_class d) (preorder h c) s (preorder_has h c keeps s is.valid) (told_class d s is.class);
+  once = once_filter (is_of_class d) (preorder h c) (firsts_once (tree h (c.0 + 1) c (whole_of c)));
 }
 
 pub base_is : (h : Classes) → IsHierarchy h → (c d : ClassId) → IsBaseFinding h c d (base_by h c d)
-base_is h keeps c d = only_finding h c d (filter (is_of_sought_class d) (preorder h c)) (of_class h keeps c d)
+base_is h keeps c d = only_finding h c d (filter (is_of_class d) (preorder h c)) (of_class h keeps c d)
 
 -- two findings are one
 same_base : (h : Classes) (c d : ClassId) (f g : Finding Subobject) → IsBaseFinding h c d f → IsBaseFinding h c d g → f ≡ g

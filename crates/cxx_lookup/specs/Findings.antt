@@ -7,7 +7,7 @@ use Rattle.cxx_hierarchy.specs.declared.records.Member.{Member as MemberRecord}
 use Rattle.cxx_hierarchy.specs.declared.records.Function.{Function as FunctionRecord}
 use Rattle.cxx_hierarchy.specs.Classes.{Classes, members_of, functions_of}
 use Rattle.cxx_subobject.specs.declared.Subobject.{Subobject}
-use Rattle.cxx_subobject.specs.Subobjects.{class_of, join, same_subobject}
+use Rattle.cxx_subobject.specs.Subobjects.{class_of, is_of_class, join, same_subobject}
 use Rattle.cxx_subobject.specs.Preorder.{preorder}
 use Rattle.cxx_lookup.specs.declared.Found.{Found}
 use Rattle.cxx_lookup.specs.declared.Found.TheVariants.{Member, Function}
@@ -65,14 +65,6 @@ found_among h all = among all (filter (contains_all_found h all) all)
 abbrev pub found_by : Classes → ClassId → List ℕ → Finding Found
 found_by h c name = found_among h (declarations_of h c name)
 
-abbrev pub is_sought_class : ClassId → Option ClassId → Bool
-is_sought_class d None = false
-is_sought_class d (Some c) = nat_eq c.0 d.0
-
--- the test that s is of class d
-abbrev pub is_of_sought_class : ClassId → Subobject → Bool
-is_of_sought_class d s = is_sought_class d (class_of s)
-
 abbrev pub the_only_found : List Subobject → Finding Subobject
 the_only_found [] = finds_none
 the_only_found (one ∷ []) = finds_one one
@@ -80,7 +72,7 @@ the_only_found (one ∷ other ∷ rest) = finds_more
 
 -- the base of class d that c has
 abbrev pub base_by : Classes → ClassId → ClassId → Finding Subobject
-base_by h c d = the_only_found (filter (is_of_sought_class d) (preorder h c))
+base_by h c d = the_only_found (filter (is_of_class d) (preorder h c))
 
 -- what a finding says of a name
 abbrev pub IsNameFinding : Classes → ClassId → List ℕ → Finding Found → Type 0

@@ -3,14 +3,9 @@ use Rattle.std.specs.Prelude.{◌≡◌, Some}
 use Rattle.cxx_hierarchy.specs.declared.records.ClassId.{ClassId}
 use Rattle.cxx_hierarchy.specs.Classes.{Classes}
 use Rattle.cxx_subobject.specs.declared.Subobject.{Subobject}
-use Rattle.cxx_subobject.specs.Subobjects.{IsSubobject, class_of}
+use Rattle.cxx_subobject.specs.Subobjects.{IsOfClass}
 use Rattle.cxx_lookup.specs.declared.BaseFault.{BaseFault}
 use Rattle.cxx_lookup.specs.declared.BaseFault.TheVariants.{AmbiguousBase, NotBase, NoMemory}
-
--- s is a subobject of c, and of the class of the base
-pub record IsOfClass (h : Classes) (c base : ClassId) (s : Subobject) : Type 0 where
-  pub valid : IsSubobject h c s
-  pub class : class_of s ≡ Some base
 
 -- s is the one subobject of c that is of the class of the base
 pub record IsUniqueBase (h : Classes) (c base : ClassId) (s : Subobject) : Type 0 where

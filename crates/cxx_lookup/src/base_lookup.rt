@@ -2,7 +2,7 @@
 
 ghost use Rattle.std.specs.Prelude.{◌≡◌, ◌<◌, IfOk, IfErr, position, length};
 ghost use Rattle.cxx_lookup.specs.UniqueBase.{IsUniqueBase, IsBaseFault};
-ghost use Rattle.cxx_lookup.specs.Findings.{is_of_sought_class};
+ghost use Rattle.cxx_subobject.specs.Subobjects.{is_of_class};
 
 use crate::BaseFault;
 use cxx_hierarchy::{ClassId, Hierarchy};
@@ -11,17 +11,17 @@ use std::alloc::Global;
 
 /// Whether a subobject is of a class.
 fn is_of_class(s: &Subobject, d: ClassId) -> bool
-    ensures { result ≡ is_of_sought_class d s.now }
+    ensures { result ≡ is_of_class d s.now }
 {
     match class_of(s) {
         None => false,
-        Some(c) => c.0 == d.0,
+        Some(c) => d.0 == c.0,
     }
 }
 
 /// The place of the first subobject of a class in a list.
 fn first_of_class(list: &[Subobject], d: ClassId) -> Option<usize>
-    ensures { result ≡ position (is_of_sought_class d) list.now }
+    ensures { result ≡ position (is_of_class d) list.now }
 {
     list.iter().position(|s| is_of_class(s, d))
 }

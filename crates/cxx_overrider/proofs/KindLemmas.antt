@@ -6,13 +6,13 @@ use Rattle.cxx_hierarchy.specs.declared.records.Base.{Base}
 use Rattle.cxx_hierarchy.specs.Classes.{Classes, bases_of}
 use Rattle.cxx_hierarchy.specs.Hierarchies.{IsHierarchy}
 use Rattle.cxx_subobject.specs.declared.Subobject.{Subobject}
-use Rattle.cxx_subobject.specs.Subobjects.{whole, class_of, whole_of, join}
+use Rattle.cxx_subobject.specs.Subobjects.{whole, class_of, whole_of, join, IsOfClass}
 use Rattle.cxx_subobject.proofs.PathLemmas.{same_id, smaller}
 use Rattle.cxx_overrider.specs.declared.places.Place.TheVariants.{Itself}
 use Rattle.cxx_overrider.specs.declared.kinds.BaseKind.{BaseKind}
 use Rattle.cxx_overrider.specs.declared.kinds.BaseKind.TheVariants.{NotBase, Unique, Ambiguous}
 use Rattle.cxx_overrider.specs.invariants.Places.{place_of_subobject, lifted, base_of, IsThrough}
-use Rattle.cxx_overrider.specs.invariants.Kinds.{IsPartOfClass, IsPartThrough, AreTwo, Counts, AreKinds, IsKindRow, IsMerged, lifted_kind}
+use Rattle.cxx_overrider.specs.invariants.Kinds.{IsPartThrough, AreTwo, Counts, AreKinds, IsKindRow, IsMerged, lifted_kind}
 use Rattle.cxx_overrider.proofs.Lists.{or_front, or_last, or_past}
 use Rattle.foundation.proofs.Places.{contains_at, place_of as contains_get}
 use Rattle.std.proofs.lemmas.Option.{slice_get_within}
@@ -44,13 +44,13 @@ pub record IsPartOf (h : Classes) (c d : ClassId) (base : Base ClassId) (s : Sub
   pub through : IsThrough h c base s
   pub class : class_of s ≡ Some d
 
-part_class : (h : Classes) (c d : ClassId) (base : Base ClassId) (s : Subobject) → (k : IsPartOf h c d base s) → IsPartOfClass h base.class d k.through.part
+part_class : (h : Classes) (c d : ClassId) (base : Base ClassId) (s : Subobject) → (k : IsPartOf h c d base s) → IsOfClass h base.class d k.through.part
 part_class h c d base s k = record { valid = k.through.valid; class = sym (through_class h c base s k.through) ∙ k.class }
 
-abbrev part_joined : (h : Classes) (c d : ClassId) (base : Base ClassId) (part : Subobject) → IsPartOfClass h base.class d part → IsPartOf h c d base (join (base_of c base) part)
+abbrev part_joined : (h : Classes) (c d : ClassId) (base : Base ClassId) (part : Subobject) → IsOfClass h base.class d part → IsPartOf h c d base (join (base_of c base) part)
 part_joined h c d base part k = let t = through_join h c base part k.valid in record { through = t; class = through_class h c base (join (base_of c base) part) t ∙ k.class }
 
-pub counts_lifted : (h : Classes) → IsHierarchy h → (c d : ClassId) (base : Base ClassId) (k : BaseKind) → Counts (IsPartOfClass h base.class d) k → Counts (IsPartOf h c d base) (lifted_kind base k)
+pub counts_lifted : (h : Classes) → IsHierarchy h → (c d : ClassId) (base : Base ClassId) (k : BaseKind) → Counts (IsOfClass h base.class d) k → Counts (IsPartOf h c d base) (lifted_kind base k)
 counts_lifted h keeps c d base NotBase none = λ s p. none p.through.part (part_class h c d base s p)
 counts_lifted h keeps c d base (Unique place) k =
     let s = join (base_of c base) k.one in
@@ -73,7 +73,7 @@ pub none_through : (h : Classes) (c d : ClassId) → Counts (IsPartThrough h c d
 none_through h c d = λ s k. let lt = k.below in absurd (omega arith)
 
 -- one more base
-pub counts_next : (h : Classes) → IsHierarchy h → (c d : ClassId) (number : ℕ) (base : Base ClassId) (so_far more k : BaseKind) → slice_get (bases_of h c) number ≡ Some base → Counts (IsPartThrough h c d number) so_far → Counts (IsPartOfClass h base.class d) more → IsMerged so_far (lifted_kind base more) k → Counts (IsPartThrough h c d (number + 1)) k
+pub counts_next : (h : Classes) → IsHierarchy h → (c d : ClassId) (number : ℕ) (base : Base ClassId) (so_far more k : BaseKind) → slice_get (bases_of h c) number ≡ Some base → Counts (IsPartThrough h c d number) so_far → Counts (IsOfClass h base.class d) more → IsMerged so_far (lifted_kind base more) k → Counts (IsPartThrough h c d (number + 1)) k
 counts_next h keeps c d number base so_far more k listed counts each merged =
     counts_merged (IsPartThrough h c d number) (IsPartOf h c d base) (IsPartThrough h c d (number + 1)) so_far (lifted_kind base more) k
     (λ s p. let lt = p.below in record { base = p.base; number = p.number; below = omega arith; listed = p.listed; through = p.through; class = p.class })
@@ -90,8 +90,8 @@ counts_next h keeps c d number base so_far more k listed counts each merged =
     counts (counts_lifted h keeps c d base more each) merged
 
 -- a base of another class than c lies in a direct base
-pub counts_all : (h : Classes) → IsHierarchy h → (c d : ClassId) (k : BaseKind) → d.0 < c.0 → Counts (IsPartThrough h c d (length (bases_of h c))) k → Counts (IsPartOfClass h c d) k
-counts_all h keeps c d k lt = counts_same (IsPartThrough h c d (length (bases_of h c))) (IsPartOfClass h c d) k
+pub counts_all : (h : Classes) → IsHierarchy h → (c d : ClassId) (k : BaseKind) → d.0 < c.0 → Counts (IsPartThrough h c d (length (bases_of h c))) k → Counts (IsOfClass h c d) k
+counts_all h keeps c d k lt = counts_same (IsPartThrough h c d (length (bases_of h c))) (IsOfClass h c d) k
     (λ s p. record { valid = through_valid h c p.base s (contains_at (bases_of h c) p.number p.base p.listed) p.through; class = p.class })
     (λ s p. ⊎_elim
     (λ e. let same : Some c ≡ Some d = sym (ap class_of e) ∙ p.class in let one : c.0 ≡ d.0 = let f : c ≡ d = cc in ap (λ (x : ClassId). x.0) f in absurd (omega arith))
@@ -100,24 +100,24 @@ counts_all h keeps c d k lt = counts_same (IsPartThrough h c d (length (bases_of
 
 -- rows
 pub record CountsBelow (h : Classes) (c : ClassId) (row : List BaseKind) : Type 0 where
-  pub each : (d : ClassId) → d.0 < length row → Counts (IsPartOfClass h c d) (get_or row d.0 NotBase)
+  pub each : (d : ClassId) → d.0 < length row → Counts (IsOfClass h c d) (get_or row d.0 NotBase)
 
 pub below_none : (h : Classes) (c : ClassId) → CountsBelow h c []
 below_none h c = record { each = λ d lt. absurd (omega arith) }
 
-pub below_more : (h : Classes) (c d : ClassId) (row : List BaseKind) (k : BaseKind) → CountsBelow h c row → length row ≡ d.0 → Counts (IsPartOfClass h c d) k → CountsBelow h c (row ++ k ∷ [])
+pub below_more : (h : Classes) (c d : ClassId) (row : List BaseKind) (k : BaseKind) → CountsBelow h c row → length row ≡ d.0 → Counts (IsOfClass h c d) k → CountsBelow h c (row ++ k ∷ [])
 below_more h c d row k has size counts = record {
   each = λ e lt. ⊎_elim
-      (λ small. subst (λ (x : BaseKind). Counts (IsPartOfClass h c e) x) (sym (or_front row (k ∷ []) e.0 NotBase small)) (has.each e small))
+      (λ small. subst (λ (x : BaseKind). Counts (IsOfClass h c e) x) (sym (or_front row (k ∷ []) e.0 NotBase small)) (has.each e small))
       (λ past. let at : e.0 ≡ length row = let l : length (row ++ k ∷ []) ≡ length row + 1 = length-append row (k ∷ []) in omega arith in
       let same : d ≡ e = same_id d e (omega arith) in
       let value : get_or (row ++ k ∷ []) e.0 NotBase ≡ k = ap (λ n. get_or (row ++ k ∷ []) n NotBase) at ∙ or_last row k NotBase in
-      subst (λ (x : BaseKind). Counts (IsPartOfClass h c e) x) (sym value) (subst (λ (x : ClassId). Counts (IsPartOfClass h c x) k) same counts))
+      subst (λ (x : BaseKind). Counts (IsOfClass h c e) x) (sym value) (subst (λ (x : ClassId). Counts (IsOfClass h c x) k) same counts))
       (cases_lt e.0 (length row));
 }
 
 -- the class itself is among itself and its bases once
-pub counts_itself : (h : Classes) → IsHierarchy h → (c : ClassId) → Counts (IsPartOfClass h c c) (Unique Itself)
+pub counts_itself : (h : Classes) → IsHierarchy h → (c : ClassId) → Counts (IsOfClass h c c) (Unique Itself)
 counts_itself h keeps c = record {
   one = whole_of c;
   is = record { valid = whole [] tt; class = refl };
@@ -131,17 +131,17 @@ no_kinds h = record { each = λ c d lt. absurd (omega arith) }
 pub kinds_more : (h : Classes) → IsHierarchy h → (c : ClassId) (rows : List (List BaseKind)) (row : List BaseKind) → AreKinds h rows → length rows ≡ c.0 → IsKindRow h c row → AreKinds h (rows ++ row ∷ [])
 kinds_more h keeps c rows row has size is = record {
   each = λ x d lt. ⊎_elim
-      (λ small. subst (λ (r : List BaseKind). Counts (IsPartOfClass h x d) (get_or r d.0 NotBase)) (sym (or_front rows (row ∷ []) x.0 [] small)) (has.each x d small))
+      (λ small. subst (λ (r : List BaseKind). Counts (IsOfClass h x d) (get_or r d.0 NotBase)) (sym (or_front rows (row ∷ []) x.0 [] small)) (has.each x d small))
       (λ past. let at : x.0 ≡ length rows = let l : length (rows ++ row ∷ []) ≡ length rows + 1 = length-append rows (row ∷ []) in omega arith in
       let same : c ≡ x = same_id c x (omega arith) in
       let value : get_or (rows ++ row ∷ []) x.0 [] ≡ row = ap (λ n. get_or (rows ++ row ∷ []) n []) at ∙ or_last rows row [] in
-      subst (λ (r : List BaseKind). Counts (IsPartOfClass h x d) (get_or r d.0 NotBase)) (sym value) (subst (λ (y : ClassId). Counts (IsPartOfClass h y d) (get_or row d.0 NotBase)) same (in_row d (cases_lt d.0 (length row)))))
+      subst (λ (r : List BaseKind). Counts (IsOfClass h x d) (get_or r d.0 NotBase)) (sym value) (subst (λ (y : ClassId). Counts (IsOfClass h y d) (get_or row d.0 NotBase)) same (in_row d (cases_lt d.0 (length row)))))
       (cases_lt x.0 (length rows));
 }
   where
-    in_row : (d : ClassId) → (d.0 < length row) ⊎ (length row ≤ d.0) → Counts (IsPartOfClass h c d) (get_or row d.0 NotBase)
+    in_row : (d : ClassId) → (d.0 < length row) ⊎ (length row ≤ d.0) → Counts (IsOfClass h c d) (get_or row d.0 NotBase)
     in_row d a = ⊎_elim (λ lt. is.each d lt)
-        (λ ge. subst (λ (k : BaseKind). Counts (IsPartOfClass h c d) k) (sym (or_past row d.0 NotBase (λ lt. omega arith)))
+        (λ ge. subst (λ (k : BaseKind). Counts (IsOfClass h c d) k) (sym (or_past row d.0 NotBase (λ lt. omega arith)))
         (λ s p. let n = is.size in ⊎_elim (λ e. let same : Some c ≡ Some d = sym (ap class_of e) ∙ p.class in let one : c.0 ≡ d.0 = let f : c ≡ d = cc in ap (λ (x : ClassId). x.0) f in omega arith) (λ lt. omega arith) (smaller h keeps c d s p.valid p.class)))
         a
 

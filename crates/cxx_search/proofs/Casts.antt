@@ -7,12 +7,12 @@ use Rattle.cxx_hierarchy.specs.declared.records.ClassId.{ClassId}
 use Rattle.cxx_hierarchy.specs.Classes.{Classes}
 use Rattle.cxx_hierarchy.specs.Hierarchies.{IsHierarchy}
 use Rattle.cxx_subobject.specs.declared.Subobject.{Subobject}
-use Rattle.cxx_subobject.specs.Subobjects.{IsSubobject, class_of}
+use Rattle.cxx_subobject.specs.Subobjects.{IsSubobject, class_of, is_class, is_of_class}
 use Rattle.cxx_subobject.proofs.PathLemmas.{same_id, class_there}
 use Rattle.foundation.proofs.Truth.{split}
 use Rattle.foundation.proofs.Members.{Has, EachOnce}
 use Rattle.foundation.proofs.Chosen.{has_filter, filter_has, once_filter}
-use Rattle.cxx_search.specs.Searches.{subobjects_under, is_within, is_public_in, is_class, is_of_class, the_only, where_it, targets, cast_down, cast_across, or_else, cast_in}
+use Rattle.cxx_search.specs.Searches.{subobjects_under, is_within, is_public_in, the_only, where_it, targets, cast_down, cast_across, or_else, cast_in}
 use Rattle.foundation.specs.Only.{IsOnly}
 use Rattle.cxx_search.specs.Casts.{IsTarget, IsTargetOver, CastsDown, CastsAcross, IsCast, leads_down, leads_across, leads_nowhere}
 use Rattle.cxx_search.proofs.Within.{parts_inside, inside_parts, parts_once, within_inside, inside_within}

@@ -5,7 +5,7 @@ use Rattle.cxx_hierarchy.specs.declared.records.ClassId.{ClassId}
 use Rattle.cxx_hierarchy.specs.declared.records.Base.{Base}
 use Rattle.cxx_hierarchy.specs.Classes.{Classes, bases_of, functions_of}
 use Rattle.cxx_subobject.specs.declared.Subobject.{Subobject}
-use Rattle.cxx_subobject.specs.Subobjects.{class_of, join, base_subobject, same_subobject, whole_of}
+use Rattle.cxx_subobject.specs.Subobjects.{class_of, is_of_class, join, base_subobject, same_subobject, whole_of}
 use Rattle.cxx_subobject.specs.Preorder.{preorder}
 use Rattle.cxx_subobject.specs.VirtualBases.{virtual_bases}
 use Rattle.cxx_overrider.specs.declared.FunctionId.{FunctionId}
@@ -44,14 +44,6 @@ public_parts h x (Some c) = public_tree h (c.0 + 1) c x
 -- public edges alone lead from x to y (ISO C++03 11.2)
 abbrev pub is_public_in : Classes → Subobject → Subobject → Bool
 is_public_in h x y = list_any (same_subobject y) (public_parts h x (class_of x))
-
-abbrev pub is_class : ClassId → Option ClassId → Bool
-is_class c None = false
-is_class c (Some d) = nat_eq c.0 d.0
-
--- the class of the subobject is c
-abbrev pub is_of_class : ClassId → Subobject → Bool
-is_of_class c s = is_class c (class_of s)
 
 -- the functions of the name and parameters of f that the class of t declares
 abbrev pub overriders_in : Classes → FunctionId → Subobject → Option ClassId → List Overrider

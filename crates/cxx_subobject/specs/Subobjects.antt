@@ -1,5 +1,5 @@
 -- The inheritance subobjects of a class, as paths (ISO C++03 10.1; Rossie and Friedman).
-use Rattle.std.specs.Prelude.{Bool, true, false, if◌then◌else◌, nat_eq, ◌&&◌, Option, Some, None, List, [], ◌∷◌, ◌++◌}
+use Rattle.std.specs.Prelude.{◌≡◌, Bool, true, false, if◌then◌else◌, nat_eq, ◌&&◌, Option, Some, None, List, [], ◌∷◌, ◌++◌}
 use Rattle.cxx_hierarchy.specs.declared.records.ClassId.{ClassId}
 use Rattle.cxx_hierarchy.specs.declared.records.Base.{Base}
 use Rattle.cxx_hierarchy.specs.Classes.{Classes}
@@ -49,6 +49,19 @@ class_of_path (c ∷ path) = Some (last_of c path)
 -- the class of a subobject: the last one of its path
 abbrev pub class_of : Subobject → Option ClassId
 class_of s = class_of_path s.path
+
+abbrev pub is_class : ClassId → Option ClassId → Bool
+is_class c None = false
+is_class c (Some d) = nat_eq c.0 d.0
+
+-- the class of the subobject is c
+abbrev pub is_of_class : ClassId → Subobject → Bool
+is_of_class c s = is_class c (class_of s)
+
+-- s is a subobject of c, and of class d
+pub record IsOfClass (h : Classes) (c d : ClassId) (s : Subobject) : Type 0 where
+  pub valid : IsSubobject h c s
+  pub class : class_of s ≡ Some d
 
 abbrev pub tail_of : List ClassId → List ClassId
 tail_of [] = []

@@ -12,10 +12,9 @@ use Rattle.cxx_hierarchy.specs.Classes.{Classes}
 use Rattle.cxx_hierarchy.specs.Hierarchies.{IsHierarchy}
 use Rattle.cxx_hierarchy.specs.NameTables.{Text}
 use Rattle.cxx_subobject.specs.declared.Subobject.{Subobject}
-use Rattle.cxx_subobject.specs.Subobjects.{class_of as class_of_subobject, whole_of}
+use Rattle.cxx_subobject.specs.Subobjects.{class_of as class_of_subobject, whole_of, IsOfClass}
 use Rattle.cxx_subobject.proofs.PathLemmas.{same_id}
 use Rattle.cxx_lookup.specs.Findings.{Finding, finds_none, finds_one, finds_more, base_by, IsBaseFinding}
-use Rattle.cxx_lookup.specs.UniqueBase.{IsOfClass}
 use Rattle.cxx_lookup.proofs.BaseFindings.{base_is}
 use Rattle.cxx_syntax.specs.declared.tree.Spot.{Spot}
 use Rattle.cxx_syntax.specs.declared.tree.PointerText.{PointerText}

@@ -10,10 +10,10 @@ use Rattle.cxx_hierarchy.specs.declared.records.ValueType.TheVariants.{Pointer a
 use Rattle.cxx_hierarchy.specs.declared.records.FieldType.TheVariants.{Object}
 use Rattle.cxx_hierarchy.specs.Classes.{Classes}
 use Rattle.cxx_subobject.specs.declared.Subobject.{Subobject}
-use Rattle.cxx_subobject.specs.Subobjects.{class_of, join, same_subobject}
+use Rattle.cxx_subobject.specs.Subobjects.{class_of, join, same_subobject, is_of_class}
 use Rattle.cxx_subobject.specs.Locations.{ObjectPart}
 use Rattle.cxx_subobject.proofs.InsideLemmas.{join_class}
-use Rattle.cxx_search.specs.Searches.{is_within, is_of_class, is_public_in, subobjects_under, the_only, where_it, targets, cast_down, cast_across, or_else, cast_in, preorder_of}
+use Rattle.cxx_search.specs.Searches.{is_within, is_public_in, subobjects_under, the_only, where_it, targets, cast_down, cast_across, or_else, cast_in, preorder_of}
 use Rattle.cxx_search.proofs.Casts.{of_class}
 use Rattle.cxx_program.specs.declared.statement.TypedCast.{TypedCast}
 use Rattle.cxx_program.specs.declared.statement.TypedPlace.{TypedPlace}

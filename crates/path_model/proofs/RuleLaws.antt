@@ -14,7 +14,7 @@ use Rattle.cxx_hierarchy.specs.Scalars.{is_signed, count_of, below_zero, IsInRan
 use Rattle.cxx_hierarchy.specs.Classes.{Classes}
 use Rattle.cxx_hierarchy.specs.Hierarchies.{IsHierarchy}
 use Rattle.cxx_subobject.specs.declared.Subobject.{Subobject}
-use Rattle.cxx_subobject.specs.Subobjects.{IsSubobject, class_of, join, same_subobject, whole_of}
+use Rattle.cxx_subobject.specs.Subobjects.{IsSubobject, class_of, join, same_subobject, whole_of, is_of_class}
 use Rattle.cxx_subobject.specs.Preorder.{preorder}
 use Rattle.cxx_subobject.specs.Inside.{IsInside}
 use Rattle.cxx_subobject.specs.Locations.{Step, ObjectPart}
@@ -23,7 +23,7 @@ use Rattle.cxx_overrider.specs.declared.FunctionId.{FunctionId}
 use Rattle.cxx_overrider.specs.declared.Overrider.{Overrider}
 use Rattle.cxx_overrider.specs.Functions.{is_pure}
 use Rattle.cxx_overrider.specs.Overriding.{IsFinalIn}
-use Rattle.cxx_search.specs.Searches.{is_within, is_of_class, final_in, is_pure_overrider, preorder_of}
+use Rattle.cxx_search.specs.Searches.{is_within, final_in, is_pure_overrider, preorder_of}
 use Rattle.cxx_search.proofs.Within.{within_inside, inside_within}
 use Rattle.cxx_search.proofs.Finals.{found_final, final_found}
 use Rattle.cxx_search.proofs.Finding.{finds_some}

@@ -13,7 +13,7 @@ use Rattle.cxx_hierarchy.specs.declared.records.ReturnType.TheVariants.{Value as
 use Rattle.cxx_hierarchy.specs.Classes.{Class, Classes, class_at, functions_in}
 use Rattle.cxx_hierarchy.specs.Hierarchies.{IsHierarchy}
 use Rattle.cxx_subobject.specs.declared.Subobject.{Subobject}
-use Rattle.cxx_subobject.specs.Subobjects.{IsSubobject, class_of, whole_of}
+use Rattle.cxx_subobject.specs.Subobjects.{IsSubobject, class_of, whole_of, is_class, is_of_class}
 use Rattle.cxx_subobject.specs.Inside.{IsInside}
 use Rattle.cxx_subobject.specs.Preorder.{preorder}
 use Rattle.cxx_subobject.proofs.PathLemmas.{same_id}
@@ -27,7 +27,7 @@ use Rattle.cxx_overrider.specs.Covariance.{Overrides, FitsReturn, IsOnlyBase}
 use Rattle.cxx_overrider.specs.Faults.{HasNoFault}
 use Rattle.cxx_overrider.proofs.Numbering.{same_function}
 use Rattle.cxx_overrider.proofs.ReturnLaws.{fits}
-use Rattle.cxx_search.specs.Searches.{is_class, is_of_class, final_in}
+use Rattle.cxx_search.specs.Searches.{final_in}
 use Rattle.cxx_search.proofs.Finding.{finds_some}
 use Rattle.cxx_search.proofs.Finals.{found_final}
 use Rattle.cxx_search.proofs.Casts.{of_class}

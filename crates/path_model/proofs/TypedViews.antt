@@ -9,12 +9,12 @@ use Rattle.cxx_hierarchy.specs.declared.records.ClassId.{ClassId}
 use Rattle.cxx_hierarchy.specs.Classes.{Classes}
 use Rattle.cxx_hierarchy.specs.Hierarchies.{IsHierarchy}
 use Rattle.cxx_subobject.specs.declared.Subobject.{Subobject}
-use Rattle.cxx_subobject.specs.Subobjects.{IsSubobject, whole, class_of, whole_of, join, same_subobject}
+use Rattle.cxx_subobject.specs.Subobjects.{IsSubobject, whole, class_of, whole_of, join, same_subobject, is_of_class}
 use Rattle.cxx_subobject.specs.Preorder.{preorder}
 use Rattle.cxx_subobject.specs.Locations.{Step, ObjectPart, IsOwner, IsPartOf}
 use Rattle.cxx_subobject.proofs.TreeLemmas.{has_preorder}
 use Rattle.cxx_subobject.proofs.InsideLemmas.{inside_valid}
-use Rattle.cxx_search.specs.Searches.{is_of_class, cast_in, preorder_of}
+use Rattle.cxx_search.specs.Searches.{cast_in, preorder_of}
 use Rattle.cxx_search.specs.Casts.{IsCast, leads_down, leads_across, leads_nowhere, IsTarget}
 use Rattle.cxx_search.proofs.Casts.{cast_is, of_class}
 use Rattle.path_plan.specs.Places.{part}

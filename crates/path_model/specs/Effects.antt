@@ -9,7 +9,7 @@ use Rattle.cxx_hierarchy.specs.declared.records.ReturnType.TheVariants.{Value as
 use Rattle.cxx_hierarchy.specs.Scalars.{wrapped}
 use Rattle.cxx_hierarchy.specs.Classes.{Classes}
 use Rattle.cxx_subobject.specs.declared.Subobject.{Subobject}
-use Rattle.cxx_subobject.specs.Subobjects.{class_of}
+use Rattle.cxx_subobject.specs.Subobjects.{class_of, is_of_class}
 use Rattle.cxx_subobject.specs.Preorder.{preorder}
 use Rattle.cxx_subobject.specs.Locations.{ObjectPart}
 use Rattle.cxx_overrider.specs.declared.FunctionId.{FunctionId}
@@ -40,7 +40,7 @@ use Rattle.path_plan.specs.Runs.{renewed}
 use Rattle.path_model.specs.declared.outs.Out.{Out}
 use Rattle.path_model.specs.declared.outs.Out.TheVariants.{Number as NumberOut, Pointer as PointerOut, TypeName as TypeNameOut, Dump as DumpOut, Call as CallOut}
 use Rattle.path_model.specs.Values.{Value, Unset, Number, Null, Pointer, Leaf, Objects, Sight, value_of_operand, converted_to, argument_value}
-use Rattle.cxx_search.specs.Searches.{is_of_class, final_in}
+use Rattle.cxx_search.specs.Searches.{final_in}
 use Rattle.path_model.specs.Places.{leaf_at, leaf_value, address_value, leaves_of}
 use Rattle.path_model.specs.Uses.{view_of, cast_value, receiver_value}
 use Rattle.path_model.specs.States.{Target, RunningBody, Frame, InBody, InPlan, ProgramState, owned_body, plan_bodies, with_objects, with_frames, at_statement, assigned, entered_body, sight}

@@ -10,7 +10,7 @@ use Rattle.cxx_hierarchy.specs.declared.records.FieldType.TheVariants.{Value as 
 use Rattle.cxx_hierarchy.specs.Classes.{Classes, members_of}
 use Rattle.cxx_hierarchy.specs.Declarations.{elements_of}
 use Rattle.cxx_subobject.specs.declared.Subobject.{Subobject}
-use Rattle.cxx_subobject.specs.Subobjects.{class_of, join, same_subobject, is_shared_root}
+use Rattle.cxx_subobject.specs.Subobjects.{class_of, join, same_subobject, is_shared_root, is_of_class}
 use Rattle.cxx_subobject.specs.Preorder.{preorder}
 use Rattle.cxx_subobject.specs.Locations.{Step, ObjectPart}
 use Rattle.cxx_overrider.specs.declared.FunctionId.{FunctionId}
@@ -34,7 +34,7 @@ use Rattle.path_plan.specs.Plans.{upto}
 use Rattle.path_plan.specs.Views.{view}
 use Rattle.path_model.specs.Values.{Value, Unset, Null, Pointer, Objects, Sight, value_of_operand, converted_to, to_base, inner_part}
 use Rattle.path_model.specs.Places.{passed_part, leaf_value, address_value, owner_class}
-use Rattle.cxx_search.specs.Searches.{is_within, is_of_class, cast_in, has_virtual_base, destructor_of, preorder_of}
+use Rattle.cxx_search.specs.Searches.{is_within, cast_in, has_virtual_base, destructor_of, preorder_of}
 
 pub data StatementUse : Type 0 where
   -- of a variable, parameter or leaf

@@ -11,14 +11,14 @@ use Rattle.cxx_hierarchy.specs.Classes.{Class, Classes, bases_in, class_by_numbe
 use Rattle.cxx_hierarchy.specs.VirtualBases.{IsDirectBase, HasVirtualBase, direct, further}
 use Rattle.cxx_hierarchy.specs.Hierarchies.{IsHierarchy}
 use Rattle.cxx_subobject.specs.declared.Subobject.{Subobject}
-use Rattle.cxx_subobject.specs.Subobjects.{IsSubobject, whole, shared, subobject, class_of, whole_of}
+use Rattle.cxx_subobject.specs.Subobjects.{IsSubobject, whole, shared, subobject, class_of, whole_of, is_of_class}
 use Rattle.cxx_subobject.specs.Inside.{IsInside}
 use Rattle.cxx_subobject.specs.Preorder.{preorder}
 use Rattle.cxx_subobject.proofs.InsideLemmas.{inside_itself, whole_joined}
 use Rattle.cxx_overrider.specs.declared.FunctionId.{FunctionId}
 use Rattle.cxx_overrider.specs.Functions.{signature_in, signature_of}
 use Rattle.cxx_overrider.specs.Overriding.{IsVirtual}
-use Rattle.cxx_search.specs.Searches.{is_within, is_of_class, final_in, cast_in}
+use Rattle.cxx_search.specs.Searches.{is_within, final_in, cast_in}
 use Rattle.cxx_search.proofs.Within.{inside_within}
 use Rattle.cxx_search.proofs.Casts.{is_cast, is_the_class}
 use Rattle.path_numbers.specs.Numbers.{subobject_number}

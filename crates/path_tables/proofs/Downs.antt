@@ -11,12 +11,11 @@ use Rattle.cxx_hierarchy.specs.Hierarchies.{IsHierarchy}
 use Rattle.cxx_subobject.specs.declared.Root.{Root}
 use Rattle.cxx_subobject.specs.declared.Root.TheVariants.{Whole, Shared}
 use Rattle.cxx_subobject.specs.declared.Subobject.{Subobject}
-use Rattle.cxx_subobject.specs.Subobjects.{Leads, IsSubobject, whole, shared, subobject, class_of, last_of, tail_of, join, join_at, same_subobject}
+use Rattle.cxx_subobject.specs.Subobjects.{Leads, IsSubobject, whole, shared, subobject, class_of, last_of, tail_of, join, join_at, same_subobject, is_of_class}
 use Rattle.cxx_subobject.specs.Preorder.{preorder}
 use Rattle.cxx_subobject.proofs.PathLemmas.{leads_rest}
 use Rattle.cxx_subobject.proofs.InsideLemmas.{join_valid}
 use Rattle.cxx_subobject.proofs.TreeLemmas.{preorder_has, has_preorder, subobject_same, same_itself}
-use Rattle.cxx_search.specs.Searches.{is_of_class}
 use Rattle.cxx_search.proofs.Finding.{finds_some}
 use Rattle.cxx_search.proofs.Casts.{of_class, is_the_class}
 use Rattle.path_numbers.specs.Numbers.{base_number, path_number, subobject_number}

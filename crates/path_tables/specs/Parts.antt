@@ -3,10 +3,9 @@ use Rattle.std.specs.Prelude.{◌≡◌, ℕ, ◌<◌, Bool, ◌&&◌, Option, S
 use Rattle.cxx_hierarchy.specs.declared.records.ClassId.{ClassId}
 use Rattle.cxx_hierarchy.specs.Classes.{Classes}
 use Rattle.cxx_subobject.specs.declared.Subobject.{Subobject}
-use Rattle.cxx_subobject.specs.Subobjects.{IsSubobject, join, same_subobject}
+use Rattle.cxx_subobject.specs.Subobjects.{IsSubobject, join, same_subobject, is_of_class}
 use Rattle.cxx_subobject.specs.Preorder.{preorder}
 use Rattle.cxx_overrider.specs.declared.Overrider.{Overrider}
-use Rattle.cxx_search.specs.Searches.{is_of_class}
 use Rattle.path_numbers.specs.Numbers.{subobject_number}
 use Rattle.path_tables.specs.declared.parts.PartList.{PartList}
 use Rattle.path_tables.specs.declared.finals.FinalAt.{FinalAt}

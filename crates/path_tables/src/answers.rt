@@ -4,7 +4,7 @@ ghost use Rattle.std.specs.Prelude.{◌≡◌, Some, IfOk, get_or, find};
 ghost use Rattle.cxx_hierarchy.specs.declared.records.ClassId.{ClassId};
 ghost use Rattle.cxx_subobject.specs.declared.Subobject.{Subobject};
 ghost use Rattle.cxx_subobject.specs.Preorder.{preorder};
-ghost use Rattle.cxx_search.specs.Searches.{is_of_class};
+ghost use Rattle.cxx_subobject.specs.Subobjects.{is_of_class};
 ghost use Rattle.path_tables.specs.Parts.{IsNumbered, IsPartList, number_where_found, derived_in};
 ghost use Rattle.path_tables.specs.Worlds.{IsWorld};
 ghost use Rattle.path_tables.specs.Kept.{IsCastAnswer, IsFinalAnswer, IsWithinAnswer, IsDownAnswer};

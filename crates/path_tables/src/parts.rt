@@ -3,9 +3,9 @@
 ghost use Rattle.std.specs.Prelude.{◌≡◌, ◌<◌, [], ◌∷◌, Contains, IfOk, MatchOption, length, map};
 ghost use Rattle.cxx_hierarchy.specs.declared.records.ClassId.{ClassId};
 ghost use Rattle.cxx_subobject.specs.declared.Subobject.{Subobject};
-ghost use Rattle.cxx_subobject.specs.Subobjects.{IsSubobject, whole_of};
+ghost use Rattle.cxx_subobject.specs.Subobjects.{IsSubobject, whole_of, is_of_class};
 ghost use Rattle.cxx_subobject.specs.Parts.{IsWithinLimits};
-ghost use Rattle.cxx_search.specs.Searches.{is_within, is_of_class};
+ghost use Rattle.cxx_search.specs.Searches.{is_within};
 ghost use Rattle.path_numbers.specs.Numbers.{AreClassNumbers, subobject_number};
 ghost use Rattle.path_tables.specs.Parts.{IsNumbered, IsPartList, IsFirstTaken};
 ghost use Rattle.path_tables.specs.invariants.Places.{IsPlaceOfNumber};

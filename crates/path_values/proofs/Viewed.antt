@@ -7,7 +7,7 @@ use Rattle.cxx_hierarchy.specs.declared.records.ClassId.{ClassId}
 use Rattle.cxx_hierarchy.specs.Classes.{Classes}
 use Rattle.cxx_hierarchy.specs.Hierarchies.{IsHierarchy}
 use Rattle.cxx_subobject.specs.declared.Subobject.{Subobject}
-use Rattle.cxx_subobject.specs.Subobjects.{IsSubobject, join, same_subobject}
+use Rattle.cxx_subobject.specs.Subobjects.{IsSubobject, join, same_subobject, is_of_class}
 use Rattle.cxx_subobject.specs.Inside.{IsInside}
 use Rattle.cxx_subobject.proofs.TreeLemmas.{has_preorder}
 use Rattle.cxx_subobject.specs.Preorder.{preorder}
@@ -15,7 +15,7 @@ use Rattle.cxx_subobject.proofs.InsideLemmas.{inside_valid}
 use Rattle.cxx_overrider.specs.declared.FunctionId.{FunctionId}
 use Rattle.cxx_overrider.specs.declared.Overrider.{Overrider}
 use Rattle.cxx_overrider.specs.Functions.{is_pure}
-use Rattle.cxx_search.specs.Searches.{is_within, is_of_class, preorder_of, is_pure_overrider, cast_in}
+use Rattle.cxx_search.specs.Searches.{is_within, preorder_of, is_pure_overrider, cast_in}
 use Rattle.cxx_search.specs.Casts.{IsCast, leads_down, leads_across, leads_nowhere}
 use Rattle.cxx_search.proofs.Casts.{cast_is}
 use Rattle.cxx_search.proofs.Finals.{found_final}

@@ -4,16 +4,11 @@ use Rattle.cxx_hierarchy.specs.declared.records.ClassId.{ClassId}
 use Rattle.cxx_hierarchy.specs.declared.records.Base.{Base}
 use Rattle.cxx_hierarchy.specs.Classes.{Classes, bases_of}
 use Rattle.cxx_subobject.specs.declared.Subobject.{Subobject}
-use Rattle.cxx_subobject.specs.Subobjects.{IsSubobject, class_of}
+use Rattle.cxx_subobject.specs.Subobjects.{class_of, IsOfClass}
 use Rattle.cxx_overrider.specs.declared.places.Place.{Place}
 use Rattle.cxx_overrider.specs.declared.kinds.BaseKind.{BaseKind}
 use Rattle.cxx_overrider.specs.declared.kinds.BaseKind.TheVariants.{NotBase, Unique, Ambiguous}
 use Rattle.cxx_overrider.specs.invariants.Places.{place_of_subobject, lifted, IsThrough}
-
--- s is a subobject of c of class d
-pub record IsPartOfClass (h : Classes) (c d : ClassId) (s : Subobject) : Type 0 where
-  pub valid : IsSubobject h c s
-  pub class : class_of s ≡ Some d
 
 -- s is a subobject of one of the first direct bases of c, and of class d
 pub record IsPartThrough (h : Classes) (c d : ClassId) (count : ℕ) (s : Subobject) : Type 0 where
@@ -49,12 +44,12 @@ kind_of rows c d = slice_index_or (slice_index_or rows c.0 []) d.0 NotBase
 
 -- the rows say of each class, which of all classes are among it and its bases, and how often
 pub record AreKinds (h : Classes) (rows : List (List BaseKind)) : Type 0 where
-  pub each : (c d : ClassId) → c.0 < length rows → Counts (IsPartOfClass h c d) (kind_of rows c d)
+  pub each : (c d : ClassId) → c.0 < length rows → Counts (IsOfClass h c d) (kind_of rows c d)
 
 -- the row of a class
 pub record IsKindRow (h : Classes) (c : ClassId) (row : List BaseKind) : Type 0 where
   pub size : length row ≡ c.0 + 1
-  pub each : (d : ClassId) → d.0 < length row → Counts (IsPartOfClass h c d) (slice_index_or row d.0 NotBase)
+  pub each : (d : ClassId) → d.0 < length row → Counts (IsOfClass h c d) (slice_index_or row d.0 NotBase)
 
 -- the kind where some subobjects count as the first kind says, and those of one more base as the second
 abbrev pub IsMerged : BaseKind → BaseKind → BaseKind → Type 0

@@ -1,7 +1,7 @@
 use Rattle.std.proofs.Common.{rules, ◌∙◌, ap}
 use Rattle.std.proofs.lemmas.Fn.{filter_same}
 use Rattle.std.specs.List.{filter}
-use Rattle.cxx_search.specs.Searches.{is_of_class}
+use Rattle.cxx_subobject.specs.Subobjects.{is_of_class}
 use Rattle.code_statements.proofs.hints.sources.Goals as goal
 
 pub returns : goal.returns

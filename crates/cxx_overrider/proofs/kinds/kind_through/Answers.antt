@@ -4,10 +4,11 @@ use Rattle.cxx_hierarchy.specs.declared.records.ClassId.{ClassId}
 use Rattle.cxx_hierarchy.specs.declared.records.Base.{Base}
 use Rattle.cxx_hierarchy.specs.Classes.{bases_of}
 use Rattle.cxx_overrider.specs.declared.kinds.BaseKind.{BaseKind}
-use Rattle.cxx_overrider.specs.invariants.Kinds.{Counts, IsPartOfClass, IsPartThrough, IsMerged, lifted_kind, kind_of}
+use Rattle.cxx_overrider.specs.invariants.Kinds.{Counts, IsPartThrough, IsMerged, lifted_kind, kind_of}
 use Rattle.cxx_overrider.proofs.Lists.{get_at}
 use Rattle.foundation.proofs.Places.{contains_at}
 use Rattle.cxx_overrider.proofs.KindLemmas.{none_through, counts_next}
+use Rattle.cxx_subobject.specs.Subobjects.{IsOfClass}
 use Rattle.cxx_overrider.proofs.kinds.kind_through.Goals as goal
 
 abbrev no_base : Base ClassId
@@ -25,7 +26,7 @@ loop-base-preserved c =
     let listed : slice_get (bases_of h c.args.c) i ≡ Some base = get_at c.as_slice-base-items.result.now (bases_of h c.args.c) i no_base c.loop-base.invariant.items c.loop-base-test.true in
     let before = c.keeps.ensures.bases c.args.c base (contains_at (bases_of h c.args.c) i base listed) in
     let size = c.requires.size in
-    let more : Counts (IsPartOfClass h base.class c.args.d) (kind_of rows base.class c.args.d) = c.requires.rows.each base.class c.args.d (omega arith) in
+    let more : Counts (IsOfClass h base.class c.args.d) (kind_of rows base.class c.args.d) = c.requires.rows.each base.class c.args.d (omega arith) in
     let lifted : c.lifted_kind.result ≡ lifted_kind base (kind_of rows base.class c.args.d) = c.lifted_kind.ensures ∙ ap (lifted_kind base) c.kind_of.ensures in
     record {
       items = c.loop-base.invariant.items;

@@ -1,5 +1,5 @@
 use Rattle.path_tables.proofs.Answering.{copied_first}
-use Rattle.cxx_search.specs.Searches.{is_of_class}
+use Rattle.cxx_subobject.specs.Subobjects.{is_of_class}
 use Rattle.path_tables.proofs.answers.base_copied.Goals as goal
 
 pub returns-in_ok-subobject_below-in-Some : goal.returns-in_ok-subobject_below-in-Some

@@ -1,5 +1,5 @@
 use Rattle.std.proofs.Common.{◌∙◌, sym}
-use Rattle.cxx_search.specs.Searches.{is_of_class}
+use Rattle.cxx_subobject.specs.Subobjects.{is_of_class}
 use Rattle.path_tables.proofs.Numbered.{found_at}
 use Rattle.path_tables.proofs.parts.first_of_class.Goals as goal
 

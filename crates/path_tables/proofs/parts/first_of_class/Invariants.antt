@@ -1,6 +1,6 @@
 use Rattle.std.proofs.Common.{◌≡◌, drop}
 use Rattle.std.specs.Prelude.{find}
-use Rattle.cxx_search.specs.Searches.{is_of_class}
+use Rattle.cxx_subobject.specs.Subobjects.{is_of_class}
 use Rattle.path_tables.proofs.parts.first_of_class.Given as goal
 
 -- none so far is of the class
