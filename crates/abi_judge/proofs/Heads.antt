@@ -28,6 +28,7 @@ use Rattle.abi_sound.proofs.PlaceLemmas.{place_at_base, place_at_inner, element_
 use Rattle.abi_sound.proofs.PrimaryParts.{IsPrimaryPart, by_direct, by_holder, primary_cases, primary_is}
 use Rattle.abi_sound.proofs.ChainLemmas.{chain_more, last_step, primary_above, above_primary, find_has}
 use Rattle.std.proofs.lemmas.Bool.{eqb-true}
+use Rattle.abi_primary.proofs.PrimaryKinds.{direct_is}
 use Rattle.foundation.proofs.Chosen.{find_passes}
 use Rattle.cxx_subobject.proofs.PathLemmas.{same_id}
 use Rattle.abi_judge.specs.Rules.{HasFirstHolders, KeepsPrimary, KeepsPlace}
@@ -270,11 +271,6 @@ but_last_class (a ∷ e ∷ path) b = ap (λ (p : List ClassId). a ∷ p) (but_l
 class_at_end : (front : List ClassId) (a : ClassId) → class_of_path (front ++ a ∷ []) ≡ Some a
 class_at_end [] a = refl
 class_at_end (x ∷ front) a = class_of_longer (x ∷ front) (a ∷ []) (last_of x front) refl
-
-direct_is : (p : Primary) (b : ClassId) → is_direct_primary p b ≡ true → p ≡ Direct b
-direct_is NoPrimary b e = let n : false ≡ true = e in absurd (cc)
-direct_is (Direct d) b e = ap Direct (same_id d b (eqb-true d.0 b.0 e))
-direct_is (Virtual v) b e = let n : false ≡ true = e in absurd (cc)
 
 is_direct : (p : Primary) (b : ClassId) → p ≡ Direct b → is_direct_primary p b ≡ true
 is_direct p b e = ap (λ (q : Primary). is_direct_primary q b) e ∙ eq-eqb b.0 b.0 refl

@@ -4,3 +4,4 @@ pub mod FlagLemmas
 pub mod PrimaryLemmas
 pub mod HolderLemmas
 pub mod VirtualListLemmas
+pub mod PrimaryKinds

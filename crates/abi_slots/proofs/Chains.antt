@@ -1,6 +1,7 @@
 -- The chains of a view: what is further down a chain lies at the same place, and begins the lists of what is above it.
 use Rattle.std.proofs.Common.{◌≡◌, ℕ, zero, suc, ◌+◌, ◌<◌, ◌≤◌, Bool, true, false, Option, Some, None, List, [], ◌∷◌, ◌++◌, length, refl, ap, subst, sym, ◌∙◌, arith, append_assoc}
 use Rattle.std.specs.Prelude.{if◌then◌else◌}
+use Rattle.abi_sound.proofs.PrimaryParts.{is_in}
 use Rattle.cxx_hierarchy.specs.declared.records.ClassId.{ClassId}
 use Rattle.cxx_hierarchy.specs.Classes.{Classes}
 use Rattle.cxx_hierarchy.specs.Hierarchies.{IsHierarchy}
@@ -13,7 +14,7 @@ use Rattle.cxx_subobject.specs.Inside.{IsInside}
 use Rattle.cxx_subobject.proofs.PathLemmas.{leads_more, class_there, base_before, virtual_below, class_low, part_virtual}
 use Rattle.cxx_subobject.proofs.InsideLemmas.{join_valid, join_class, inside_itself, inside_through, inside_shared}
 use Rattle.cxx_subobject.proofs.TestLemmas.{class_below}
-use Rattle.cxx_subobject.proofs.TreeLemmas.{subobject_same, same_itself}
+use Rattle.cxx_subobject.proofs.TreeLemmas.{same_itself}
 use Rattle.abi_primary.specs.declared.Primary.{Primary}
 use Rattle.abi_primary.specs.declared.Primary.TheVariants.{None as NoPrimary, Direct, Virtual}
 use Rattle.abi_sound.specs.Places.{Places}
@@ -50,10 +51,6 @@ not_shared_path Whole path d b e = refl
 not_shared_path (Shared v) [] d b e = cc
 not_shared_path (Shared v) (c ∷ []) d b e = refl
 not_shared_path (Shared v) (c ∷ f ∷ path) d b e = refl
-
-pub is_held : (o : Option Subobject) (s : Subobject) → is_subobject_in o s ≡ true → o ≡ Some s
-is_held None s e = cc
-is_held (Some t) s e = ap (λ a. Some a) (subobject_same t s e)
 
 -- s is in the chain of t: it lies in t, at its place, and the words of its class stand first among those of t's class
 pub record IsUnder (h : Classes) (l : Places) (x : View) (t s : Subobject) : Type 0 where
@@ -180,7 +177,7 @@ module _ (h : Classes) (l : Places) (x : View) (set : Setting h l x) where
   next_of s u d valid e NoPrimary is f = cc
   next_of s u d valid e (Direct b) is f = subst (λ a. IsNextUnder s a) (same_some (subobject s.root (s.path ++ b ∷ [])) u f) (next_direct s d b valid e is)
   next_of s u d valid e (Virtual v) is f = split (is_subobject_in (l.holder x.complete v) (seen x s)) (λ b. is_subobject_in (l.holder x.complete v) (seen x s) ≡ b → (if b then Some (shared_base v) else None) ≡ Some u → IsNextUnder s u)
-      (λ t same g. subst (λ a. IsNextUnder s a) (same_some (shared_base v) u g) (next_shared s d v valid e is (is_held (l.holder x.complete v) (seen x s) same)))
+      (λ t same g. subst (λ a. IsNextUnder s a) (same_some (shared_base v) u g) (next_shared s d v valid e is (is_in (l.holder x.complete v) (seen x s) same)))
       (λ t same g. cc)
       refl f
 

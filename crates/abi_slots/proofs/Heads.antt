@@ -26,11 +26,12 @@ use Rattle.abi_slots.specs.Dispatch.{IsServedBy}
 use Rattle.abi_slots.proofs.Lists.{Item, item_left, item_right, item_flat, item_filter, any_item, item_any}
 use Rattle.abi_slots.proofs.Bases.{preorder_item, item_preorder, virtual_item}
 use Rattle.abi_slots.proofs.Dynamics.{dynamic_whole}
-use Rattle.abi_slots.proofs.Chains.{Setting, IsUnder, is_held, same_some, next_under}
+use Rattle.abi_slots.proofs.Chains.{Setting, IsUnder, same_some, next_under}
 use Rattle.abi_slots.proofs.WordPlaces.{partner}
 use Rattle.cxx_subobject.proofs.PathLemmas.{class_low}
 use Rattle.foundation.proofs.Truth.{split}
 use Rattle.abi_primary.proofs.KindLemmas.{base_dynamic}
+use Rattle.abi_sound.proofs.PrimaryParts.{is_in}
 
 -- a subobject for which a class is dynamic
 record IsDynamicPart (h : Classes) (c : ClassId) (s : Subobject) : Type 0 where
@@ -121,7 +122,7 @@ module _ (h : Classes) (l : Places) (x : View) (set : Setting h l x) where
       (λ b. list_any (λ u. is_subobject_in (next l x u) s) (preorder h x.class) ≡ b → IsAbove s d ⊎ (is_head h l x s ≡ true))
       (λ b found.
       let r = item_any (λ u. is_subobject_in (next l x u) s) (preorder h x.class) found in
-      let goes = is_held (next l x r.0) s r.2 in
+      let goes = is_in (next l x r.0) s r.2 in
       let there = item_preorder h set.keeps x.class r.0 r.1 in
       let up = next_under h l x set r.0 s there goes in
       inl (record {

@@ -18,8 +18,9 @@ use Rattle.abi_sound.specs.Chains.{is_subobject_in}
 use Rattle.abi_slots.specs.Views.{View, seen, next_by, next_in, next, is_dynamic_class, is_first, is_head, along_chain, Serves}
 use Rattle.abi_slots.proofs.Lists.{any_item}
 use Rattle.abi_slots.proofs.Bases.{preorder_item}
-use Rattle.abi_slots.proofs.Chains.{Setting, is_held, same_some, walk_under}
+use Rattle.abi_slots.proofs.Chains.{Setting, same_some, walk_under}
 use Rattle.foundation.proofs.Truth.{split}
+use Rattle.abi_sound.proofs.PrimaryParts.{is_in}
 
 -- a subobject has a path
 pub some_path : (h : Classes) (c : ClassId) (s : Subobject) → IsSubobject h c s → s.path ≡ [] → ⊥
@@ -32,7 +33,7 @@ pub record IsHeld (o : Option Subobject) (r s : Subobject) (v : ClassId) : Type 
 
 pub held_if : (o : Option Subobject) (r s : Subobject) (v : ClassId) → (if is_subobject_in o r then Some (shared_base v) else None) ≡ Some s → IsHeld o r s v
 held_if o r s v = split (is_subobject_in o r) (λ b. is_subobject_in o r ≡ b → (if b then Some (shared_base v) else None) ≡ Some s → IsHeld o r s v)
-    (λ t same e. record { held = is_held o r same; base = same_some (shared_base v) s e })
+    (λ t same e. record { held = is_in o r same; base = same_some (shared_base v) s e })
     (λ t same e. absurd (cc))
     refl
 

@@ -29,15 +29,16 @@ use Rattle.abi_slots.specs.Views.{View, seen, next_by, next_in, next, is_dynamic
 use Rattle.abi_slots.specs.Groups.{is_shared_base}
 use Rattle.abi_slots.proofs.Lists.{any_item, item_any, found_passes}
 use Rattle.abi_slots.proofs.Bases.{preorder_item, item_preorder}
-use Rattle.abi_slots.proofs.Chains.{Setting, is_held, same_some, seen_valid, seen_class, seen_down, not_shared_path}
+use Rattle.abi_slots.proofs.Chains.{Setting, same_some, seen_valid, seen_class, seen_down, not_shared_path}
 use Rattle.abi_slots.proofs.OneHead.{some_path, held_if}
 use Rattle.abi_slots.proofs.Complete.{same_bool}
 use Rattle.abi_slots.proofs.Heads.{dynamic_test, part_item}
 use Rattle.abi_slots.proofs.HeadsOnce.{parts_once, part_valid}
-use Rattle.abi_vtt.proofs.RunLemmas.{direct_is}
+use Rattle.abi_primary.proofs.PrimaryKinds.{direct_is}
 use Rattle.abi_tables.specs.Counts.{words_of_class, table_words, group_words}
 use Rattle.abi_tables.specs.invariants.Weights.{sides_of, head_words, top_words, IsHeldIn}
 use Rattle.abi_tables.proofs.TreeSums.{WeighsEdges, all_sum, sum_filter}
+use Rattle.abi_sound.proofs.PrimaryParts.{is_in}
 
 virtual_is : (p : Primary) (v : ClassId) → is_virtual_primary p v ≡ true → p ≡ Virtual v
 virtual_is NoPrimary v e = cc
@@ -78,7 +79,7 @@ module _ (h : Classes) (l : Places) (x : View) (set : Setting h l x) where
       let r = item_any (λ u. is_subobject_in (next l x u) s) (preorder h x.class) e in
       let there = item_preorder h set.keeps x.class r.0 r.1 in
       let j = class_there h x.class r.0 there in
-      direct_from r.0 t j.0 k b there valid j.1 class (l.primary j.0) refl (subst (λ o. next_in l x r.0 o ≡ Some s) j.1 (is_held (next l x r.0) s r.2)))
+      direct_from r.0 t j.0 k b there valid j.1 class (l.primary j.0) refl (subst (λ o. next_in l x r.0 o ≡ Some s) j.1 (is_in (next l x r.0) s r.2)))
       (λ e.
       let goes : next l x t ≡ Some s = ap (next_in l x t) class ∙ ap (next_by l x t) (direct_is (l.primary k) b e) in
       any_item (λ u. is_subobject_in (next l x u) s) (preorder h x.class) t (preorder_item h set.keeps x.class t valid) (ap (λ o. is_subobject_in o s) goes ∙ same_itself s)))
@@ -109,7 +110,7 @@ module _ (h : Classes) (l : Places) (x : View) (set : Setting h l x) where
       let r = item_any (λ u. is_subobject_in (next l x u) (whole_of x.class)) (preorder h x.class) e in
       let there = item_preorder h set.keeps x.class r.0 r.1 in
       let j = class_there h x.class r.0 there in
-      by_primary r.0 there (l.primary j.0) (subst (λ o. next_in l x r.0 o ≡ Some (whole_of x.class)) j.1 (is_held (next l x r.0) (whole_of x.class) r.2))))
+      by_primary r.0 there (l.primary j.0) (subst (λ o. next_in l x r.0 o ≡ Some (whole_of x.class)) j.1 (is_in (next l x r.0) (whole_of x.class) r.2))))
     where
       by_primary : (u : Subobject) → IsSubobject h x.class u → (p : Primary) → next_by l x u p ≡ Some (whole_of x.class) → ⊥
       by_primary u of_u NoPrimary e = absurd (cc)
@@ -144,7 +145,7 @@ first_shared h l x set laws v has b test =
     let r = item_any (λ u. is_subobject_in (next l x u) (shared_base v)) (preorder h x.class) e in
     let there = item_preorder h set.keeps x.class r.0 r.1 in
     let j = class_there h x.class r.0 there in
-    as_true b (test.1 (by_primary r.0 there (l.primary j.0) (subst (λ o. next_in l x r.0 o ≡ Some (shared_base v)) j.1 (is_held (next l x r.0) (shared_base v) r.2)))))
+    as_true b (test.1 (by_primary r.0 there (l.primary j.0) (subst (λ o. next_in l x r.0 o ≡ Some (shared_base v)) j.1 (is_in (next l x r.0) (shared_base v) r.2)))))
     (λ e.
     let held = test.0 (is_true b e) in
     let k = held.inside in

@@ -2,8 +2,9 @@
 use Rattle.std.proofs.Common.{◌≡◌, ℕ, zero, suc, ◌⊎◌, inl, inr, ⊎_elim, Bool, true, false, Some, None, List, [], ◌∷◌, ◌++◌, refl, ap, subst, sym, ◌∙◌, arith}
 use Rattle.std.specs.Prelude.{slice_get, nat_eq, filter, not, ◌&&◌, ◌||◌, if◌then◌else◌}
 use Rattle.std.specs.List.{flat_map, list_any}
-use Rattle.std.proofs.lemmas.Bool.{eqb-true, and_parts, and_from}
+use Rattle.std.proofs.lemmas.Bool.{and_parts, and_from}
 use Rattle.std.proofs.lemmas.List.Elements.{filter-append}
+use Rattle.abi_primary.proofs.PrimaryKinds.{direct_is}
 use Rattle.cxx_hierarchy.specs.declared.records.ClassId.{ClassId}
 use Rattle.cxx_hierarchy.specs.Classes.{Classes}
 use Rattle.cxx_hierarchy.specs.Hierarchies.{IsHierarchy}
@@ -13,7 +14,7 @@ use Rattle.cxx_subobject.specs.declared.Subobject.{Subobject}
 use Rattle.cxx_subobject.specs.Subobjects.{IsSubobject, Leads, whole, shared, subobject, shared_base, last_of, class_of, class_of_path, same_root}
 use Rattle.cxx_subobject.specs.Preorder.{preorder}
 use Rattle.cxx_subobject.specs.VirtualBases.{virtual_bases}
-use Rattle.cxx_subobject.proofs.PathLemmas.{same_id, leads_front}
+use Rattle.cxx_subobject.proofs.PathLemmas.{leads_front}
 use Rattle.cxx_subobject.proofs.TreeLemmas.{root_same, same_itself, has_preorder}
 use Rattle.foundation.proofs.Members.{Has}
 use Rattle.foundation.proofs.Chosen.{has_filter, filter_same}
@@ -27,16 +28,12 @@ use Rattle.abi_sound.specs.Chains.{is_subobject_in}
 use Rattle.abi_slots.specs.Views.{View, seen, next_by, next_in, next, is_dynamic_class, is_first, is_head, of_root, heads}
 use Rattle.abi_slots.proofs.Lists.{Item, item_filter, from_filter, from_flat, any_item, item_any}
 use Rattle.abi_slots.proofs.Bases.{preorder_item}
-use Rattle.abi_slots.proofs.Chains.{is_held, same_some}
+use Rattle.abi_slots.proofs.Chains.{same_some}
 use Rattle.abi_slots.proofs.Complete.{same_bool}
 use Rattle.abi_vtt.specs.Vtts.{ends_in_primary, needs_word, class_has_virtual}
 use Rattle.abi_vtt.specs.Blocks.{is_front_head, table_run, IsFirstRun, IsFoundByClass, in_run, by_word}
 use Rattle.abi_vtt.proofs.BlockLemmas.{word_stands}
-
-pub direct_is : (p : Primary) (b : ClassId) → is_direct_primary p b ≡ true → p ≡ Direct b
-direct_is NoPrimary b e = cc
-direct_is (Direct d) b e = ap (λ a. Direct a) (same_id d b (eqb-true d.0 b.0 e))
-direct_is (Virtual v) b e = cc
+use Rattle.abi_sound.proofs.PrimaryParts.{is_in}
 
 id_itself : (b : ClassId) → nat_eq b.0 b.0 ≡ true
 id_itself b = grind arith
@@ -120,7 +117,7 @@ module _ (h : Classes) (keeps : IsHierarchy h) (l : Places) where
 
   first_by_path : (x : View) (s : Subobject) → IsSubobject h x.class s → s.root ≡ Whole → is_first h l x s ≡ not (ends_in_primary l s.path)
   first_by_path x s valid root = ap not (same_bool (list_any (λ u. is_subobject_in (next l x u) s) (preorder h x.class)) (ends_in_primary l s.path)
-      (λ any. let r = item_any (λ u. is_subobject_in (next l x u) s) (preorder h x.class) any in next_ends l x r.0 s (is_held (next l x r.0) s r.2) root)
+      (λ any. let r = item_any (λ u. is_subobject_in (next l x u) s) (preorder h x.class) any in next_ends l x r.0 s (is_in (next l x r.0) s r.2) root)
       (not_first x s valid))
 
   head_by_class : (x : View) (s : Subobject) → Has (of_root Whole (preorder h x.class)) s → is_head h l x s ≡ is_front_head h l s
