@@ -12,7 +12,7 @@ use Rattle.path_plan.specs.Plans.{Form}
 use Rattle.byte_code.specs.declared.code.Block.{Block}
 use Rattle.code_ops.specs.declared.routines.Course.{Course}
 use Rattle.code_ops.specs.Setups.{Setup, Routine, MainCode, FunctionCode, PlanCode, body_of_routine}
-use Rattle.code_ops.specs.Routines.{has_body}
+use Rattle.path_model.specs.States.{is_body}
 use Rattle.code_blocks.specs.Items.{Item, Does, Shares, Inherits, Holds}
 use Rattle.code_blocks.specs.Blocks.{Place, items, statement_ops}
 use Rattle.code_blocks.specs.Lowered.{has_own_block, own_block, statement_block, body_block}
@@ -35,7 +35,7 @@ unfolding own_count
 own_both has before left = sum_by-append (λ (o : Item). cond (is_own_item has o) 1 0) before left
 
 abbrev has_body_of : Setup → Course → Form → ClassId → Bool
-has_body_of x course form c = has_body (body_of_routine x (PlanCode course form c))
+has_body_of x course form c = is_body (body_of_routine x (PlanCode course form c))
 
 one_or_none : (b : Bool) (block : Block) → length (option_to_list (if b then Some block else None)) ≡ cond b 1 0
 one_or_none true block = refl

@@ -9,7 +9,6 @@ use Rattle.cxx_program.specs.declared.program.TypedBody.{TypedBody}
 use Rattle.path_model.specs.States.{owned_body, is_body}
 use Rattle.code_ops.specs.declared.routines.Course.{Course}
 use Rattle.code_ops.specs.Setups.{Setup, Routine, PlanCode, body_of_routine, routine_owner}
-use Rattle.code_ops.specs.Routines.{has_body}
 use Rattle.code_blocks.specs.declared.items.Form.{Form as FormCode}
 use Rattle.code_blocks.specs.declared.items.Item.{Item as ItemCode}
 use Rattle.code_blocks.specs.Items.{Item, Does, Shares, Inherits, Holds}
@@ -36,19 +35,15 @@ codes_own has (i ∷ list) =
     ∙ ap (λ n. cond (is_own_item has i) 1 0 + n) (codes_own has list)
     ∙ sym (sum_by-cons (λ (o : Item). cond (is_own_item has o) 1 0) i list)
 
-pub same_test : (o : Option TypedBody) → is_body o ≡ has_body o
-same_test None = refl
-same_test (Some body) = refl
-
 -- the own events of a plan
 pub plan_counted : (x : Setup) (r : RoutineCode) (course : Course) (form : FormCode) (c : ClassId) (owner : Owner) (n : ℕ) (has : Bool) (codes : List ItemCode) → r ≡ Plan course form c → owner ≡ routine_owner (PlanCode course (coded_form form) c) →
     has ≡ is_body (owned_body x.program owner) → codes ≡ item_codes (items x course (coded_form form) c) → n ≡ count_by (is_own_code has) codes → n ≡ own_events x (routine_from r)
 unfolding own_events
 plan_counted x r course form c owner n has codes is of body list counted =
     let plan = PlanCode course (coded_form form) c in
-    let same : has ≡ has_body (body_of_routine x plan) = body ∙ ap (λ (o : Owner). is_body (owned_body x.program o)) of ∙ same_test (body_of_routine x plan) in
-    counted ∙ ap (λ (b : Bool). count_by (is_own_code b) codes) same ∙ ap (λ (l : List ItemCode). count_by (is_own_code (has_body (body_of_routine x plan))) l) list
-    ∙ codes_own (has_body (body_of_routine x plan)) (items x course (coded_form form) c) ∙ ap (λ (q : RoutineCode). own_events x (routine_from q)) (sym is)
+    let same : has ≡ is_body (body_of_routine x plan) = body ∙ ap (λ (o : Owner). is_body (owned_body x.program o)) of in
+    counted ∙ ap (λ (b : Bool). count_by (is_own_code b) codes) same ∙ ap (λ (l : List ItemCode). count_by (is_own_code (is_body (body_of_routine x plan))) l) list
+    ∙ codes_own (is_body (body_of_routine x plan)) (items x course (coded_form form) c) ∙ ap (λ (q : RoutineCode). own_events x (routine_from q)) (sym is)
 
 -- `main` and a function have none
 pub none_counted : (x : Setup) (r : RoutineCode) → (r ≡ Main) ⊎ ((f : FunctionId) × (r ≡ Function f)) → 0 ≡ own_events x (routine_from r)

@@ -21,12 +21,11 @@ use Rattle.cxx_program.specs.declared.program.TypedBody.{TypedBody}
 use Rattle.cxx_program.specs.Typed.{IsTypedProgram}
 use Rattle.cxx_search.proofs.Finding.{finds_some}
 use Rattle.path_plan.specs.Plans.{Form, InFull, AsBase, count_from, upto, backwards, virtual_order}
-use Rattle.path_model.specs.States.{same_owner, owned_body, plan_bodies}
+use Rattle.path_model.specs.States.{same_owner, owned_body, plan_bodies, is_body}
 use Rattle.path_model.proofs.TypedBodies.{body_typed, same_function_itself}
 use Rattle.code_ops.specs.declared.routines.Course.{Course}
 use Rattle.code_ops.specs.declared.routines.Course.TheVariants.{Constructs, Destroys, Deletes}
 use Rattle.code_ops.specs.Setups.{Setup, FunctionCode, PlanCode, body_of_routine}
-use Rattle.code_ops.specs.Routines.{has_body}
 use Rattle.code_blocks.specs.declared.items.Kind.TheVariants.{AtBegin, AtReady, AtInit, AtBody, AtDone, AtEnding, AtBases, AtEnd}
 use Rattle.code_blocks.specs.declared.items.Way.{Way}
 use Rattle.code_blocks.specs.declared.items.Way.TheVariants.{Forwards, Backwards}
@@ -140,9 +139,9 @@ few_ended x keeps b form c =
 
 few_own : (x : Setup) → IsHierarchy x.h → (course : Course) (form : Form) (c : ClassId) → own_events x (PlanCode course form c) ≤ 1028
 unfolding own_events
-few_own x keeps Constructs form c = few_built x keeps (has_body (body_of_routine x (PlanCode Constructs form c))) form c
-few_own x keeps Destroys form c = few_ended x keeps (has_body (body_of_routine x (PlanCode Destroys form c))) form c
-few_own x keeps Deletes form c = few_ended x keeps (has_body (body_of_routine x (PlanCode Deletes form c))) form c
+few_own x keeps Constructs form c = few_built x keeps (is_body (body_of_routine x (PlanCode Constructs form c))) form c
+few_own x keeps Destroys form c = few_ended x keeps (is_body (body_of_routine x (PlanCode Destroys form c))) form c
+few_own x keeps Deletes form c = few_ended x keeps (is_body (body_of_routine x (PlanCode Deletes form c))) form c
 
 -- bodies
 

@@ -15,14 +15,14 @@ use Rattle.cxx_program.specs.declared.program.TypedProgram.{TypedProgram}
 use Rattle.cxx_program.specs.Typed.{IsTypedProgram}
 use Rattle.path_plan.specs.Plans.{Form, InFull, AsBase, upto, count_from}
 use Rattle.path_plan.proofs.Members.{has_count, count_has}
-use Rattle.path_model.specs.States.{same_owner, owned_body}
+use Rattle.path_model.specs.States.{same_owner, owned_body, is_body}
 use Rattle.path_model.proofs.TypedBodies.{body_typed, same_function_itself}
 use Rattle.abi_slots.specs.declared.code_numbers.BlockKind.{BlockKind}
 use Rattle.abi_slots.specs.declared.code_numbers.BlockKind.TheVariants.{Plain, BuildComplete, BuildBase, EndComplete, EndBase, EndDeleting}
 use Rattle.code_ops.specs.declared.routines.Course.{Course}
 use Rattle.code_ops.specs.declared.routines.Course.TheVariants.{Constructs, Destroys, Deletes}
 use Rattle.code_ops.specs.Setups.{Setup, Routine, MainCode, FunctionCode, PlanCode, body_of_routine}
-use Rattle.code_ops.specs.Routines.{has_body, IsCourse, IsRoutine, plan_function, function_of_routine, plan_kind, routine_kind}
+use Rattle.code_ops.specs.Routines.{IsCourse, IsRoutine, plan_function, function_of_routine, plan_kind, routine_kind}
 use Rattle.abi_lower.specs.invariants.Numbers.{main_routines, owned_routines, plain_routines, plan_routines, class_ids, routines}
 use Rattle.abi_lower.specs.invariants.Codes.{runs_no_plan as is_plain_code}
 use Rattle.abi_lower.proofs.Starts.{AreApartForms}
@@ -35,11 +35,11 @@ class_routines n = flat_map plan_routines (class_ids n)
 
 -- each is in the list
 
-main_there : (main : Option TypedBody) → has_body main ≡ true → Has (main_routines main) MainCode
+main_there : (main : Option TypedBody) → is_body main ≡ true → Has (main_routines main) MainCode
 main_there None e = absurd (let f : false ≡ true = e in cc)
 main_there (Some body) e = inl refl
 
-found_there : (program : TypedProgram) (h : Classes) → IsTypedProgram h program → (f : FunctionId) (o : Option TypedBody) → owned_body program (Function f) ≡ o → has_body o ≡ true → Has (function_routines program.bodies) (FunctionCode f)
+found_there : (program : TypedProgram) (h : Classes) → IsTypedProgram h program → (f : FunctionId) (o : Option TypedBody) → owned_body program (Function f) ≡ o → is_body o ≡ true → Has (function_routines program.bodies) (FunctionCode f)
 found_there program h typed f None is e = absurd (let g : false ≡ true = e in cc)
 found_there program h typed f (Some body) is e =
     let has = find_passes (λ (b : TypedBody). same_owner b.owner (Function f)) program.bodies body is in
@@ -68,7 +68,7 @@ routine_there x typed (PlanCode course form c) is = has_right (main_routines x.p
 
 main_only : (x : Setup) (main : Option TypedBody) (r : Routine) → main ≡ body_of_routine x MainCode → Has (main_routines main) r → IsRoutine x r
 main_only x None r is has = absurd has
-main_only x (Some body) r is has = ⊎_elim (λ e. subst (λ (o : Routine). IsRoutine x o) e (ap has_body (sym is))) (λ none. absurd none) has
+main_only x (Some body) r is has = ⊎_elim (λ e. subst (λ (o : Routine). IsRoutine x o) e (ap is_body (sym is))) (λ none. absurd none) has
 
 owned_only : (o : Owner) (r : Routine) → Has (owned_routines o) r → (f : FunctionId) × (o ≡ Function f) × (FunctionCode f ≡ r)
 owned_only Main r has = absurd has
@@ -82,7 +82,7 @@ function_only x r has =
     let owned = owned_only from.0.owner r from.2 in
     let passes : same_owner from.0.owner (Function owned.0) ≡ true = subst (λ (o : Owner). same_owner o (Function owned.0) ≡ true) (sym owned.1) (same_function_itself owned.0) in
     let found = finds_some (λ (b : TypedBody). same_owner b.owner (Function owned.0)) x.program.bodies from.0 from.1 passes in
-    subst (λ (o : Routine). IsRoutine x o) owned.2 (ap has_body found.1)
+    subst (λ (o : Routine). IsRoutine x o) owned.2 (ap is_body found.1)
 
 plan_only : (x : Setup) (c : ClassId) (r : Routine) → c.0 < length x.h → Has (plan_routines c) r → IsRoutine x r
 plan_only x c r low has = ⊎_elim (λ e. subst (λ (o : Routine). IsRoutine x o) e (low, tt))

@@ -14,7 +14,7 @@ use Rattle.abi_slots.specs.CodeRows.{code_of, AreDistinctRows}
 use Rattle.code_ops.specs.declared.routines.Course.{Course}
 use Rattle.code_ops.specs.declared.routines.Course.TheVariants.{Constructs, Destroys, Deletes}
 use Rattle.code_ops.specs.Setups.{Setup, Routine, MainCode, FunctionCode, PlanCode, body_of_routine}
-use Rattle.code_ops.specs.Routines.{has_body, IsRoutine, function_of_routine, routine_kind, number_or_first, start_by}
+use Rattle.code_ops.specs.Routines.{IsRoutine, function_of_routine, routine_kind, number_or_first, start_by}
 use Rattle.code_blocks.specs.Items.{Item, Does}
 use Rattle.code_blocks.specs.Blocks.{Place, AtStatement, AtEvent, routine_start}
 use Rattle.code_blocks.specs.declared.items.Kind.TheVariants.{AtBegin, AtEnding}
@@ -25,10 +25,11 @@ use Rattle.abi_lower.specs.invariants.Runs.{routine_blocks, all_blocks}
 use Rattle.abi_lower.proofs.Starts.{BeginsAt, begins, begins_once, begins_run, begins_code, code_known, rows_distinct}
 use Rattle.abi_lower.proofs.ListedRoutines.{routine_there, routine_only, forms_apart}
 use Rattle.abi_lower.proofs.Blocks.{own_first, run_long, statement_in, event_in}
+use Rattle.path_model.specs.States.{is_body}
 
 -- where routines begin
 
-main_begins : (x : Setup) (main : Option TypedBody) (rest : List Routine) → has_body main ≡ true → BeginsAt x 0 (main_routines main ++ rest) MainCode 0
+main_begins : (x : Setup) (main : Option TypedBody) (rest : List Routine) → is_body main ≡ true → BeginsAt x 0 (main_routines main ++ rest) MainCode 0
 main_begins x None rest e = absurd (let f : false ≡ true = e in cc)
 main_begins x (Some body) rest e = inl (refl, refl)
 
@@ -63,11 +64,11 @@ ending_some has left = let e = own_first has (Does AtEnding) left in omega arith
 
 plan_some : (x : Setup) (course : Course) (form : Form) (c : ClassId) → 0 < own_events x (PlanCode course form c)
 unfolding own_events
-plan_some x Constructs form c = begin_some (has_body (body_of_routine x (PlanCode Constructs form c))) _
-plan_some x Destroys form c = ending_some (has_body (body_of_routine x (PlanCode Destroys form c))) _
-plan_some x Deletes form c = ending_some (has_body (body_of_routine x (PlanCode Deletes form c))) _
+plan_some x Constructs form c = begin_some (is_body (body_of_routine x (PlanCode Constructs form c))) _
+plan_some x Destroys form c = ending_some (is_body (body_of_routine x (PlanCode Destroys form c))) _
+plan_some x Deletes form c = ending_some (is_body (body_of_routine x (PlanCode Deletes form c))) _
 
-body_some : (o : Option TypedBody) → has_body o ≡ true → 0 < body_blocks o
+body_some : (o : Option TypedBody) → is_body o ≡ true → 0 < body_blocks o
 body_some None e = absurd (let f : false ≡ true = e in cc)
 body_some (Some body) e = omega arith
 

@@ -10,7 +10,7 @@ use Rattle.byte_code.specs.declared.code.Block.{Block}
 use Rattle.code_ops.specs.declared.routines.Course.{Course}
 use Rattle.code_ops.specs.declared.routines.Course.TheVariants.{Constructs, Destroys, Deletes}
 use Rattle.code_ops.specs.Setups.{Setup, PlanCode, body_of_routine}
-use Rattle.code_ops.specs.Routines.{has_body, start_by}
+use Rattle.code_ops.specs.Routines.{start_by}
 use Rattle.code_blocks.specs.declared.items.Item.{Item as ItemCode}
 use Rattle.code_blocks.specs.declared.items.Kind.TheVariants.{AtBegin, AtReady, AtInit, AtBody, AtDone, AtEnding, AtBases, AtEnd}
 use Rattle.code_blocks.specs.Items.{Item, Does, Shares, Inherits, Holds}
@@ -26,6 +26,7 @@ use Rattle.abi_lower.specs.invariants.Lowerings.{IsPlanRun, plan_items}
 use Rattle.abi_lower.proofs.Blocks.{own_first, own_both}
 use Rattle.abi_lower.proofs.Counted.{codes_own}
 use Rattle.abi_lower.proofs.Placing.{first_number}
+use Rattle.path_model.specs.States.{is_body}
 
 module _ (x : Setup) (course : Course) (form : Form) (c : ClassId) where
   abbrev start : ℕ
@@ -35,7 +36,7 @@ module _ (x : Setup) (course : Course) (form : Form) (c : ClassId) where
   all = own_events x (PlanCode course form c)
 
   abbrev has : Bool
-  has = has_body (body_of_routine x (PlanCode course form c))
+  has = is_body (body_of_routine x (PlanCode course form c))
 
   abbrev next_of : List Item → ℕ
   next_of left = if is_body_next (item_codes left) then start + all else start + (all - own_count has left)

@@ -22,7 +22,7 @@ use Rattle.abi_slots.specs.declared.slots.Slots.{Slots}
 use Rattle.abi_slots.specs.declared.code_numbers.CodeRow.{CodeRow}
 use Rattle.code_ops.specs.declared.routines.Course.{Course}
 use Rattle.code_ops.specs.Setups.{Setup, Routine, MainCode, FunctionCode, PlanCode, body_of_routine, routine_owner}
-use Rattle.code_ops.specs.Routines.{has_body, IsRoutine, start_by}
+use Rattle.code_ops.specs.Routines.{IsRoutine, start_by}
 use Rattle.code_blocks.specs.declared.items.Item.{Item as ItemCode}
 use Rattle.code_blocks.specs.Blocks.{items}
 use Rattle.code_plans.specs.declared.plan_sites.ClassPlan.{ClassPlan}
@@ -33,13 +33,13 @@ use Rattle.abi_lower.specs.invariants.Codes.{routine_from, routines_from, is_own
 use Rattle.abi_lower.specs.invariants.Runs.{event_blocks, plan_blocks, statement_blocks, blocks_of_body, routine_blocks, class_blocks, all_blocks}
 use Rattle.abi_lower.specs.invariants.Lowerings.{IsLowering, IsBodySite, RunsAt, IsPlanRun, plan_code, plan_items}
 use Rattle.abi_lower.proofs.BodySites.{declares_known}
-use Rattle.abi_lower.proofs.Counted.{same_test, plan_counted, blocks_some}
+use Rattle.abi_lower.proofs.Counted.{plan_counted, blocks_some}
 use Rattle.abi_lower.proofs.Placing.{begins_there}
 use Rattle.abi_lower.proofs.RowSteps.{routine_next}
 use Rattle.abi_lower.proofs.Starts.{begins_high}
 
 -- a function that has a body is one of a known class
-by_body : (h : Classes) (program : TypedProgram) → IsTypedProgram h program → (f : FunctionId) (o : Option TypedBody) → owned_body program (Function f) ≡ o → has_body o ≡ true → f.class.0 < length h
+by_body : (h : Classes) (program : TypedProgram) → IsTypedProgram h program → (f : FunctionId) (o : Option TypedBody) → owned_body program (Function f) ≡ o → is_body o ≡ true → f.class.0 < length h
 by_body h program typed f None is e = absurd (let g : false ≡ true = e in cc)
 by_body h program typed f (Some body) is e =
     let found = body_typed h program typed (Function f) body is in
@@ -90,7 +90,7 @@ module _ (x : Setup) (overriders : Overriders) (slots : Slots) (index : BodyInde
         rows = rows;
         begins = begins;
         counted = all;
-        body = body ∙ ap (λ (o : Owner). is_body (owned_body x.program o)) of ∙ same_test (body_of_routine x (plan_code plan));
+        body = body ∙ ap (λ (o : Owner). is_body (owned_body x.program o)) of;
         room = (let room = run_room (plan_code plan) is in let low = own_low (plan_code plan) in omega arith);
       }
 

@@ -1,13 +1,11 @@
 -- The lines of a turn are those of the step.
-use Rattle.std.proofs.Common.{◌≡◌, ℕ, suc, ◌+◌, Bool, true, false, Option, Some, None, List, ◌∷◌, ◌∙◌, refl, sym, ap, subst, arith}
+use Rattle.std.proofs.Common.{◌≡◌, ℕ, suc, ◌+◌, Bool, true, false, List, ◌∷◌, ◌∙◌, sym, ap, subst, arith}
 use Rattle.std.specs.Prelude.{not}
 use Rattle.foundation.proofs.Chosen.{has_filter}
 use Rattle.foundation.proofs.Members.{Has, contains_from_has, has_from_contains}
-use Rattle.cxx_program.specs.declared.program.Owner.TheVariants.{Function}
-use Rattle.cxx_program.specs.declared.program.TypedBody.{TypedBody}
 use Rattle.path_model.specs.declared.outs.Out.{Out}
 use Rattle.path_model.specs.declared.outs.Out.TheVariants.{Number, Pointer, TypeName, Dump, Call, Built, Ending}
-use Rattle.path_model.specs.States.{ProgramState as PathState, InBody, owned_body, is_body}
+use Rattle.path_model.specs.States.{ProgramState as PathState, InBody}
 use Rattle.path_model.specs.Runs.{Move, Moves, outs_in, state_behind}
 use Rattle.path_model.specs.Typed.{AllSettled}
 use Rattle.path_model.specs.TypedStates.{IsTypedState}
@@ -16,7 +14,6 @@ use Rattle.byte_code.specs.declared.code.ImageBytes.{ImageBytes}
 use Rattle.byte_machine.specs.declared.turn.RawOut.{RawOut}
 use Rattle.byte_machine.specs.Running.{Fixed}
 use Rattle.byte_machine.specs.Turn.{ByteState as Bytes}
-use Rattle.code_ops.specs.Routines.{has_body}
 use Rattle.code_ops.specs.Setups.{Setup, places}
 use Rattle.path_model.specs.Outs.{is_traced}
 use Rattle.text_told.specs.OutTexts.{IsTold, outs_to_show as shown_outs, text_of}
@@ -41,10 +38,6 @@ use Rattle.abi_refine.proofs.DumpTops.{dumps_are_in_bodies}
 shown_told : (trace : Bool) (outs : List Out) (out : Out) → Has (shown_outs trace outs) out → Has outs out
 shown_told true outs out has = has
 shown_told false outs out has = (has_filter (λ x. not (is_traced x)) outs out has).0
-
-body_there : (o : Option TypedBody) → is_body o ≡ true → has_body o ≡ true
-body_there None is = absurd (let e : false ≡ true = is in cc (e))
-body_there (Some body) is = refl
 
 -- over a world: a machine that stands for the state behind a step, and what it told in the turn reads as what the step told
 module _ (w : World) (world : IsProgramWorld w) (n : ℕ) (new : PathState) (outs : List Out) (moves : move_after w.setup n ≡ Moves new outs) (b : Bytes) (told : List RawOut) (stands : StandsForState w world.lowered.at new b)
@@ -75,7 +68,7 @@ module _ (w : World) (world : IsProgramWorld w) (n : ℕ) (new : PathState) (out
       let on_top : (state_after w.setup (suc n)).frames ≡ InBody top.body ∷ top.below = ap (λ (s : PathState). s.frames) here ∙ top.is in
       let settled = subst (λ (s : PathState). AllSettled (world_classes w) s.objects) here (all_settled (world_classes w) (places_in w).size w.setup.program (suc n) (world_accepted w world) top.body top.below on_top) in
       record { object = is.object; number_is = is.number_is; class = is.class; is_open = is.open_there; complete = is.complete; settled = settled is.object c is.class; leaves_are = is.leaves_are }
-  of_state (Call g at) has = body_there (owned_body w.setup.program (Function g)) (all_told (Call g at) has).1
+  of_state (Call g at) has = (all_told (Call g at) has).1
   of_state (Built c at) has = tt
   of_state (Ending c at) has = tt
 

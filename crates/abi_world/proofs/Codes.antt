@@ -19,10 +19,11 @@ use Rattle.abi_slots.specs.declared.words.CodeKind.TheVariants.{Plain, Complete,
 use Rattle.abi_slots.specs.CodeRows.{code_of, block_kind}
 use Rattle.abi_slots.specs.Listing.{kinds_in}
 use Rattle.abi_slots.proofs.Lists.{Item, item_none, item_split}
-use Rattle.code_ops.specs.Routines.{IsRoutine, function_of_routine, has_body, routine_kind}
+use Rattle.code_ops.specs.Routines.{IsRoutine, function_of_routine, routine_kind}
 use Rattle.code_ops.specs.Setups.{Setup, Routine, FunctionCode, PlanCode}
 use Rattle.code_ops.specs.declared.routines.Course.TheVariants.{Destroys, Deletes}
 use Rattle.abi_world.specs.Made.{HaveCodeNumbers}
+use Rattle.path_model.specs.States.{is_body}
 
 module _ (x : Setup) (codes : List CodeRow) (typed : IsTypedProgram x.h x.program) (numbered : HaveCodeNumbers x codes) where
   -- a function that is declared, and not pure
@@ -47,7 +48,7 @@ module _ (x : Setup) (codes : List CodeRow) (typed : IsTypedProgram x.h x.progra
   plain_code f (Some declared) e some pure =
       let not_pure : declared.is_pure ≡ false = let r : is_pure x.h f ≡ declared.is_pure = rw e refl in sym r ∙ pure in
       let found = function_found x.h x.program typed f (declared, e, not_pure) in
-      has_code f Plain (FunctionCode f) (ap has_body found.1) refl refl
+      has_code f Plain (FunctionCode f) (ap is_body found.1) refl refl
 
   by_slot : (f : FunctionId) (signature : Signature) (class : Class) (kind : CodeKind) (o : Option (Function ClassId)) (is_last : Bool) → class_at x.h f.class ≡ Some class → slice_get class.functions f.index ≡ o → nat_eq f.index (length class.functions) ≡ is_last
       → signature_at o is_last ≡ Some signature → Item (kinds_in (Some signature)) kind → is_pure x.h f ≡ false → f.class.0 < length x.h → (code : ℕ) × (code_of codes f (block_kind kind) ≡ Some code)

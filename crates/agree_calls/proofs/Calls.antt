@@ -1,11 +1,10 @@
 -- A call by the view opens the frame of the final overrider; or rule 6 refuses it, or limit 10 stops it.
-use Rattle.std.proofs.Common.{◌≡◌, ⊎_elim, ℕ, ◌<◌, ◌≤◌, Bool, true, false, Option, Some, None, List, [], ◌∷◌, ◌++◌, refl, ap, sym, subst, ◌∙◌, arith}
+use Rattle.std.proofs.Common.{◌≡◌, ⊎_elim, ℕ, ◌<◌, ◌≤◌, Bool, true, false, Option, Some, List, [], ◌∷◌, ◌++◌, refl, ap, sym, subst, ◌∙◌, arith}
 use Rattle.agree_calls.proofs.Kept.{nothing_added}
 use Rattle.agree_calls.specs.Shown.{ShowsViews}
 use Rattle.agree_dispatch.proofs.OwnKeys.{first_own}
 use Rattle.agree_dispatch.specs.Words.{HasEntryWord}
 use Rattle.code_blocks.specs.Blocks.{AtStatement}
-use Rattle.code_ops.specs.Routines.{has_body}
 use Rattle.code_ops.specs.Setups.{FunctionCode}
 use Rattle.code_ops.specs.Uses.{check_ops, sorted_checks}
 use Rattle.code_ops.specs.declared.uses.Used.TheVariants.{Takes as TakesEntry}
@@ -43,7 +42,6 @@ use Rattle.cxx_overrider.specs.Overriding.{IsVirtual}
 use Rattle.cxx_overrider.specs.declared.FunctionId.{FunctionId}
 use Rattle.cxx_overrider.specs.declared.Overrider.{Overrider}
 use Rattle.cxx_program.specs.declared.program.Owner.TheVariants.{Function}
-use Rattle.cxx_program.specs.declared.program.TypedBody.{TypedBody}
 use Rattle.cxx_search.specs.Searches.{final_in}
 use Rattle.cxx_subobject.specs.Locations.{ObjectPart}
 use Rattle.cxx_subobject.specs.Subobjects.{join}
@@ -65,13 +63,9 @@ one_check r entry = refl
 -- the function and its body are those of a routine
 pub function_block : (w : World) → (world : IsProgramWorld w) → (n : FunctionId) (block : ℕ) → is_body (owned_body w.setup.program (Function n)) ≡ true → code_of w.numbers n Plain ≡ Some block → block ≡ world.lowered.at (AtStatement (FunctionCode n) 0)
 function_block w world n block defined coded =
-    let number = world.lowered.numbered (FunctionCode n) n (has_it (owned_body w.setup.program (Function n)) defined) refl in
+    let number = world.lowered.numbered (FunctionCode n) n defined refl in
     let same : Some block ≡ Some (world.lowered.at (AtStatement (FunctionCode n) 0)) = sym coded ∙ number in
     cc
-  where
-    has_it : (o : Option TypedBody) → is_body o ≡ true → has_body o ≡ true
-    has_it None e = absurd (let f : false ≡ true = e in cc)
-    has_it (Some body) e = refl
 
 module _ (w : World) (s : Objects) (b : Running) (P : Running → Stop → Type 0) (world : IsProgramWorld w) (columns : ColumnsStand w s b.memory b.objects b.heap b.notes) (shows : ShowsViews w s b.memory) where
   abbrev g : Heap

@@ -8,7 +8,7 @@ use Rattle.path_plan.specs.Phases.{PartEvent, part_of}
 use Rattle.path_plan.specs.Plans.{Form}
 use Rattle.path_plan.specs.Views.{Fits}
 use Rattle.path_model.specs.declared.outs.Out.{Out}
-use Rattle.path_model.specs.States.{ProgramState, Planned, Frame as PathFrame, InPlan, with_objects}
+use Rattle.path_model.specs.States.{ProgramState, Planned, Frame as PathFrame, InPlan, with_objects, is_body}
 use Rattle.path_model.specs.Effects.{Goes}
 use Rattle.path_model.specs.Steps.{objects_after, event_outs, resumed, event_step}
 use Rattle.path_model.specs.Runs.{open_count}
@@ -17,7 +17,7 @@ use Rattle.code_blocks.specs.Items.{Item, Does, event_of}
 use Rattle.code_blocks.specs.Lowered.{IsEnd, has_own_block}
 use Rattle.code_blocks.specs.declared.items.Kind.{Kind}
 use Rattle.code_blocks.specs.declared.items.Kind.TheVariants.{AtBegin, AtReady, AtInit, AtBody, AtDone, AtEnding, AtBases, AtEnd}
-use Rattle.code_ops.specs.Routines.{IsCourse, has_body}
+use Rattle.code_ops.specs.Routines.{IsCourse}
 use Rattle.code_ops.specs.Setups.{PlanCode, body_of_routine}
 use Rattle.code_ops.specs.declared.routines.Course.{Course}
 use Rattle.byte_code.specs.declared.code.Block.{Block}
@@ -172,7 +172,7 @@ plan_block w at world s p path frames_are r begins e es events fits is_open s' t
     }
 
 -- and that block stands in the code
-pub block_there : (w : World) → (world : IsProgramWorld w) → (course : Course) (form : Form) (c : ClassId) (k : Kind) (left : List Item) → c.0 < length (world_classes w) → IsCourse course form → IsEnd w.setup course form c (Does k ∷ left) → has_own_block (has_body (body_of_routine w.setup (PlanCode course form c))) k ≡ true
+pub block_there : (w : World) → (world : IsProgramWorld w) → (course : Course) (form : Form) (c : ClassId) (k : Kind) (left : List Item) → c.0 < length (world_classes w) → IsCourse course form → IsEnd w.setup course form c (Does k ∷ left) → has_own_block (is_body (body_of_routine w.setup (PlanCode course form c))) k ≡ true
     → slice_get w.code.blocks (world.lowered.at (AtEvent course form c (Does k ∷ left))) ≡ Some (record { ops = event_block w.setup world.lowered.at course form c k left; line = 0 })
 block_there w world course form c k left known fits end own =
     let block : Block = record { ops = event_block w.setup world.lowered.at course form c k left; line = 0 } in

@@ -10,7 +10,7 @@ use Rattle.path_plan.specs.Views.{Fits}
 use Rattle.path_plan.specs.Whole.{whole_part}
 use Rattle.path_model.specs.Values.{Objects}
 use Rattle.path_model.specs.declared.outs.Out.{Out}
-use Rattle.path_model.specs.States.{ProgramState, RunningBody as PathRunning, Planned, Frame as PathFrame, InBody, InPlan, with_frames}
+use Rattle.path_model.specs.States.{ProgramState, RunningBody as PathRunning, Planned, Frame as PathFrame, InBody, InPlan, with_frames, is_body}
 use Rattle.path_model.specs.Effects.{Goes}
 use Rattle.path_model.specs.Runs.{Moves}
 use Rattle.path_model.specs.Steps.{objects_after, event_outs, event_step}
@@ -19,7 +19,7 @@ use Rattle.code_blocks.specs.Items.{Item, Does, event_of}
 use Rattle.code_blocks.specs.Lowered.{IsEnd, has_own_block}
 use Rattle.code_blocks.specs.declared.items.Kind.{Kind}
 use Rattle.code_blocks.specs.declared.items.Kind.TheVariants.{AtDone}
-use Rattle.code_ops.specs.Routines.{IsCourse, has_body}
+use Rattle.code_ops.specs.Routines.{IsCourse}
 use Rattle.code_ops.specs.Setups.{PlanCode, plan_owner, body_of_routine}
 use Rattle.code_ops.specs.declared.routines.Course.{Course}
 use Rattle.code_ops.specs.declared.routines.Course.TheVariants.{Constructs}
@@ -64,7 +64,7 @@ PlanBlocksAgree w at = IsProgramWorld w → (s : ProgramState) (p : Planned) (pa
 -- the block of an own event stands in the code
 abbrev pub PlanBlocksStand : World → Type 0
 PlanBlocksStand w = (world : IsProgramWorld w) → (course : Course) (form : Form) (c : ClassId) (k : Kind) (left : List Item) → c.0 < length (world_classes w) →
-    IsCourse course form → IsEnd w.setup course form c (Does k ∷ left) → has_own_block (has_body (body_of_routine w.setup (PlanCode course form c))) k ≡ true →
+    IsCourse course form → IsEnd w.setup course form c (Does k ∷ left) → has_own_block (is_body (body_of_routine w.setup (PlanCode course form c))) k ≡ true →
     slice_get w.code.blocks (world.lowered.at (AtEvent course form c (Does k ∷ left))) ≡ Some (record { ops = event_block w.setup world.lowered.at course form c k left; line = 0 })
 
 -- where a body of a plan is on top, the frame on top runs the plan of a part

@@ -1,8 +1,7 @@
 -- A turn of a plan on top: the block of its next event stands in the code, and agrees with the move.
-use Rattle.std.proofs.Common.{◌≡◌, ◌<◌, true, false, Option, Some, None, List, ◌∷◌, length, refl, ap, subst, sym, ◌∙◌}
+use Rattle.std.proofs.Common.{◌≡◌, ◌<◌, true, false, List, ◌∷◌, length, refl, ap, subst, sym, ◌∙◌}
 use Rattle.std.specs.Prelude.{not, slice_get}
 use Rattle.cxx_program.specs.declared.program.Owner.TheVariants.{Constructor}
-use Rattle.cxx_program.specs.declared.program.TypedBody.{TypedBody}
 use Rattle.foundation.proofs.Truth.{is_false}
 use Rattle.path_plan.specs.Phases.{PartEvent}
 use Rattle.path_model.specs.Outs.{class_or_first}
@@ -18,7 +17,6 @@ use Rattle.code_blocks.specs.Items.{Item, Does, event_of}
 use Rattle.code_blocks.specs.Lowered.{IsEnd, has_own_block}
 use Rattle.code_blocks.specs.declared.items.Kind.{Kind}
 use Rattle.code_blocks.specs.declared.items.Kind.TheVariants.{AtBegin, AtReady, AtInit, AtBody, AtDone, AtEnding, AtBases, AtEnd}
-use Rattle.code_ops.specs.Routines.{has_body}
 use Rattle.code_ops.specs.Setups.{PlanCode, body_of_routine}
 use Rattle.code_ops.specs.declared.routines.Course.{Course}
 use Rattle.code_ops.specs.declared.routines.Course.TheVariants.{Constructs}
@@ -47,11 +45,6 @@ event_leads w world s p path a typed f k left others lower b ends plan =
     (record { plan = plan; ends = ends; waits = waits_of w s p path typed; globals = a.typed.globals; silent = a.silent; settled = a.settled; seen = a.seen })
     registers memory notes outs happened))
 
--- a declared body
-same_body : (o : Option TypedBody) → has_body o ≡ is_body o
-same_body None = refl
-same_body (Some body) = refl
-
 module _ (w : World) (world : IsProgramWorld w) (s : ProgramState) (p : Planned) (path : List PathFrame) (frames_are : s.frames ≡ InPlan p ∷ path) (b : Running) (begins : BeginsBlock w world.lowered.at s b) (a : IsUnderWay w s p path) where
   step_is : event_step w.setup.program s p path (a.event ∷ a.rest) ≡ Goes a.new a.told
   step_is = ap (event_step w.setup.program s p path) (sym a.is) ∙ a.steps
@@ -71,16 +64,16 @@ module _ (w : World) (world : IsProgramWorld w) (s : ProgramState) (p : Planned)
         cc (wrong)
 
     -- a constructor that is done has no body
-    bodiless : k ≡ AtDone → not (has_body (body_of_routine w.setup (PlanCode f.course f.form f.class))) ≡ true
+    bodiless : k ≡ AtDone → not (is_body (body_of_routine w.setup (PlanCode f.course f.form f.class))) ≡ true
     bodiless is =
         let constructs : f.course ≡ Constructs = done_constructs w.setup world.hierarchy f.course f.form f.class left (subst (λ (j : Kind). IsEnd w.setup f.course f.form f.class (Does j ∷ left)) is block.ends) in
         let class : class_of_part f.part ≡ f.class = ap class_or_first block.turn.turn.planned.going.0.made.of_class in
         let event : a.event ≡ event_of AtDone f.part = event_is ∙ ap (λ (j : Kind). event_of j f.part) is in
         let none : is_body (owned_body w.setup.program (Constructor (class_of_part f.part))) ≡ false = is_false _ (subst (λ (e : PartEvent). IsClosing w.setup.program e → ⊥) event (a.own frames_are)) in
-        ap (λ (course : Course). not (has_body (body_of_routine w.setup (PlanCode course f.form f.class)))) constructs
-        ∙ ap not (same_body (owned_body w.setup.program (Constructor f.class)) ∙ (ap (λ c. is_body (owned_body w.setup.program (Constructor c))) (sym class) ∙ none))
+        ap (λ (course : Course). not (is_body (body_of_routine w.setup (PlanCode course f.form f.class)))) constructs
+        ∙ ap not (ap (λ c. is_body (owned_body w.setup.program (Constructor c))) (sym class) ∙ none)
 
-    owns : (j : Kind) → k ≡ j → has_own_block (has_body (body_of_routine w.setup (PlanCode f.course f.form f.class))) j ≡ true
+    owns : (j : Kind) → k ≡ j → has_own_block (is_body (body_of_routine w.setup (PlanCode f.course f.form f.class))) j ≡ true
     owns AtBegin is = refl
     owns AtReady is = refl
     owns (AtInit m) is = refl

@@ -7,11 +7,11 @@ use Rattle.cxx_hierarchy.specs.declared.records.ClassId.{ClassId}
 use Rattle.cxx_subobject.specs.Locations.{ObjectPart}
 use Rattle.cxx_program.specs.declared.program.TypedBody.{TypedBody}
 use Rattle.path_model.specs.TypedStates.{IsPartMade}
-use Rattle.code_ops.specs.Routines.{IsRoutine, has_body}
+use Rattle.code_ops.specs.Routines.{IsRoutine}
 use Rattle.code_ops.specs.Setups.{Routine, MainCode, FunctionCode, PlanCode, routine_owner}
 use Rattle.agree_relation.specs.Worlds.{world_classes}
 use Rattle.agree_relation.specs.Goings.{AreGoing}
-use Rattle.path_model.specs.States.{owned_body, RunningBody as Body, Planned, Frame as PathFrame, InBody, InPlan}
+use Rattle.path_model.specs.States.{owned_body, RunningBody as Body, Planned, Frame as PathFrame, InBody, InPlan, is_body}
 use Rattle.byte_machine.specs.Frames.{MachineFrame}
 use Rattle.agree_parts.specs.Heaps.{Heap}
 use Rattle.agree_relation.specs.Worlds.{World}
@@ -110,11 +110,11 @@ module _ (w : World) (at : PlaceNumbers) (g : Heap) where
   by_owner Main f below gs [] e a = absurd a
   by_owner Main f below gs (b ∷ bs) e a = on_top_in_body MainCode false f below gs bs (StandOver w at g None below) (sym e)
       (λ locals next b' rest_of stands. subst (λ (o : Owner). BodyStandsOver w at g (body_on f locals next) o below (StandOver w at g None below) (StandOver w at g (Some (body_on f locals next)) below) gs (b' ∷ rest_of)) (sym e) stands)
-      (λ body there. ap has_body (ap (owned_body w.setup.program) (sym e) ∙ there)) b a
+      (λ body there. ap is_body (ap (owned_body w.setup.program) (sym e) ∙ there)) b a
   by_owner (Function n) f below gs [] e a = absurd a
   by_owner (Function n) f below gs (b ∷ bs) e a = on_top_in_body (FunctionCode n) true f below gs bs (StandOver w at g None below) (sym e)
       (λ locals next b' rest_of stands. subst (λ (o : Owner). BodyStandsOver w at g (body_on f locals next) o below (StandOver w at g None below) (StandOver w at g (Some (body_on f locals next)) below) gs (b' ∷ rest_of)) (sym e) stands)
-      (λ body there. ap has_body (ap (owned_body w.setup.program) (sym e) ∙ there)) b a
+      (λ body there. ap is_body (ap (owned_body w.setup.program) (sym e) ∙ there)) b a
   by_owner (Constructor c) f below gs bs e a = on_plan f below gs bs
       (λ locals next stack stands. subst (λ (o : Owner). BodyStandsOver w at g (body_on f locals next) o below (StandOver w at g None below) (StandOver w at g (Some (body_on f locals next)) below) gs stack) (sym e) stands) a
   by_owner (Destructor c) f below gs bs e a = on_plan f below gs bs

@@ -15,11 +15,12 @@ use Rattle.abi_slots.specs.declared.code_numbers.CodeRow.{CodeRow}
 use Rattle.abi_slots.specs.CodeRows.{code_of, AreDistinctRows}
 use Rattle.byte_code.specs.declared.code.Block.{Block}
 use Rattle.byte_code.specs.declared.code.Code.{Code}
-use Rattle.code_ops.specs.Routines.{has_body, IsRoutine, function_of_routine, routine_kind}
+use Rattle.code_ops.specs.Routines.{IsRoutine, function_of_routine, routine_kind}
 use Rattle.code_ops.specs.Setups.{Setup, Routine, MainCode, PlanCode, body_of_routine, locals_in}
 use Rattle.code_ops.specs.declared.routines.Course.{Course}
 use Rattle.code_blocks.specs.Items.{Kind, AtBegin, AtReady, AtInit, AtBody, AtDone, AtEnding, AtBases, AtEnd, Item, Does, Shares, Inherits, Holds}
 use Rattle.code_blocks.specs.Blocks.{Place, AtStatement, AtEvent, items, routine_start, statement_ops, closing_ops, event_block}
+use Rattle.path_model.specs.States.{is_body}
 
 abbrev pub statement_block : Setup → (Place → ℕ) → Routine → TypedBody → ℕ → Option TypedStatement → Option Block
 statement_block x at r body n None = if nat_eq n (length body.statements) then Some (record { ops = closing_ops x at r; line = body.close_line }) else None
@@ -42,7 +43,7 @@ has_own_block has_body AtEnd = true
 
 abbrev pub own_block : Setup → (Place → ℕ) → Course → Form → ClassId → List Item → Option Block
 own_block x at course form c [] = None
-own_block x at course form c (Does k ∷ left) = if has_own_block (has_body (body_of_routine x (PlanCode course form c))) k then Some (record { ops = event_block x at course form c k left; line = 0 }) else None
+own_block x at course form c (Does k ∷ left) = if has_own_block (is_body (body_of_routine x (PlanCode course form c))) k then Some (record { ops = event_block x at course form c k left; line = 0 }) else None
 own_block x at course form c (Shares v ∷ left) = None
 own_block x at course form c (Inherits b ∷ left) = None
 own_block x at course form c (Holds way m d n ∷ left) = None

@@ -1,10 +1,10 @@
 -- The routines of a program, the functions whose code they are, and where their code begins.
-use Rattle.std.specs.Prelude.{◌≡◌, ℕ, ◌+◌, ◌<◌, Bool, true, false, Option, Some, None, List, length}
+use Rattle.std.specs.Prelude.{◌≡◌, ℕ, ◌+◌, ◌<◌, true, Option, Some, None, List, length}
+use Rattle.path_model.specs.States.{is_body}
 use Rattle.cxx_hierarchy.specs.declared.records.ClassId.{ClassId}
 use Rattle.cxx_hierarchy.specs.Classes.{Classes, functions_of}
 use Rattle.cxx_overrider.specs.declared.FunctionId.{FunctionId}
 use Rattle.cxx_search.specs.Searches.{destructor_of}
-use Rattle.cxx_program.specs.declared.program.TypedBody.{TypedBody}
 use Rattle.path_plan.specs.Plans.{Form, InFull, AsBase}
 use Rattle.abi_slots.specs.declared.code_numbers.BlockKind.{BlockKind}
 use Rattle.abi_slots.specs.declared.code_numbers.BlockKind.TheVariants.{Plain, BuildComplete, BuildBase, EndComplete, EndBase, EndDeleting}
@@ -14,10 +14,6 @@ use Rattle.code_ops.specs.declared.routines.Course.{Course}
 use Rattle.code_ops.specs.declared.routines.Course.TheVariants.{Constructs, Destroys, Deletes}
 use Rattle.code_ops.specs.Setups.{Setup, Routine, MainCode, FunctionCode, PlanCode, body_of_routine}
 
-abbrev pub has_body : Option TypedBody → Bool
-has_body None = false
-has_body (Some body) = true
-
 -- a base is deleted by no plan of its own
 abbrev pub IsCourse : Course → Form → Type 0
 IsCourse Constructs form = Unit {0}
@@ -26,8 +22,8 @@ IsCourse Deletes form = form ≡ InFull
 
 -- the routine is one of the program
 abbrev pub IsRoutine : Setup → Routine → Type 0
-IsRoutine x MainCode = has_body (body_of_routine x MainCode) ≡ true
-IsRoutine x (FunctionCode f) = has_body (body_of_routine x (FunctionCode f)) ≡ true
+IsRoutine x MainCode = is_body (body_of_routine x MainCode) ≡ true
+IsRoutine x (FunctionCode f) = is_body (body_of_routine x (FunctionCode f)) ≡ true
 IsRoutine x (PlanCode course form c) = (c.0 < length x.h) × IsCourse course form
 
 -- numbers of functions: a constructor has the index after its class's destructor

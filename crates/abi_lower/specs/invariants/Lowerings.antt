@@ -17,7 +17,7 @@ use Rattle.abi_slots.specs.Slots.{AreSlots}
 use Rattle.abi_tables.specs.Counts.{words_of_all_classes, most_words}
 use Rattle.abi_sound.specs.declared.class_layout.ClassLayout.{ClassLayout}
 use Rattle.code_ops.specs.Setups.{Setup, setup, places, Routine, PlanCode, body_of_routine, routine_owner}
-use Rattle.code_ops.specs.Routines.{has_body, start_by}
+use Rattle.code_ops.specs.Routines.{start_by}
 use Rattle.code_ops.specs.invariants.Fits.{most_local_registers}
 use Rattle.code_blocks.specs.declared.items.Item.{Item as ItemCode}
 use Rattle.code_blocks.specs.Blocks.{items}
@@ -31,6 +31,7 @@ use Rattle.abi_lower.specs.declared.lowering.Lowering.{Lowering}
 use Rattle.abi_lower.specs.declared.plan_blocks.PlanRun.{PlanRun}
 use Rattle.abi_lower.specs.Bounds.{IsSmall}
 use Rattle.abi_lower.specs.invariants.Numbers.{own_events, blocks_in, block_count, code_rows_from, code_rows}
+use Rattle.path_model.specs.States.{is_body}
 
 pub record IsLowering (x : Setup) (overriders : Overriders) (slots : Slots) (index : BodyIndex) (orders : List ClassNumbers) : Type 0 where
   pub keeps : IsHierarchy x.h
@@ -75,7 +76,7 @@ pub record IsPlanRun (x : Setup) (numbers : List CodeRow) (run : PlanRun) : Type
   pub rows : numbers ≡ code_rows x
   pub begins : run.first ≡ start_by x numbers (plan_code run.plan)
   pub counted : run.own ≡ own_events x (plan_code run.plan)
-  pub body : run.has_body ≡ has_body (body_of_routine x (plan_code run.plan))
+  pub body : run.has_body ≡ is_body (body_of_routine x (plan_code run.plan))
   pub room : run.first + run.own < 2 ^ 32
 
 -- the same of a plan of a known class

@@ -12,11 +12,12 @@ use Rattle.abi_slots.specs.declared.code_numbers.BlockKind.{BlockKind}
 use Rattle.abi_slots.specs.declared.code_numbers.CodeRow.{CodeRow}
 use Rattle.code_ops.specs.declared.routines.Course.TheVariants.{Constructs, Destroys, Deletes}
 use Rattle.code_ops.specs.Setups.{Setup, Routine, MainCode, FunctionCode, PlanCode, body_of_routine}
-use Rattle.code_ops.specs.Routines.{has_body, function_of_routine, routine_kind, start_by}
+use Rattle.code_ops.specs.Routines.{function_of_routine, routine_kind, start_by}
 use Rattle.code_blocks.specs.Items.{Item, Does, Shares, Inherits, Holds}
 use Rattle.code_blocks.specs.Blocks.{Place, AtStatement, AtEvent, items}
 use Rattle.code_blocks.specs.Lowered.{has_own_block}
 use Rattle.abi_lower.specs.Bounds.{body_blocks}
+use Rattle.path_model.specs.States.{is_body}
 
 -- the routines of a program, in the order of their code
 
@@ -66,7 +67,7 @@ own_count has left = count_by (is_own_item has) left
 unfoldable pub own_events : Setup → Routine → ℕ
 own_events x MainCode = 0
 own_events x (FunctionCode f) = 0
-own_events x (PlanCode course form c) = own_count (has_body (body_of_routine x (PlanCode course form c))) (items x course form c)
+own_events x (PlanCode course form c) = own_count (is_body (body_of_routine x (PlanCode course form c))) (items x course form c)
 
 unfoldable pub blocks_in : Setup → Routine → ℕ
 blocks_in x r = own_events x r + body_blocks (body_of_routine x r)
@@ -91,4 +92,4 @@ code_rows x = code_rows_from x 0 (routines x)
 -- the number of the block of a place: behind the routine's first block stand its plan's own events up to it, or all of them and the statements before it
 unfoldable pub block_number : Setup → Place → ℕ
 block_number x (AtStatement r n) = start_by x (code_rows x) r + own_events x r + n
-block_number x (AtEvent course form c left) = start_by x (code_rows x) (PlanCode course form c) + (own_events x (PlanCode course form c) - own_count (has_body (body_of_routine x (PlanCode course form c))) left)
+block_number x (AtEvent course form c left) = start_by x (code_rows x) (PlanCode course form c) + (own_events x (PlanCode course form c) - own_count (is_body (body_of_routine x (PlanCode course form c))) left)
