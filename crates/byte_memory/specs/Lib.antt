@@ -5,4 +5,3 @@ pub mod Regions
 pub mod Store
 pub mod Words
 pub mod Pages
-pub mod Cells
