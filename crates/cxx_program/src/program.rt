@@ -1,9 +1,5 @@
 //! Bodies, and a program as a whole.
 
-ghost use Rattle.std.specs.Prelude.{◌≡◌};
-ghost use Rattle.std.specs.Option.{option_map};
-ghost use Rattle.cxx_program.specs.declared.program.TypedBody.{TypedBody};
-
 use crate::operand::{Conversion, TypedOperand};
 use crate::statement::TypedStatement;
 use cxx_hierarchy::{ClassId, ValueType};
@@ -55,13 +51,4 @@ pub struct TypedProgram {
     pub globals: TypeList,
     pub bodies: TypedBodyList,
     pub main: Option<TypedBody>,
-}
-
-impl TypedProgram {
-    /// The line of the opening brace of `main`, from 1, or none exactly where the program has no `main`.
-    pub fn main_line(&self) -> Option<u32>
-        ensures { result ≡ option_map (λ (body : TypedBody). body.line) self.now.main }
-    {
-        self.main.as_ref().map(|body| body.line)
-    }
 }
