@@ -24,7 +24,7 @@ use abi_primary::{Primary, holder_among};
 use abi_sound::places::place_of_number;
 use abi_sound::{BitList, Bits, ClassLayout, ClassList, HolderList, PlaceList};
 use cxx_hierarchy::{Base, ClassId, FieldType, Hierarchy, Member, Scalar, ValueType};
-use cxx_subobject::{Root, Subobject, is_same, shared_class, subobject_below};
+use cxx_subobject::{Root, Subobject, is_same, shared_base, shared_class, subobject_below};
 use foundation::{NoMemory, Sequence};
 use std::alloc::Global;
 
@@ -50,17 +50,6 @@ fn direct_base(alloc: Global, c: ClassId, b: ClassId) -> Result<Subobject, NoMem
     let classes = Vec::from_slice(alloc, &[c, b])?;
     Ok(Subobject {
         root: Root::Whole,
-        path: Sequence::from_vec(classes),
-    })
-}
-
-/// The subobject that a virtual base is.
-fn shared_base(alloc: Global, v: ClassId) -> Result<Subobject, NoMemory>
-    ensures { IfOk result (λ s. s ≡ shared_base v) }
-{
-    let classes = Vec::from_slice(alloc, &[v])?;
-    Ok(Subobject {
-        root: Root::Shared(v),
         path: Sequence::from_vec(classes),
     })
 }

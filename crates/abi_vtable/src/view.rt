@@ -5,7 +5,7 @@ ghost use Rattle.cxx_hierarchy.specs.Limits.{most_classes};
 ghost use Rattle.cxx_hierarchy.specs.declared.records.ClassId.{ClassId};
 ghost use Rattle.cxx_hierarchy.specs.Classes.{Classes};
 ghost use Rattle.cxx_subobject.specs.declared.Subobject.{Subobject};
-ghost use Rattle.cxx_subobject.specs.Subobjects.{IsSubobject, subobject, same_path, same_subobject, shared_base, class_of};
+ghost use Rattle.cxx_subobject.specs.Subobjects.{IsSubobject, subobject, same_path, same_subobject, class_of};
 ghost use Rattle.cxx_subobject.specs.Preorder.{preorder};
 ghost use Rattle.abi_primary.specs.Kinds.{IsDynamic};
 ghost use Rattle.abi_sound.specs.Places.{places_of};
@@ -17,9 +17,8 @@ use abi_primary::{Primary, is_dynamic};
 use abi_slots::GroupName;
 use abi_sound::SoundLayout;
 use cxx_hierarchy::{ClassId, Hierarchy};
-use cxx_subobject::listing::longer_path;
 use cxx_subobject::{
-    Root, Subobject, class_of, is_same, is_same_root, join, list_subobjects, subobject_below,
+    Subobject, class_of, is_same, is_same_root, join, list_subobjects, shared_base, subobject_below,
 };
 use foundation::{NoMemory, Sequence};
 use std::alloc::Global;
@@ -160,16 +159,6 @@ fn class_at(s: &Subobject) -> ClassId
         Some(class) => class,
         None => unreachable!(),
     }
-}
-
-/// The subobject that a virtual base is.
-fn shared_base(alloc: Global, v: ClassId) -> Result<Subobject, NoMemory>
-    ensures { IfOk result (λ s. s ≡ shared_base v) }
-{
-    Ok(Subobject {
-        root: Root::Shared(v),
-        path: longer_path(alloc, &[v], &[])?,
-    })
 }
 
 /// Whether a subobject of an object holds a virtual base of it.
