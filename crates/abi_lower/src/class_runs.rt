@@ -5,7 +5,7 @@ ghost use Rattle.std.specs.List.{flat_map};
 ghost use Rattle.code_ops.specs.Setups.{PlanCode};
 ghost use Rattle.code_ops.specs.Routines.{IsRoutine};
 ghost use Rattle.code_blocks.specs.Blocks.{items};
-ghost use Rattle.code_blocks.specs.invariants.ItemCodes.{coded_form};
+ghost use Rattle.code_blocks.specs.invariants.ItemCodes.{code_form};
 ghost use Rattle.code_plans.specs.Settings.{ArePointers};
 ghost use Rattle.abi_lower.specs.invariants.Numbers.{class_ids};
 ghost use Rattle.abi_lower.specs.invariants.Runs.{routine_blocks as run_of, class_blocks};
@@ -94,8 +94,8 @@ impl<'a, L: SoundLayout> BlockSite<'a, L> {
     ) -> Result<(), NoMemory>
         requires site { IsBlockSite L.lays_out L.rows self.now }
         requires pointers { ArePointers (block_setup L.rows self.now) class pointers.now }
-        requires routine { IsRoutine (block_setup L.rows self.now) (PlanCode course (coded_form form) class) }
-        ensures { OnOk result (blocks.new ≡ blocks.old ++ run_of (block_setup L.rows self.now) (PlanCode course (coded_form form) class)) }
+        requires routine { IsRoutine (block_setup L.rows self.now) (PlanCode course (code_form form) class) }
+        ensures { OnOk result (blocks.new ≡ blocks.old ++ run_of (block_setup L.rows self.now) (PlanCode course (code_form form) class)) }
     {
         let r = Routine::Plan(course, form, class);
         let all = self.lowering.items(course, form, class)?;

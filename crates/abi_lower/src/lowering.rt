@@ -5,7 +5,7 @@ ghost use Rattle.std.specs.Option.{option_copied};
 ghost use Rattle.path_bodies.specs.Places.{IsIndexOf};
 ghost use Rattle.code_ops.specs.Setups.{body_of_routine};
 ghost use Rattle.code_blocks.specs.Blocks.{items};
-ghost use Rattle.code_blocks.specs.invariants.ItemCodes.{coded_form, item_codes, ArePlans};
+ghost use Rattle.code_blocks.specs.invariants.ItemCodes.{item_codes, ArePlans, code_form};
 ghost use Rattle.abi_lower.specs.invariants.Codes.{routine_from};
 ghost use Rattle.abi_lower.specs.invariants.Lowerings.{lowering_setup};
 
@@ -50,7 +50,7 @@ impl<'a, L: SoundLayout> Lowering<'a, L> {
     pub fn items(&self, course: Course, form: Form, c: ClassId) -> Result<ItemList, NoMemory>
         requires plans { ArePlans self.now.h.now self.now.program.now self.now.index.now self.now.orders.now }
         requires known { c.0 < length self.now.h.now }
-        ensures { IfOk result (λ list. list ≡ item_codes (items (lowering_setup L.rows self.now) course (coded_form form) c)) }
+        ensures { IfOk result (λ list. list ≡ item_codes (items (lowering_setup L.rows self.now) course (code_form form) c)) }
     {
         let plans = Plans {
             alloc: self.alloc,

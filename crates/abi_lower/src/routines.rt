@@ -6,7 +6,7 @@ ghost use Rattle.cxx_program.specs.declared.program.TypedBody.{TypedBody};
 ghost use Rattle.abi_sound.specs.declared.class_layout.ClassLayout.{ClassLayout};
 ghost use Rattle.code_ops.specs.Setups.{setup, routine_owner};
 ghost use Rattle.code_ops.specs.Routines.{routine_kind, plan_kind as plan_kind_of, plan_function as plan_function_of};
-ghost use Rattle.code_blocks.specs.invariants.ItemCodes.{coded_form};
+ghost use Rattle.code_blocks.specs.invariants.ItemCodes.{code_form};
 ghost use Rattle.abi_lower.specs.invariants.Numbers.{main_routines, owned_routines, plain_routines, plan_routines, class_ids, routines};
 ghost use Rattle.abi_lower.specs.invariants.Codes.{routine_from, routines_from};
 
@@ -44,7 +44,7 @@ pub fn owner(r: Routine) -> Owner
 
 /// The form of a function's code that a plan is.
 fn plan_kind(course: Course, form: Form) -> BlockKind
-    ensures { result ≡ plan_kind_of course (coded_form form) }
+    ensures { result ≡ plan_kind_of course (code_form form) }
 {
     match course {
         Course::Deletes => BlockKind::EndDeleting,

@@ -8,7 +8,7 @@ ghost use Rattle.byte_code.specs.declared.op.Op.TheVariants.{SetTable};
 ghost use Rattle.path_plan.specs.Plans.{AsBase, InFull};
 ghost use Rattle.code_ops.specs.Setups.{Setup};
 ghost use Rattle.code_blocks.specs.Blocks.{pointers_then};
-ghost use Rattle.code_blocks.specs.invariants.ItemCodes.{coded_form};
+ghost use Rattle.code_blocks.specs.invariants.ItemCodes.{code_form};
 ghost use Rattle.code_plans.specs.ClassTables.{IsLone};
 ghost use Rattle.code_plans.specs.PlanSites.{IsLaidPlanSite, plan_places, plan_setup};
 ghost use Rattle.code_plans.specs.Settings.{ArePointers, settings_of};
@@ -141,7 +141,7 @@ fn push_settings(ops: &mut OpList, settings: &[Setting]) -> Result<(), NoMemory>
 ///
 /// Errors: want of memory.
 pub fn push_pointers(ops: &mut OpList, pointers: &ClassPointers, form: Form) -> Result<(), NoMemory>
-    ensures { OnOk result ((x : Setup) (c : ClassId) → ArePointers x c pointers.now → ops.new ≡ ops.old ++ pointers_then x (coded_form form) c []) }
+    ensures { OnOk result ((x : Setup) (c : ClassId) → ArePointers x c pointers.now → ops.new ≡ ops.old ++ pointers_then x (code_form form) c []) }
 {
     match form {
         Form::InFull => push_settings(ops, pointers.in_full.as_slice())?,

@@ -29,7 +29,7 @@ use Rattle.path_events.specs.declared.frame.Step.{Step}
 use Rattle.path_events.specs.declared.frame.Step.TheVariants.{Event as EventStep, Last as LastStep, Open as OpenStep}
 use Rattle.path_events.specs.declared.plan.Plan.{Plan}
 use Rattle.path_events.specs.declared.plan.PlanEvent.{PlanEvent}
-use Rattle.path_events.specs.Frames.{form_of, StandsAs, left_of}
+use Rattle.path_events.specs.Frames.{StandsAs, left_of, frame_form}
 use Rattle.path_events.specs.Plans.{inner_of, IsEvent, begins_event, ending_event, EntryStands, EntriesStand, MeansNext, rest_events, PlanStands}
 use Rattle.path_events.specs.invariants.Steps.{IsStep, left_at, GivesStep, first_event, first_stage, event_in, stack_behind}
 use Rattle.path_events.proofs.Building.{built_first}
@@ -83,15 +83,15 @@ taken_by h keeps program classes b frame below f fs s r (EventStep code stage) i
 }
 taken_by h keeps program classes b frame below f fs s r (OpenStep kid form stage) is =
     let inner = inner_of h (plan_bodies program) b in
-    let inside = left_of h (plan_bodies program) b (form_of form) kid.class is.q (first_stage b) in
+    let inside = left_of h (plan_bodies program) b (frame_form form) kid.class is.q (first_stage b) in
     let behind = left_at h program b frame f.part stage in
     record {
       frames = pending is.q inside ∷ (pending f.part behind ∷ fs);
       stand = (record { stands = is.stands; left = refl }, (record { stands = s.stands; left = refl }, r));
       e = first_of b is.q;
-      means = first_means h program classes b kid is.q (named h classes kid (form_of form) is.q is.stands);
+      means = first_means h program classes b kid is.q (named h classes kid (frame_form form) is.q is.stands);
       is = ap (λ l. flat_map (expand inner) l ++ rest_of_plan inner fs) (s.left ∙ is.is)
-          ∙ (ap (λ t. (t ++ flat_map (expand inner) behind) ++ rest_of_plan inner fs) (inner_first h keeps (plan_bodies program) b (form_of form) kid.class is.q)
+          ∙ (ap (λ t. (t ++ flat_map (expand inner) behind) ++ rest_of_plan inner fs) (inner_first h keeps (plan_bodies program) b (frame_form form) kid.class is.q)
           ∙ ap (λ t. first_of b is.q ∷ t) (append_assoc (flat_map (expand inner) inside) (flat_map (expand inner) behind) (rest_of_plan inner fs)));
     }
 

@@ -18,9 +18,9 @@ use Rattle.path_events.specs.declared.frame.Stage.{Stage}
 use Rattle.path_events.specs.declared.frame.Stage.TheVariants.{Shared as SharedStage, Bases as BasesStage, Members as MembersStage, Body as BodyStage, Last as LastStage}
 
 -- the form that the code names
-abbrev pub form_of : FormCode → Form
-form_of InFullCode = InFull
-form_of AsBaseCode = AsBase
+abbrev pub frame_form : FormCode → Form
+frame_form InFullCode = InFull
+frame_form AsBaseCode = AsBase
 
 -- a part as the code names it is the part p, of this form, and all its numbers are below 2 ^ 32
 pub record StandsAs (h : Classes) (classes : List ClassId) (code : Part) (form : Form) (p : ObjectPart) : Type 0 where

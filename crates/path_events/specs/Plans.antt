@@ -14,7 +14,7 @@ use Rattle.path_events.specs.declared.plan.PlanEvent.{PlanEvent}
 use Rattle.path_events.specs.declared.plan.PlanEvent.TheVariants.{Begin as BeginCode, Ready as ReadyCode, Init as InitCode, Body as BodyCode, Done as DoneCode, Ending as EndingCode, Bases as BasesCode, End as EndCode}
 use Rattle.path_events.specs.declared.frame.Pending.{Pending as Frame}
 use Rattle.path_events.specs.declared.plan.Plan.{Plan}
-use Rattle.path_events.specs.Frames.{form_of, StandsAs, left_of}
+use Rattle.path_events.specs.Frames.{StandsAs, left_of, frame_form}
 use Rattle.path_plan.specs.Whole.{whole_part, construction, destruction}
 use Rattle.path_numbers.specs.Sizes.{sizes_of, total}
 
@@ -36,8 +36,8 @@ inner_of h bodies false = unplan h bodies
 
 -- an entry of the stack is a part with what is left of it
 pub record EntryStands (h : Classes) (bodies : Bodies) (is_building : Bool) (classes : List ClassId) (code : Frame) (f : Pending) : Type 0 where
-  pub stands : StandsAs h classes code.part (form_of code.form) f.part
-  pub left : f.left ≡ left_of h bodies is_building (form_of code.form) code.part.class f.part code.stage
+  pub stands : StandsAs h classes code.part (frame_form code.form) f.part
+  pub left : f.left ≡ left_of h bodies is_building (frame_form code.form) code.part.class f.part code.stage
 
 -- each of them, the innermost first
 abbrev pub EntriesStand : Classes → Bodies → Bool → List ClassId → List Frame → List Pending → Type 0

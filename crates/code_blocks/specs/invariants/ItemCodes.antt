@@ -16,9 +16,9 @@ use Rattle.code_blocks.specs.declared.items.Item.{Item as ItemCode}
 use Rattle.code_blocks.specs.declared.items.Item.TheVariants.{Does as DoesCode, Shares as SharesCode, Inherits as InheritsCode, Holds as HoldsCode}
 use Rattle.code_blocks.specs.Items.{Item, Does, Shares, Inherits, Holds}
 
-abbrev pub coded_form : FormCode → Form
-coded_form InFullCode = InFull
-coded_form AsBaseCode = AsBase
+abbrev pub code_form : FormCode → Form
+code_form InFullCode = InFull
+code_form AsBaseCode = AsBase
 
 abbrev pub item_code : Item → ItemCode
 item_code (Does k) = DoesCode k
