@@ -1,5 +1,5 @@
 -- What the tests of a primary base say.
-use Rattle.std.proofs.Common.{◌≡◌, Bool, true, false, ap}
+use Rattle.std.proofs.Common.{◌≡◌, true, false, ap}
 use Rattle.std.proofs.lemmas.Bool.{eqb-true}
 use Rattle.cxx_hierarchy.specs.declared.records.ClassId.{ClassId}
 use Rattle.cxx_subobject.proofs.PathLemmas.{same_id}

@@ -1,5 +1,5 @@
 -- Look-up and the choice of a base as functions (ISO C++03 4.10, 10.2; Rossie and Friedman).
-use Rattle.std.specs.Prelude.{ℕ, Bool, false, nat_eq, Option, Some, None, List, [], ◌∷◌, filter, position}
+use Rattle.std.specs.Prelude.{ℕ, Bool, false, Option, Some, None, List, [], ◌∷◌, filter, position}
 use Rattle.std.specs.List.{filter_map, list_any, list_all}
 use Rattle.std.specs.Str.{bytes_eq}
 use Rattle.cxx_hierarchy.specs.declared.records.ClassId.{ClassId}
