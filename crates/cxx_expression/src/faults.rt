@@ -78,6 +78,7 @@ pub fn settle<X: Drop>(faults: &[Fault], typed: Option<X>) -> Result<X, Stop>
     match (least(faults), typed) {
         (Some(fault), _) => Err(Stop::Refused(fault.rule, fault.at)),
         (None, Some(typed)) => Ok(typed),
+        // never met: a piece of a statement has a fault, or it is typed, by `answered`
         (None, None) => Err(Stop::NoMemory),
     }
 }

@@ -236,6 +236,7 @@ fn place_of(
     let Some(reached) = steps_of(site, known, faults, pointer.class, parts)? else {
         return Ok(None);
     };
+    // the refusal is never met: tokens spell a name behind the arrow, by `PlaceReads` of cxx_syntax
     let Some(place) = with_last(pointer, reached) else {
         return refuse(faults, Rule::TypeMismatch, site.at);
     };

@@ -260,6 +260,7 @@ fn check_member(scope: &Scope, at: u32, member: Option<&Member<Name>>) -> Result
             stop_if(is_bad(member.count), Stop::Limit(LimitNo::L4))?;
             check_width(member)
         }
+        // never met: the order names the members by their numbers, by `IsInOrder` (`build`)
         None => Ok(()),
     }
 }
@@ -273,6 +274,7 @@ fn check_function(scope: &Scope, at: u32, function: Option<&Function<Name>>) -> 
             check_return(scope, at, &function.ret)?;
             check_params(scope, function.params.as_slice())
         }
+        // never met: the order names the functions by their numbers, by `IsInOrder` (`build`)
         None => Ok(()),
     }
 }

@@ -18,6 +18,7 @@ fn class_of(table: &NameTable, name: &Name) -> ClassId
 {
     match table.find(name.as_slice()) {
         Some(number) => ClassId(number as u32),
+        // never met: the class pass refuses a name that no class has, by the clause `ok` of `build`
         None => ClassId(0),
     }
 }

@@ -35,6 +35,7 @@ fn members_of(h: &Hierarchy, c: ClassId) -> &[Member<ClassId>]
 {
     match class_at(h, c) {
         Some(class) => class.members.as_slice(),
+        // never met: a body is of a class of the source, by `bodies_of_records` of cxx_readings
         None => &[],
     }
 }
