@@ -40,6 +40,7 @@ pub fn call(
                 }))
             }
         }
+        // never met for a call that no rule refuses: its pointer is one, by `IsCallRun`
         _ => Ok(None),
     }
 }

@@ -31,6 +31,7 @@ pub fn copy(
     ensures answers { AreAnswers world.now.h.now answers.new }
     ensures copies { OnOk result (CopiesLeaves world.now.h.now heap.old heap.new scene.now to.now from.now c) }
 {
+    // never met, nor the next exit: where no rule refuses both are pointers, by `CopiesLeaves`
     let Value::Pointer(target) = value(scene, to) else {
         return Ok(());
     };

@@ -47,6 +47,7 @@ pub fn write(
     requires world { IsWorld world.now }
     ensures { IfOk result (λ _. WritesLeaf world.now.h.now heap.old heap.new scene.now place.now x.now) }
 {
+    // another value is never met: where no rule refuses it is a pointer, by `WritesLeaf`
     if let Value::Pointer(n) = value(scene, &place.pointer) {
         let v = argument_value(world, heap, scene, x);
         let k = leaf_number(world, heap, n, place);

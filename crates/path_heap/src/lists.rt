@@ -41,5 +41,6 @@ pub(crate) fn object_at(rows: &Vec<ObjectRow>, n: u32) -> u32
     requires { length rows.now.items < 2 ^ 32 }
     ensures { IsObjectAt rows.now.items n result }
 {
+    // 0 rows are never met for the number of a part: its object begins there or before (`IsCut`)
     rows_to(rows, n).saturating_sub(1) as u32
 }

@@ -48,6 +48,7 @@ impl Heap {
     {
         match self.objects.get(k as usize) {
             Some(row) => *row,
+            // never met for a heap object: each has a row, by `HeapStands`
             None => ObjectRow {
                 class: ClassId(0),
                 start: 0,

@@ -41,6 +41,7 @@ fn shared_distance(numbers: &Numbers, h: &Hierarchy, c: ClassId, v: ClassId) -> 
     ensures { IsSharedDistance h.now c v result }
 {
     h.keeps();
+    // never met for a class that has the virtual base, as `IsSharedDistance` asks: it is listed
     if c.0 >= h.len() {
         return 0;
     }
@@ -62,6 +63,7 @@ pub(crate) fn element_number(
     ensures value { (t : ValueType ClassId) → IsElement h.now c member index (Value t) → result ≡ (n + (member_offset h.now (sizes_of h.now) c member + index)) % 2 ^ 32 }
 {
     h.keeps();
+    // never met for an element, nor the next exit: `IsElement` says that its class has the member
     if c.0 >= h.len() {
         return n;
     }
@@ -103,6 +105,7 @@ fn object_size(numbers: &Numbers, h: &Hierarchy, d: ClassId) -> u32
     requires { AreClassNumbers h.now numbers.now }
     ensures { d.0 < length h.now → result ≡ sizes_of h.now InFull d }
 {
+    // never met for the class of a member: it is one of the hierarchy, by `keeps` of cxx_hierarchy
     if d.0 >= h.len() {
         return 0;
     }
@@ -155,6 +158,7 @@ impl Heap {
                 let cell = self.cell(n);
                 let far = shared_distance(numbers, h, cell.owner, v);
                 let near = shared_distance(numbers, h, c, v);
+                // a cut at 0 is never met: what lies in a virtual base has no number below its own
                 cell.whole
                     .wrapping_add(far.wrapping_add(x.saturating_sub(near)))
             }

@@ -328,6 +328,7 @@ fn close_constructor(run: &Run, machine: &mut Machine, outs: &mut Telling) -> Re
             let done = event_step(run, machine, outs, plan)?;
             Ok(done)
         }
+        // never met: a constructor runs on its plan, by `bodies_stand_on_plans` of path_model
         None => Ok(Next::Wrong),
     }
 }
@@ -379,6 +380,7 @@ pub(crate) fn body_step(
 {
     let here = frame.get();
     match run.index.body(run.program, here.owner) {
+        // never met: a body that runs is one of the program, by `runs_are_typed` of path_model
         None => Ok(Next::Wrong),
         Some(body) => match statement_at(body, here.next) {
             None => {

@@ -71,6 +71,7 @@ pub(crate) fn call_body(
         target,
         depth,
     )? {
+        // never met: a call that goes on has a body to run, by `runs_are_typed` of path_model
         None => Ok(Next::Wrong),
         Some(opened) => {
             let entered = BodyBox::new(run.alloc, opened)?;
@@ -95,6 +96,7 @@ pub(crate) fn new_object(
     requires setup { IsSetup run.now }
     ensures { IfOk result (OpensNew run.now machine.old machine.new frame next class (target_of_code target)) }
 {
+    // never met: a typed `new` names a class of the hierarchy, by `runs_are_typed` of path_model
     if class.0 >= run.world.h.len() {
         return Ok(Next::Wrong);
     }

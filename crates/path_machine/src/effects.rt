@@ -60,6 +60,7 @@ pub(crate) fn tell(
             go_on(machine, frame, next)?;
             Ok(Next::Goes)
         }
+        // never met: what is not refused can be told, by `runs_are_typed` of path_model
         None => Ok(Next::Wrong),
     }
 }

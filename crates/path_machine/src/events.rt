@@ -162,6 +162,7 @@ fn enter_body(
     let owner = body_owner(begun.is_building, part);
     let depth = begun.depth;
     match run.index.body(run.program, owner) {
+        // never met: each body that a plan opens is declared, by `plans_go_on` of path_model
         None => Ok(Next::Wrong),
         Some(body) => {
             let locals = no_values(run, body)?;
@@ -230,6 +231,7 @@ pub(crate) fn event_step(
     let mut frame = frame;
     let begun = frame.get();
     match begun.plan.upcoming() {
+        // never met: a plan at work has an event to come, by `plans_go_on` of path_model
         None => Ok(Next::Wrong),
         Some(event) => {
             tell_event(run, machine, outs, event)?;

@@ -31,6 +31,7 @@ pub(crate) fn move_on(
 {
     let top = machine.pop();
     match top {
+        // never met: a run that has not ended has a frame, by `runs_are_typed` of path_model
         None => Ok(Next::Wrong),
         Some(frame) => match frame {
             Frame::Body(frame) => {

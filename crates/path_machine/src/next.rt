@@ -10,5 +10,6 @@ pub enum Next {
     Refuses(Undefined, u32),
     Limited(LimitNo),
     Ends,
+    // never met in a run of a typed program, by `runs_are_typed` of path_model
     Wrong,
 }

@@ -112,6 +112,7 @@ pub(crate) fn leave(run: &Run, machine: &mut Machine, frame: BodyBox, x: &Option
     match frame.get().owner {
         Owner::Main => Next::Ends,
         Owner::Function(_) => leave_function(run, machine, &frame, x),
+        // never met: these bodies have no `return`, by `runs_are_typed` of path_model
         Owner::Constructor(_) | Owner::Destructor(_) => Next::Wrong,
     }
 }

@@ -263,6 +263,7 @@ impl Numbers {
         ensures { IsDirectBase h.now c false b → result ≡ base_number h.now c b }
     {
         h.keeps();
+        // never met for a direct base of c, nor the last 0: `IsDirectBase` says that c lists it
         if c.0 >= h.len() {
             return 0;
         }

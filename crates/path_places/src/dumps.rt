@@ -284,6 +284,7 @@ pub fn dump(alloc: Global, world: &World, heap: &Heap, n: u32) -> Result<Out, No
         class,
     };
     let mut leaves = Vec::new(alloc);
+    // never met for a heap object: `HeapStands` says that its class is one of the hierarchy
     if class.0 >= world.h.len() {
         return Ok(Out::Dump(object + 1, class, Sequence::from_vec(leaves)));
     }

@@ -28,6 +28,7 @@ pub(crate) fn class_or_first(base: &Subobject) -> ClassId
 {
     match class_of(base) {
         Some(d) => d,
+        // never met: the path of a subobject is not empty (`class_of` of cxx_subobject)
         None => ClassId(0),
     }
 }
@@ -156,6 +157,7 @@ pub fn leaf_numbers(
     ensures { IfOk result (λ leaves. (s : Objects) (p : ObjectPart) → HeapStands world.now.h.now heap.now s → Points world.now.h.now s.classes n p → HasBegun s p → class_of p.at ≡ Some c → AllZip (PointsLeaf world.now.h.now s.classes) leaves.items (leaves_of world.now.h.now c p)) }
 {
     let mut leaves = Vec::new(alloc);
+    // never met for the class of a part: `Points` says that it is one of the hierarchy
     if c.0 >= world.h.len() {
         return Ok(leaves);
     }

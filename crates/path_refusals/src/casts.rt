@@ -49,6 +49,7 @@ fn part_down(
         i,
     )? {
         Value::Unset => Ok(Some(Undefined::BadDowncast)),
+        // never met, nor null: a downcast gives a part or no value, by `down` of path_values
         Value::Number(_) => Ok(None),
         Value::Null => Ok(None),
         Value::Pointer(_) => Ok(None),

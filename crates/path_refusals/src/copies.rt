@@ -87,6 +87,7 @@ fn is_covered(moment: &Moment, n: u32, c: ClassId) -> bool
     if is_complete(moment.heap.phase(n)) {
         return true;
     }
+    // never met for the class of a part: `IsReadyPart` says that it is one of the hierarchy
     if c.0 >= moment.world.h.len() {
         return true;
     }

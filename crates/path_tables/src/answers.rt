@@ -78,6 +78,8 @@ pub(crate) fn final_answer(
         class: ClassId(key.owner),
         index: key.index,
     };
+    // never met for what is asked, nor the exits below: the numbers are those of subobjects, the
+    // source is of the function's class, and the function is virtual, by `IsFinalAnswer`
     let Some(x) = part_at(h, c, list, key.view) else {
         return Ok(None);
     };
@@ -110,8 +112,10 @@ pub(crate) fn within_answer(h: &Hierarchy, list: &PartList, key: WithinKey) -> b
     match part_at(h, c, list, key.outer) {
         Some(outer) => match part_at(h, c, list, key.inner) {
             Some(inner) => is_within(h, c, outer, inner),
+            // never met for the number of a subobject, as it is by `IsWithinAnswer`
             None => false,
         },
+        // never met either
         None => false,
     }
 }

@@ -86,6 +86,7 @@ pub(crate) fn final_at(
     }
     let d = match class_of(call.view) {
         Some(d) => d,
+        // never met: the view is a subobject, by the clause `call`, and each has a class
         None => return Ok(None),
     };
     let inner = part_within(alloc, call.h, call.c, d, call.view, call.source)?;
