@@ -42,6 +42,7 @@ fn append_count<M: Memory>(
     ensures { OnOk result ((n : ℕ) → load_of (M.meaning memory.now) (first - 8) 8 ≡ Ok n →
         text.new.items ≡ text.old.items ++ count_text n) }
 {
+    // never met: `new_array` has stored the count in an open region, by its clause `array`
     let Ok(count) = array_count(memory, first) else {
         return Err(NoMemory);
     };
@@ -143,6 +144,7 @@ fn append_ending<M: Memory>(
         text.new.items ≡ text.old.items ++ (if nat_eq cookie 0 then [] else flat_map (end_text size cookie) (reverse (range_with_len 0 n)))) }
 {
     let mut ended = AddressList::new(alloc);
+    // a closed array is never met: `new_array` has opened its region, by its clause `made`
     if delete_array(memory, first, size, cookie, &mut ended).is_err() {
         return Err(NoMemory);
     }

@@ -125,6 +125,7 @@ fn leaf_slot(alloc: Global, h: &Hierarchy, row: &LeafRow) -> Result<Slot, NoMemo
         width: width_of_member(h, row.class, row.number),
     };
     match value_type(member_at(h, Some(row.class), row.number)) {
+        // never met: `leaf_rows` of text_bytes has rows of numbers and pointers alone
         None => Ok(Slot {
             place: row.place,
             first: 0,

@@ -30,6 +30,7 @@ fn first_class(path: &[ClassId]) -> ClassId
 {
     match path.split_first() {
         Some((first, _)) => *first,
+        // never met: the path of a subobject is not empty (`class_of` of cxx_subobject)
         None => ClassId(0),
     }
 }

@@ -53,6 +53,7 @@ fn append_view<L: SoundLayout>(
 {
     match class_of(view) {
         Some(d) => append_class(text, w.h, d)?,
+        // never met: the clause `subobject` says that it is one, and each has a class
         None => {}
     }
     append(text, b"@")?;
@@ -184,6 +185,7 @@ fn append_table_at<L>(
 ) -> Written
     ensures { OnOk result (text.new.items ≡ text.old.items ++ table_in w.now.h.now (slice_get (tables_in (slice_get groups.now group)) table)) }
 {
+    // never met, nor no table there: each word of a VTT names a table of a group, by `IsVttWord`
     let Some(group) = groups.get(group) else {
         return Ok(());
     };

@@ -76,6 +76,7 @@ fn is_adjusted<L: SoundLayout>(
     };
     let base = match base_of(alloc, h, classes.from, classes.to)? {
         Some(base) => base,
+        // never met where f overrides g: its class has that of g as a base, by `HasNoFault`
         None => return Ok(false),
     };
     match base.root {

@@ -107,6 +107,7 @@ impl Slots {
     {
         match self.rows.get(c.0 as usize) {
             Some(row) => word_at(row.vbases.as_slice(), v.0 as usize),
+            // never met for a class with the virtual base: `AreSlots` has a row for each class
             None => 0,
         }
     }
@@ -134,6 +135,7 @@ impl Slots {
     {
         match self.rows.get(c.0 as usize) {
             Some(row) => row.entries.as_slice(),
+            // never met for a class of the hierarchy: `AreSlots` has a row for each
             None => &[],
         }
     }
@@ -162,6 +164,7 @@ impl Slots {
                     row.offsets.as_slice()
                 }
             }
+            // never met for a class of the hierarchy: `AreSlots` has a row for each
             None => &[],
         }
     }

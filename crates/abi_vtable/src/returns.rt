@@ -63,6 +63,7 @@ fn converted<L: SoundLayout>(
 {
     let base = match base_of(site.alloc, site.h, classes.from, classes.to)? {
         Some(base) => base,
+        // never met where f overrides g: its class has that of g as a base, by `HasNoFault`
         None => return Ok(None),
     };
     let vbase = vbase_for(site.slots, classes.from, base.root);
