@@ -107,6 +107,7 @@ impl Shadow {
         requires { (notes_of self.old).phase at class ≢ None }
         ensures { notes_of self.new ≡ phased (notes_of self.old) at class phase }
     {
+        // a subobject without a note is never met: the `requires` says that it is noted
         if let Some(note) = self.notes.get_mut(&Place { at, class }) {
             note.phase = phase;
         }

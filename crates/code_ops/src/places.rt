@@ -68,6 +68,7 @@ fn stride<L: SoundLayout>(site: &Site<L>, d: ClassId, m: u32) -> u32
 {
     match member_at(site.h, d, m) {
         Some(member) => type_size(site, &member.ty),
+        // never met in a typed program (`programs_are_typed` of cxx_typing): the member is declared
         None => 0,
     }
 }
@@ -93,6 +94,7 @@ fn element_distance<L: SoundLayout>(
     ensures small { index < most_elements → result < 2 ^ 45 }
 {
     match class_of(base) {
+        // never met: the path of a subobject is not empty (`class_of` of cxx_subobject)
         None => 0,
         Some(d) => {
             let place = member_place(site.layout, d, member);

@@ -76,6 +76,7 @@ pub fn value_width(type_found: Option<&ValueType<ClassId>>) -> Width
     match type_found {
         Some(ValueType::Number(scalar)) => width(*scalar),
         Some(ValueType::Pointer(_)) => WORD,
+        // never met in a typed program (`programs_are_typed` of cxx_typing): a value has a type
         None => width(Scalar::Int),
     }
 }

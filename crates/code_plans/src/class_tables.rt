@@ -47,6 +47,7 @@ fn block_len<L: SoundLayout>(
         return 0;
     }
     let shared = layout.layout(c).virtual_bases.as_slice();
+    // a cut at 0 is never met: the words are those of the whole VTT, by the clause `words`
     words.saturating_sub(shared_sum(h, layout, blocks, shared))
 }
 

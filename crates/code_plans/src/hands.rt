@@ -35,6 +35,7 @@ fn base_distance<L: SoundLayout>(site: &PlanSite<L>, c: ClassId, b: ClassId) -> 
 {
     site.h.keeps();
     let bases = site.h.class(c).bases.as_slice();
+    // a cut is never met: the words of all classes are few, by `few_words` of the site
     base_before(site.h, site.layout, site.tables.blocks.as_slice(), b, bases).saturating_add(1)
 }
 
@@ -49,6 +50,7 @@ fn shared_distance<L: SoundLayout>(site: &PlanSite<L>, c: ClassId, v: ClassId) -
     let blocks = site.tables.blocks.as_slice();
     let bases = site.layout.layout(c).virtual_bases.as_slice();
     let before = shared_before(site.h, site.layout, blocks, v, bases);
+    // a cut is never met: the words of all classes are few, by `few_words` of the site
     length_at(blocks, c).saturating_add(before)
 }
 

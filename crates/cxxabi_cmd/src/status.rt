@@ -210,6 +210,7 @@ fn undefined_name(number: u8) -> &'static str
         9 => "NotHeapObject",
         10 => "NotComplete",
         11 => "MissingReturn",
+        // 12: another number is never met, as `status_of` takes it of a rule (`undefined_no`)
         _ => "Overflow",
     }
 }

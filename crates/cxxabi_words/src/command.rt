@@ -268,6 +268,7 @@ pub fn command_of(alloc: Global, words: &[String]) -> Result<Option<Command>, No
     let Some(matches) = matches_of(alloc, words)? else {
         return Ok(None);
     };
+    // never met: the simple command refuses words without this one (`required`)
     let Some(word) = matches.get_str("command") else {
         return Ok(None);
     };

@@ -244,6 +244,7 @@ fn row_item<M: Memory>(
         width: width_of_member(h, row.class, row.number),
     };
     match value_type(member_at(h, Some(row.class), row.number)) {
+        // never met: `leaf_rows` has rows of members that are numbers or pointers alone
         None => Ok(Item {
             place: row.place,
             first: 0,

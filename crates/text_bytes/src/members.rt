@@ -89,6 +89,7 @@ pub fn placed_members<L: SoundLayout>(
                 &before,
                 b,
             )?,
+            // never met: `list_subobjects` lists subobjects alone, and each has a class
             None => {}
         }
     }

@@ -195,6 +195,7 @@ fn leaf_item<L: SoundLayout>(
     let hops = leaf.at.hops.as_slice();
     let bits = leaf_bits(h, layout, last_member(h, Some(leaf.at.class), hops));
     match type_behind(h, Some(leaf.at.class), hops) {
+        // never met: a dumped leaf has a type, by the clause `leaf`
         None => Ok(Item {
             place,
             first: 0,
