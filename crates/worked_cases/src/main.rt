@@ -25,6 +25,7 @@ mod hinted_visits;
 mod other_calls;
 mod own_layout;
 mod page_memory;
+mod pointer_calls;
 mod read_back;
 mod traced_run;
 

@@ -8,6 +8,7 @@ ghost use Rattle.foundation.specs.Limits.{source_limit};
 
 use crate::hinted_calls::{hint_text, visits_text};
 use crate::page_memory::pages_text;
+use crate::pointer_calls::pointer_text;
 use abi_layout::lay_out;
 use abi_primary::{Primary, dynamic_flags, holder_of, is_nearly_empty, primary_base};
 use abi_slots::Slots;
@@ -155,7 +156,7 @@ fn is_generated(alloc: Global, classes: &str, text: &[u8]) -> bool {
 }
 
 /// Whether the calls that these words name give this text for a source: `body`, `class` with a name, `source` with a number of classes,
-/// `hint` with the classes of a cast, `visits` with the class to which one leads, or `pages`, which needs no source.
+/// `hint` with the classes of a cast, `pointer` with a class and its data member, `visits` with the class to which one leads, or `pages`, which needs no source.
 pub fn is_answered(alloc: Global, words: &[String], source: &[u8], text: &[u8]) -> bool {
     if source.len() > SOURCE_LIMIT {
         return false;
@@ -175,6 +176,12 @@ pub fn is_answered(alloc: Global, words: &[String], source: &[u8], text: &[u8]) 
         [word, from, to] if word.as_str() == "hint" => {
             is_made(
                 hint_text(alloc, source, from.as_bytes(), to.as_bytes()),
+                text,
+            )
+        }
+        [word, class, member] if word.as_str() == "pointer" => {
+            is_made(
+                pointer_text(alloc, source, class.as_bytes(), member.as_bytes()),
                 text,
             )
         }
