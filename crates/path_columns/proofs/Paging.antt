@@ -32,10 +32,10 @@ pub record IsOpened (old new : ℕ → ℕ) (page count : ℕ) : Type 0 where
   pub closed : old page ≡ 0
   pub is : (p : ℕ) → new p ≡ (if nat_eq p page then count + 1 else old p)
 
-here : (old new : ℕ → ℕ) (page count : ℕ) → IsOpened old new page count → (p : ℕ) → nat_eq p page ≡ true → new p ≡ suc count
+pub here : (old new : ℕ → ℕ) (page count : ℕ) → IsOpened old new page count → (p : ℕ) → nat_eq p page ≡ true → new p ≡ suc count
 here old new page count opened p e = opened.is p ∙ (ap (λ b. if b then count + 1 else old p) e ∙ (let f : count + 1 ≡ suc count = omega arith in f))
 
-elsewhere : (old new : ℕ → ℕ) (page count : ℕ) → IsOpened old new page count → (p : ℕ) → nat_eq p page ≡ false → new p ≡ old p
+pub elsewhere : (old new : ℕ → ℕ) (page count : ℕ) → IsOpened old new page count → (p : ℕ) → nat_eq p page ≡ false → new p ≡ old p
 elsewhere old new page count opened p e = opened.is p ∙ ap (λ b. if b then count + 1 else old p) e
 
 pub paged_opened : {X : Type 0} (old new : ℕ → ℕ) (slots : List X) (blank : X) (width page count : ℕ) → ArePages old slots blank width count → IsOpened old new page count → (n : ℕ)

@@ -2,6 +2,7 @@
 
 ghost use Rattle.std.specs.Prelude.{◌≡◌, ◌<◌, ℕ, IfOk, OnErr, nat_eq, if◌then◌else◌, slice_index_or, length, slice_set};
 ghost use Rattle.path_columns.specs.Paged.{ArePages};
+ghost use Rattle.path_columns.specs.invariants.Placed.{placed};
 
 use foundation::NoMemory;
 use std::alloc::Global;
@@ -34,6 +35,7 @@ pub struct Pages {
     /// How many pages there are.
     count: u32,
     ghost paged: { ArePages (λ p. slice_index_or table.items p 0) entries.items 0 64 count },
+    ghost counted: { count ≡ placed (λ p. slice_index_or table.items p 0) 67108864 },
 }
 
 impl Pages {
@@ -79,15 +81,13 @@ impl Pages {
     ///
     /// Errors: want of memory. Each number has what it had.
     fn open(&mut self, page: u32) -> Result<u32, NoMemory>
+        requires { page < 67108864 }
         ensures same { (n : ℕ) → number_at self.new n ≡ number_at self.old n }
         ensures open { IfOk result (λ place. (0 < place) × (slice_index_or self.new.table.items page 0 ≡ place)) }
     {
         let place = self.place(page);
         if place > 0 {
             return Ok(place);
-        }
-        if self.count == u32::MAX {
-            return Err(NoMemory);
         }
         reach(&mut self.table, page as usize, 0)?;
         let count = self.count + 1;

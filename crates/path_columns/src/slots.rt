@@ -2,6 +2,7 @@
 
 ghost use Rattle.std.specs.Prelude.{◌≡◌, ◌<◌, ℕ, IfOk, OnErr, nat_eq, if◌then◌else◌};
 ghost use Rattle.path_columns.specs.Paged.{ArePages};
+ghost use Rattle.path_columns.specs.invariants.Placed.{placed};
 ghost use Rattle.path_columns.specs.Pages.{number_at};
 
 use crate::pages::{Pages, reach};
@@ -23,6 +24,7 @@ pub struct Slots<T> {
     /// How many pages there are.
     count: u32,
     ghost paged: { ArePages (number_at places) items.items blank 4 count },
+    ghost counted: { count ≡ placed (number_at places) 1073741824 },
 }
 
 impl<T: Copy + Drop> Slots<T> {
@@ -60,6 +62,7 @@ impl<T: Copy + Drop> Slots<T> {
     ///
     /// Errors: want of memory. Each number has what it had.
     fn open(&mut self, page: u32) -> Result<u32, NoMemory>
+        requires { page < 1073741824 }
         ensures blank { self.new.blank ≡ self.old.blank }
         ensures same { (n : ℕ) → item_at self.new n ≡ item_at self.old n }
         ensures open { IfOk result (λ place. (0 < place) × (number_at self.new.places page ≡ place)) }
@@ -67,9 +70,6 @@ impl<T: Copy + Drop> Slots<T> {
         let place = self.places.get(page);
         if place > 0 {
             return Ok(place);
-        }
-        if self.count == u32::MAX {
-            return Err(NoMemory);
         }
         let count = self.count + 1;
         self.places.set(page, count)?;

@@ -11,6 +11,7 @@ invariant_of-self-2 c =
     record {
       paged = pages_set _ c.reach.new.list.items 0 64 c.open.new.self.count (c.in_ok-place.place - 1) (c.args.n / 64) (c.args.n % 64) c.args.number
           (pages_like _ _ _ 0 64 c.open.new.self.count c.reach.ensures.same c.open.new.self.paged) (at.1 ∙ here) below;
+      counted = c.open.new.self.counted;
     }
 
 pub returns-clause-set : goal.returns-clause-set

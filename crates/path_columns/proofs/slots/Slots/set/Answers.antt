@@ -12,6 +12,7 @@ invariant_of-self-2 g c =
     record {
       paged = pages_set _ c.reach.new.list.items c.open.new.self.blank 4 c.open.new.self.count (c.in_ok-place.place - 1) (c.args.n / 4) (c.args.n % 4) c.args.item
           (pages_like _ _ _ c.open.new.self.blank 4 c.open.new.self.count c.reach.ensures.same c.open.new.self.paged) (at.1 ∙ here) below;
+      counted = c.open.new.self.counted;
     }
 
 pub returns-clause-set : goal.returns-clause-set
