@@ -6,7 +6,9 @@ pub mod MarkLemmas
 pub mod PureLemmas
 pub mod WithinLemmas
 pub mod SettlingLemmas
+pub mod Servers
 pub mod Made
+pub mod SharedEntries
 pub mod Finals
 pub mod OneFinal
 pub mod CovarianceLemmas

@@ -1,6 +1,7 @@
 -- Items of lists that grow at their end.
-use Rattle.std.proofs.Common.{◌≡◌, ℕ, zero, suc, ◌<◌, List, [], ◌∷◌, ◌++◌, Some, length, get_or, refl, subst, arith}
+use Rattle.std.proofs.Common.{◌≡◌, ℕ, zero, suc, ◌+◌, ◌<◌, ⊎_elim, List, [], ◌∷◌, ◌++◌, Some, length, get_or, refl, ap, subst, ◌∙◌, arith}
 use Rattle.std.specs.List.{slice_get}
+use Rattle.std.proofs.lemmas.Bool.{cases_lt}
 use Rattle.std.proofs.lemmas.Option.{slice_get-get_or}
 
 -- reading with a default
@@ -20,3 +21,12 @@ or_past (y ∷ xs) (suc i) d out = or_past xs i d (λ lt. out (omega arith))
 
 pub get_at : {X : Type 0} (xs ys : List X) (i : ℕ) (d : X) → xs ≡ ys → i < length xs → slice_get ys i ≡ Some (get_or xs i d)
 get_at {X} xs ys i d e lt = subst (λ (zs : List X). slice_get zs i ≡ Some (get_or xs i d)) e (slice_get-get_or xs i d lt)
+
+-- the items before a place, and the one there
+pub next_item : {X : Type 0} (P : X → Type 0) (xs : List X) (i : ℕ) (d : X) → i < length xs → ((k : ℕ) (x : X) → k < i → slice_get xs k ≡ Some x → P x) → P (get_or xs i d) → (k : ℕ) (x : X) → k < i + 1 → slice_get xs k ≡ Some x → P x
+next_item {X} P xs i d within so here k x lt e = ⊎_elim (λ small. so k x small e)
+    (λ past.
+    let same : k ≡ i = omega arith in
+    let moved : slice_get xs k ≡ Some (get_or xs i d) = ap (slice_get xs) same ∙ slice_get-get_or xs i d within in
+    let one : get_or xs i d ≡ x = cc in subst (λ (z : X). P z) one here)
+    (cases_lt k i)

@@ -16,11 +16,12 @@ use Rattle.cxx_overrider.specs.invariants.Pure.{DeclaresNone}
 use Rattle.cxx_overrider.specs.invariants.Within.{HasVirtualWithin, AreWithin}
 use Rattle.cxx_overrider.specs.invariants.Numbers.{row_of, number_of, IsNumbering, IsNumberOf}
 use Rattle.cxx_overrider.specs.invariants.Entries.{Tells, TellsOf}
-use Rattle.cxx_overrider.specs.invariants.EntryTables.{same_key, entry_of, KeepsBefore}
+use Rattle.cxx_overrider.specs.invariants.EntryTables.{same_key, entry_of, KeepsBefore, ServesTo}
 use Rattle.cxx_overrider.specs.invariants.Settling.{TellsBefore, IsDone, IsMade, key}
 use Rattle.std.proofs.lemmas.Option.{slice_get_within}
 use Rattle.cxx_overrider.specs.declared.FunctionId.{FunctionId}
 use Rattle.cxx_overrider.proofs.MarkLemmas.{says_number}
+use Rattle.cxx_overrider.proofs.Servers.{serves_same, serves_next}
 
 same_parts : (a b c d e f : ℕ) → (nat_eq a b && (nat_eq c d && nat_eq e f)) ≡ true → (a ≡ b) × (c ≡ d) × (e ≡ f)
 same_parts a b c d e f k = (eqb-true a b (left (nat_eq a b) (nat_eq c d && nat_eq e f) k), eqb-true c d (left (nat_eq c d) (nat_eq e f) (right (nat_eq a b) (nat_eq c d && nat_eq e f) k)), eqb-true e f (right (nat_eq c d) (nat_eq e f) (right (nat_eq a b) (nat_eq c d && nat_eq e f) k)))
@@ -74,10 +75,11 @@ module _ (h : Classes) (numbers : List (List ℕ)) (table : EntryTable) (c v : C
         subst (λ (o : Option Entry). TellsOf h b w s o) (sym (made.fresh (key b w m) (not_done c.0 v.0 n (key b w m) new.0 new.1 new.2))) t)
         (done_cases c.0 v.0 n (key b w m) d);
     fresh = λ q not. made.fresh q (λ d. not (done_more c.0 v.0 n q d));
+    serves = made.serves;
   }
 
-  pub made_put : (after : EntryTable) (e : Entry) → ((s : Signature) → IsNumberOf h numbers n s → HasVirtualWithin h v s → DeclaresNone h c s → Tells h c v s e) → ((q : Key) → entry_of after q ≡ (if same_key q (key c v n) then Some e else entry_of table q)) → IsMade h numbers after c.0 v.0 (n + 1)
-  made_put after e tells put = record {
+  pub made_put : (after : EntryTable) (e : Entry) → after.servers.items ≡ table.servers.items → ((s : Signature) → IsNumberOf h numbers n s → HasVirtualWithin h v s → DeclaresNone h c s → Tells h c v s e) → ((q : Key) → entry_of after q ≡ (if same_key q (key c v n) then Some e else entry_of table q)) → IsMade h numbers after c.0 v.0 (n + 1)
+  made_put after e same tells put = record {
     told = λ b w m s d k has own. ⊎_elim
         (λ old.
         let apart : same_key (key b w m) (key c v n) ≡ true → ⊥ = λ t. let p = same_parts b.0 c.0 w.0 v.0 m n t in not_done c.0 v.0 n (key b w m) p.0 p.1 p.2 old in
@@ -92,6 +94,7 @@ module _ (h : Classes) (numbers : List (List ℕ)) (table : EntryTable) (c v : C
     fresh = λ q not.
         let apart : same_key q (key c v n) ≡ true → ⊥ = λ t. let p = same_parts q.class c.0 q.root v.0 q.number n t in not (inr (inr (p.0, p.1, (let z = p.2 in omega arith)))) in
         put_other (same_key q (key c v n)) e (entry_of table q) (entry_of after q) (put q) apart ∙ made.fresh q (λ d. not (done_more c.0 v.0 n q d));
+    serves = serves_same (length h) c.0 table after same made.serves;
   }
 
 -- no number in between has a virtual function in the virtual base itself
@@ -104,6 +107,7 @@ made_jump h numbers table c v n m le none made = record {
       (cases_lt i n)) r)
       d;
   fresh = λ q not. made.fresh q (λ d. not (⊎_elim (λ a. inl a) (λ r. ⊎_elim (λ a. inr (inl a)) (λ a. let lt = a.2 in inr (inr (a.0, a.1, omega arith))) r) d));
+  serves = made.serves;
 }
 
 -- a number behind the items of a list before a place, and not behind those from there on
@@ -157,6 +161,7 @@ made_end h numbers table c v count is made = record {
       let few = is.few k.function m k.number in
       made.told b w m s (⊎_elim (λ a. inl a) (λ r. ⊎_elim (λ a. let lt = a.1 in ⊎_elim (λ small. inr (inl (a.0, small))) (λ ge. inr (inr (a.0, omega arith, few))) (cases_lt w.0 v)) (λ x. let lt = x.2 in absurd (omega arith)) r) d) k has own;
   fresh = λ q not. made.fresh q (λ d. not (⊎_elim (λ a. inl a) (λ r. ⊎_elim (λ a. let lt = a.1 in inr (inl (a.0, omega arith))) (λ x. let at = x.1 in inr (inl (x.0, omega arith))) r) d));
+  serves = made.serves;
 }
 
 -- nothing is put down for a class that is no virtual base
@@ -176,6 +181,7 @@ made_none h numbers table c v not made = record {
       (λ x. let lt = x.2 in absurd (omega arith)) r)
       d;
   fresh = λ q not_yet. made.fresh q (λ d. not_yet (⊎_elim (λ a. inl a) (λ r. ⊎_elim (λ a. let lt = a.1 in inr (inl (a.0, omega arith))) (λ x. let lt = x.2 in absurd (omega arith)) r) d));
+  serves = made.serves;
 }
 
 -- the virtual bases of one class are through
@@ -194,12 +200,14 @@ made_class h keeps numbers table c made = record {
       (λ r. ⊎_elim (λ x. let lt = x.1 in absurd (omega arith)) (λ x. let lt = x.2 in absurd (omega arith)) r)
       d;
   fresh = λ q not_yet. made.fresh q (λ d. not_yet (⊎_elim (λ a. inl (omega arith)) (λ r. ⊎_elim (λ x. let at = x.0 in inl (omega arith)) (λ x. let lt = x.2 in absurd (omega arith)) r) d));
+  serves = serves_next (length h) c.0 table made.serves;
 }
 
-pub made_start : (h : Classes) (numbers : List (List ℕ)) (table : EntryTable) → ((q : Key) → entry_of table q ≡ None) → IsMade h numbers table 0 0 0
-made_start h numbers table none = record {
+pub made_start : (h : Classes) (numbers : List (List ℕ)) (table : EntryTable) → ((q : Key) → entry_of table q ≡ None) → ServesTo (length h) 0 table → IsMade h numbers table 0 0 0
+made_start h numbers table none serves = record {
   told = λ b w m s d k has own. absurd (⊎_elim (λ x. omega arith) (λ z. ⊎_elim (λ x. let y = x.1 in omega arith) (λ x. let y = x.2 in omega arith) z) d);
   fresh = λ q not. none q;
+  serves = serves;
 }
 
 -- what is told of the classes before

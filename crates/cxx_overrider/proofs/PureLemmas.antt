@@ -1,11 +1,13 @@
 -- Pure functions that the non-virtual part of a class leaves.
-use Rattle.std.proofs.Common.{◌≡◌, ℕ, ◌↔◌, Bool, true, false, Some, List, [], ◌∷◌, length, refl, ap, subst, sym, ◌∙◌, arith}
+use Rattle.std.proofs.Common.{◌≡◌, ℕ, ◌↔◌, Bool, true, false, Option, Some, None, List, [], ◌∷◌, length, refl, ap, subst, sym, ◌∙◌, arith}
+use Rattle.std.specs.List.{slice_get}
 use Rattle.cxx_hierarchy.specs.declared.records.ClassId.{ClassId}
-use Rattle.cxx_hierarchy.specs.Classes.{Classes}
+use Rattle.cxx_hierarchy.specs.declared.records.Function.{Function}
+use Rattle.cxx_hierarchy.specs.Classes.{Classes, functions_of}
 use Rattle.cxx_hierarchy.specs.Hierarchies.{IsHierarchy}
 use Rattle.cxx_hierarchy.specs.VirtualBases.{IsDirectBase}
 use Rattle.cxx_overrider.specs.declared.FunctionId.{FunctionId}
-use Rattle.cxx_overrider.specs.Functions.{Signature, signature_of, is_pure}
+use Rattle.cxx_overrider.specs.Functions.{Signature, signature_of, is_pure, is_pure_at}
 use Rattle.cxx_overrider.specs.Overriding.{HasVirtual, IsVirtual}
 use Rattle.cxx_overrider.specs.invariants.Numbers.{number_of, IsNumbering, IsNumberOf}
 use Rattle.cxx_overrider.specs.invariants.Marks.{AreMarks, HasMarkedPart}
@@ -72,3 +74,12 @@ pure_below h keeps numbers rows c n s b are size k none is = (
       let leaves : LeavesPure h base.class s = subst (λ (x : ClassId). LeavesPure h x s) (sym f.direct.class) (record { path = f.path; function = p.function; first = f.first; pure = p.pure; is_virtual = p.is_virtual }) in
       is.1 (record { base = base; listed = f.direct.listed; plain = f.direct.way; marked = (are.each base.class n s (omega arith) k).1 leaves }),
 )
+
+-- no function of a class is pure
+none_pure_at : (o : Option (Function ClassId)) → ((x : Function ClassId) → o ≡ Some x → x.is_pure ≡ false) → is_pure_at o ≡ false
+none_pure_at (Some x) all = all x refl
+none_pure_at None all = refl
+
+pub none_pure_in : (h : Classes) (c : ClassId) (list : List (Function ClassId)) → list ≡ functions_of h c → ((i : ℕ) (x : Function ClassId) → slice_get list i ≡ Some x → x.is_pure ≡ false) → (f : FunctionId) → f.class ≡ c → is_pure h f ≡ false
+none_pure_in h c list is all f class = none_pure_at (slice_get (functions_of h f.class) f.index)
+    (λ x e. all f.index x (subst (λ (xs : List (Function ClassId)). slice_get xs f.index ≡ Some x) (sym is) (subst (λ (d : ClassId). slice_get (functions_of h d) f.index ≡ Some x) class e)))

@@ -10,6 +10,7 @@ pub mod Parts
 pub mod Entries
 pub mod EntryTables
 pub mod Settling
+pub mod Sharing
 pub mod Tables
 pub mod Sites
 pub mod Abstract

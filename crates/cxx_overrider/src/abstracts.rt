@@ -70,6 +70,9 @@ pub fn is_abstract_class(site: &ClassSite, entries: &EntryTable) -> bool
     ensures { IsTrue result ↔ IsAbstract site.now.h.now site.now.c }
 {
     site.h.keeps();
+    if !site.tables.has_pure {
+        return false;
+    }
     if has_pure_whole(site) {
         return true;
     }

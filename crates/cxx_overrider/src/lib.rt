@@ -26,6 +26,7 @@ pub mod pass;
 pub mod places;
 pub mod pure;
 pub mod settling;
+pub mod sharing;
 pub mod signatures;
 pub mod sites;
 pub mod tables;

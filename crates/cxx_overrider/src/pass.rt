@@ -277,7 +277,8 @@ pub fn check_by_class(alloc: Global, h: &Hierarchy) -> Result<Overriders, ClassS
     h.keeps();
     let counts = PartCounts::new(alloc, h)?;
     let tables = tables_of(alloc, h)?;
-    let mut entries = EntryTable::new(alloc);
+    let classes = h.len();
+    let mut entries = EntryTable::new(alloc, classes)?;
     let mut abstracts = Vec::new(alloc);
     for number in 0..h.len() {
         let class = ClassId(number);

@@ -1,6 +1,9 @@
 //! Whether the non-virtual part of a class leaves a pure function without an overrider.
 
-ghost use Rattle.std.specs.Prelude.{◌≡◌, ◌<◌, ◌↔◌, true, IsTrue, length};
+ghost use Rattle.std.specs.Prelude.{◌≡◌, ◌<◌, ◌↔◌, ℕ, true, false, IsTrue, Some, length, slice_get};
+ghost use Rattle.cxx_hierarchy.specs.declared.records.ClassId.{ClassId};
+ghost use Rattle.cxx_hierarchy.specs.declared.records.Function.{Function};
+ghost use Rattle.cxx_overrider.specs.declared.FunctionId.{FunctionId};
 ghost use Rattle.cxx_overrider.specs.Functions.{is_pure};
 ghost use Rattle.cxx_overrider.specs.invariants.Marks.{mark_of, HasMarkedPart};
 ghost use Rattle.cxx_overrider.specs.invariants.Parts.{IsNextClass, TellsNext};
@@ -10,7 +13,7 @@ use crate::FunctionId;
 use crate::parts::NextClass;
 use crate::signatures::{declaration, own_function};
 use crate::virtuals::{MarkRow, is_marked};
-use cxx_hierarchy::{ClassId, Hierarchy};
+use cxx_hierarchy::{ClassId, Function, Hierarchy};
 
 /// Whether the declaration ends in `= 0`.
 pub fn is_pure(h: &Hierarchy, f: FunctionId) -> bool
@@ -21,6 +24,30 @@ pub fn is_pure(h: &Hierarchy, f: FunctionId) -> bool
         Some(function) => function.is_pure,
         None => false,
     }
+}
+
+/// Whether one of the functions is pure.
+fn has_pure(functions: &[Function<ClassId>]) -> bool
+    ensures { result ≡ false → (i : ℕ) (f : Function ClassId) → slice_get functions.now i ≡ Some f → f.is_pure ≡ false }
+{
+    for function in functions {
+        if function.is_pure {
+            return true;
+        }
+    }
+    false
+}
+
+/// Whether any function of the hierarchy is pure.
+pub fn has_pure_function(h: &Hierarchy) -> bool
+    ensures { result ≡ false → (f : FunctionId) → f.class.0 < length h.now → is_pure h.now f ≡ false }
+{
+    for number in 0..h.len() {
+        if has_pure(h.class(ClassId(number)).functions.as_slice()) {
+            return true;
+        }
+    }
+    false
 }
 
 /// Whether a direct non-virtual base has the mark.

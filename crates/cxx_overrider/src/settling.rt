@@ -16,6 +16,7 @@ use crate::entries::{Entry, EntryTable, key_of};
 use crate::finding::find_entry;
 use crate::lasts::has_none_behind;
 use crate::places::{Place, lifted};
+use crate::sharing::serving_base;
 use crate::signatures::own_function;
 use crate::sites::ClassSite;
 use crate::tables::Tables;
@@ -219,6 +220,10 @@ pub fn settle_class(
 {
     site.h.keeps();
     if !has_virtual_bases(&site.tables.with_virtual, site.c) {
+        return Ok(true);
+    }
+    if let Some(base) = serving_base(site) {
+        entries.share(site.c, base);
         return Ok(true);
     }
     for number in 0..site.c.0 {

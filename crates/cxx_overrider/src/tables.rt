@@ -6,6 +6,7 @@ ghost use Rattle.cxx_overrider.specs.invariants.Tables.{AreTables};
 use crate::kinds::{KindRow, kind_rows};
 use crate::lasts::last_classes;
 use crate::parts::Signatures;
+use crate::pure::has_pure_function;
 use crate::signatures::{NumberRow, Numbering, number_signatures};
 use crate::virtuals::{MarkRow, virtual_rows};
 use crate::within::{PartQuestion, part_rows, within_lists};
@@ -27,6 +28,8 @@ pub struct Tables {
     pub within: Vec<NumberRow>,
     /// Which classes have virtual bases.
     pub with_virtual: Vec<bool>,
+    /// Whether any function is pure.
+    pub has_pure: bool,
 }
 
 /// The tables of a hierarchy.
@@ -47,6 +50,7 @@ pub fn tables_of(alloc: Global, h: &Hierarchy) -> Result<Tables, NoMemory>
     let pure = part_rows(alloc, &signatures, PartQuestion::LeavesPure)?;
     let within = within_lists(alloc, &signatures)?;
     let with_virtual = classes_with_virtual_bases(alloc, h)?;
+    let has_pure = has_pure_function(h);
     Ok(Tables {
         numbering,
         lasts,
@@ -55,5 +59,6 @@ pub fn tables_of(alloc: Global, h: &Hierarchy) -> Result<Tables, NoMemory>
         pure,
         within,
         with_virtual,
+        has_pure,
     })
 }

@@ -1,5 +1,5 @@
 -- How the overriders of a virtual base's functions in a class come from those in its direct bases.
-use Rattle.std.specs.Prelude.{◌≡◌, ◌<◌, ◌⊎◌, ℕ, Some, None, List, [], Contains, slice_get}
+use Rattle.std.specs.Prelude.{◌≡◌, ◌<◌, ◌⊎◌, ℕ, Some, None, List, [], Contains, length, slice_get}
 use Rattle.cxx_hierarchy.specs.declared.records.ClassId.{ClassId}
 use Rattle.cxx_hierarchy.specs.declared.records.Base.{Base}
 use Rattle.cxx_hierarchy.specs.Classes.{Classes, bases_of}
@@ -21,7 +21,7 @@ use Rattle.cxx_overrider.specs.invariants.Pure.{DeclaresNone}
 use Rattle.cxx_overrider.specs.invariants.Within.{HasVirtualWithin}
 use Rattle.cxx_overrider.specs.invariants.Places.{place_of_subobject, base_of, IsThrough}
 use Rattle.cxx_overrider.specs.invariants.Entries.{Declares, IsGreatest, Tells, TellsOf}
-use Rattle.cxx_overrider.specs.invariants.EntryTables.{entry_of}
+use Rattle.cxx_overrider.specs.invariants.EntryTables.{entry_of, ServesTo}
 
 -- by their places the one subobject holds the other: it is the same, or its class has the other one's root
 abbrev pub Holds : Classes → Entry → Entry → Type 0
@@ -102,3 +102,4 @@ IsDone c v n q = (q.class < c) ⊎ (((q.class ≡ c) × (q.root < v)) ⊎ ((q.cl
 pub record IsMade (h : Classes) (numbers : List (List ℕ)) (table : EntryTable) (c v n : ℕ) : Type 0 where
   pub told : (b w : ClassId) (m : ℕ) (signature : Signature) → IsDone c v n (key b w m) → IsNumberOf h numbers m signature → HasVirtualWithin h w signature → DeclaresNone h b signature → TellsOf h b w signature (entry_of table (key b w m))
   pub fresh : (q : Key) → (IsDone c v n q → ⊥) → entry_of table q ≡ None
+  pub serves : ServesTo (length h) c table

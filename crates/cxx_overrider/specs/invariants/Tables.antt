@@ -1,8 +1,10 @@
 -- What is known of all classes before the pass.
-use Rattle.std.specs.Prelude.{◌≡◌, length}
+use Rattle.std.specs.Prelude.{◌≡◌, ◌<◌, false, length}
 use Rattle.cxx_hierarchy.specs.Classes.{Classes}
 use Rattle.cxx_subobject.specs.VirtualFlags.{TellsVirtualBases}
 use Rattle.cxx_overrider.specs.declared.tables.Tables.{Tables}
+use Rattle.cxx_overrider.specs.declared.FunctionId.{FunctionId}
+use Rattle.cxx_overrider.specs.Functions.{is_pure}
 use Rattle.cxx_overrider.specs.Overriding.{HasVirtual}
 use Rattle.cxx_overrider.specs.invariants.Numbers.{IsNumbering}
 use Rattle.cxx_overrider.specs.invariants.Kinds.{AreKinds}
@@ -25,3 +27,4 @@ pub record AreTables (h : Classes) (tables : Tables) : Type 0 where
   pub all_within : length tables.within.items ≡ length h
   pub with_virtual : TellsVirtualBases h tables.with_virtual.items
   pub all_with_virtual : length tables.with_virtual.items ≡ length h
+  pub none_pure : tables.has_pure ≡ false → (f : FunctionId) → f.class.0 < length h → is_pure h f ≡ false

@@ -1,5 +1,6 @@
 use Rattle.std.proofs.Common.{◌≡◌, ◌≤◌, ℕ, Bool, List, length, refl, ap, sym, subst, ◌∙◌, arith}
 use Rattle.cxx_overrider.specs.invariants.Pass.{TellsAbstract}
+use Rattle.cxx_overrider.specs.invariants.EntryTables.{ServesTo}
 use Rattle.cxx_overrider.specs.invariants.Settling.{IsMade}
 use Rattle.cxx_overrider.proofs.Made.{made_start}
 use Rattle.cxx_overrider.proofs.PassLemmas.{fine_start, fine_end, no_abstracts}
@@ -9,7 +10,7 @@ pub loop-number-init : goal.loop-number-init
 loop-number-init c =
     let h = c.args.h.now in
     record {
-      made = made_start h c.in_ok-tables.tables.numbering.rows.items c.new-entries.result c.new-entries.ensures;
+      made = made_start h c.in_ok-tables.tables.numbering.rows.items c.in_ok-entries.entries c.in_ok-entries.ensures.none (subst (λ (n : ℕ). ServesTo n 0 c.in_ok-entries.entries) c.len-classes.ensures c.in_ok-entries.ensures.serves);
       size = ap length c.new-abstracts.ensures.items;
       abstracts = subst (λ (x : List Bool). TellsAbstract h x) (sym c.new-abstracts.ensures.items) (no_abstracts h);
       fine = fine_start h (record { 0 = 0 }) refl;

@@ -4,6 +4,7 @@ use Rattle.cxx_overrider.proofs.Made.{made_class, made_without, keeps_all, keeps
 use Rattle.std.proofs.lemmas.Bool.{MatchBool-at_true}
 use Rattle.cxx_overrider.proofs.OneFinal.{one_final}
 use Rattle.cxx_overrider.proofs.VirtualFlagTable.{table_no_virtual_bases}
+use Rattle.cxx_overrider.proofs.SharedEntries.{made_shared, keeps_shared}
 use Rattle.cxx_overrider.proofs.settling.settle_class.Goals as goal
 
 pub returns : goal.returns
@@ -35,3 +36,18 @@ returns-then-not-has_virtual_bases-clause-one c =
     let made = made_without c.args.site.now.h.now c.keeps.ensures c.args.site.now.tables.now.numbering.rows.items c.args.entries.now c.args.site.now.c
     (table_no_virtual_bases c.args.site.now.h.now c.args.site.now.tables.now c.deref.result.now c.args.site.now.c c.has_virtual_bases.result c.requires.site.tables c.requires.site.known c.deref.ensures.value c.has_virtual_bases.ensures c.if-not-has_virtual_bases.true) c.requires.made in
     one_final c.args.site.now.h.now c.args.site.now.tables.now c.args.entries.now c.args.site.now.c (c.args.site.now.c.0 + 1) (omega arith) c.requires.site.tables made
+
+pub share-requires : goal.share-requires
+share-requires c = let size = c.requires.made.serves.size in let lt = c.requires.site.known in omega arith
+
+pub returns-in-Some-clause-made : goal.returns-in-Some-clause-made
+returns-in-Some-clause-made c = λ t. made_shared c.args.site.now.h.now c.keeps.ensures c.args.site.now.tables.now.numbering.rows.items c.args.entries.now c.share.new.self c.args.site.now.c c.in-Some.base c.requires.site.known c.requires.made c.in-Some.ensures c.share.ensures.servers c.share.ensures.entries
+
+pub returns-in-Some-clause-one : goal.returns-in-Some-clause-one
+returns-in-Some-clause-one c =
+    let h = c.args.site.now.h.now in
+    let made = made_shared h c.keeps.ensures c.args.site.now.tables.now.numbering.rows.items c.args.entries.now c.share.new.self c.args.site.now.c c.in-Some.base c.requires.site.known c.requires.made c.in-Some.ensures c.share.ensures.servers c.share.ensures.entries in
+    one_final h c.args.site.now.tables.now c.share.new.self c.args.site.now.c (c.args.site.now.c.0 + 1) (omega arith) c.requires.site.tables made
+
+pub returns-in-Some-clause-kept : goal.returns-in-Some-clause-kept
+returns-in-Some-clause-kept c = keeps_shared c.args.site.now.h.now c.keeps.ensures c.args.site.now.tables.now.numbering.rows.items c.args.entries.now c.share.new.self c.args.site.now.c c.in-Some.base c.requires.site.known c.requires.made c.in-Some.ensures c.share.ensures.servers c.share.ensures.entries

@@ -1,13 +1,14 @@
-use Rattle.std.proofs.Common.{◌≡◌, ℕ, List, Some, ap, sym, subst, ◌∙◌}
+use Rattle.std.proofs.Common.{◌≡◌, ℕ, List, Some, length, refl, ap, sym, subst, ◌∙◌}
 use Rattle.std.specs.Prelude.{if◌then◌else◌}
 use Rattle.cxx_overrider.specs.declared.entries.Key.{Key}
 use Rattle.cxx_overrider.specs.declared.settling.Settled.{Settled}
 use Rattle.cxx_overrider.specs.invariants.Numbers.{number_of, IsNumberOf}
-use Rattle.cxx_overrider.specs.invariants.EntryTables.{same_key, entry_of}
-use Rattle.cxx_overrider.specs.invariants.Settling.{IsSettled}
+use Rattle.cxx_overrider.specs.invariants.EntryTables.{same_key, put_down}
+use Rattle.cxx_overrider.specs.invariants.Settling.{IsSettled, key}
 use Rattle.cxx_overrider.proofs.Made.{none_behind, made_tells, made_skip, made_put, keeps_all, keeps_put}
 use Rattle.cxx_overrider.proofs.MarkLemmas.{number_says}
 use Rattle.cxx_overrider.proofs.WithinLemmas.{within_virtual}
+use Rattle.cxx_overrider.proofs.Servers.{served_put}
 use Rattle.cxx_overrider.proofs.settling.settle_number.Goals as goal
 
 pub returns-then-has_none_behind-clause-one : goal.returns-then-has_none_behind-clause-one
@@ -48,10 +49,11 @@ returns-in_ok-put-in-One-clause-one c =
     let h = c.args.site.now.h.now in
     let numbers = c.args.site.now.tables.now.numbering.rows.items in
     let old = c.args.entries.now in
-    made_put h numbers old c.args.site.now.c c.args.v c.args.n c.requires.made c.put.new.self c.in-One.entry
+    made_put h numbers old c.args.site.now.c c.args.v c.args.n c.requires.made c.put.new.self c.in-One.entry c.in_ok-put-in-One.ensures.servers
     (λ s k has own. subst (λ (x : Settled). IsSettled h c.args.site.now.c c.args.v s x) c.in-One.is
     (c.in_ok-settle.ensures s k (made_tells h numbers old c.args.site.now.c c.args.v c.args.n c.requires.made s k has)))
-    (subst (λ (k : Key). (q : Key) → entry_of c.put.new.self q ≡ (if same_key q k then Some c.in-One.entry else entry_of old q)) c.key_of.ensures c.in_ok-put-in-One.ensures.put)
+    (served_put (length h) c.args.site.now.c.0 old c.put.new.self (key c.args.site.now.c c.args.v c.args.n) c.in-One.entry c.requires.made.serves refl c.in_ok-put-in-One.ensures.servers
+    (subst (λ (k : Key). (q : Key) → put_down c.put.new.self q ≡ (if same_key q k then Some c.in-One.entry else put_down old q)) c.key_of.ensures c.in_ok-put-in-One.ensures.put))
 
 pub returns-in-Two-clause-one : goal.returns-in-Two-clause-one
 returns-in-Two-clause-one c =
@@ -70,7 +72,12 @@ pub returns-in-Nothing-clause-kept : goal.returns-in-Nothing-clause-kept
 returns-in-Nothing-clause-kept c = keeps_all c.args.site.now.c c.args.entries.now
 
 pub returns-in_ok-put-in-One-clause-kept : goal.returns-in_ok-put-in-One-clause-kept
-returns-in_ok-put-in-One-clause-kept c = keeps_put c.args.site.now.c c.args.v c.args.n c.args.entries.now c.put.new.self c.in-One.entry _ c.key_of.ensures c.in_ok-put-in-One.ensures.put
+returns-in_ok-put-in-One-clause-kept c =
+    let h = c.args.site.now.h.now in
+    let old = c.args.entries.now in
+    keeps_put c.args.site.now.c c.args.v c.args.n old c.put.new.self c.in-One.entry (key c.args.site.now.c c.args.v c.args.n) refl
+    (served_put (length h) c.args.site.now.c.0 old c.put.new.self (key c.args.site.now.c c.args.v c.args.n) c.in-One.entry c.requires.made.serves refl c.in_ok-put-in-One.ensures.servers
+    (subst (λ (k : Key). (q : Key) → put_down c.put.new.self q ≡ (if same_key q k then Some c.in-One.entry else put_down old q)) c.key_of.ensures c.in_ok-put-in-One.ensures.put))
 
 pub returns-in-Two-clause-kept : goal.returns-in-Two-clause-kept
 returns-in-Two-clause-kept c = keeps_all c.args.site.now.c c.args.entries.now
