@@ -9,7 +9,6 @@ from lib import program
 
 CRATES = os.path.join(program.TOP, "crates")
 DEFINED = r"^(?:unfoldable |abbrev )?pub (?:abbrev |record |data )?(\S+?)(?= (?::|\(|\{))"
-ALIKE = {"listed": ["byte_machine", "path_columns"]}  # an op, where there is one, and the items of the numbers below one
 LONGEST = 300
 
 
@@ -41,7 +40,7 @@ class Definitions(unittest.TestCase):
                 owners.setdefault(name, set()).add(crate_of(path))
         self.assertGreater(len(owners), 4000)
         several = {name: sorted(crates) for name, crates in owners.items() if len(crates) > 1}
-        self.assertEqual(several, ALIKE)
+        self.assertEqual(several, {})
 
     def test_clauses_are_short(self):
         lengths = [(len(clause), path) for path, text in texts(os.path.join("src", "**", "*.rt")) for clause in clauses(text)]
