@@ -1,5 +1,6 @@
 -- The blocks of a routine stand at the numbers of their places, from its first one on.
 use Rattle.std.proofs.Common.{◌≡◌, ℕ, zero, suc, ◌+◌, ◌-◌, Bool, true, false, cond, Option, Some, None, List, [], ◌∷◌, ◌++◌, length, refl, ap, sym, ◌∙◌, arith, length-append}
+use Rattle.std.specs.List.{flat_map, sum_by}
 use Rattle.std.specs.Prelude.{slice_get, if◌then◌else◌, nat_eq, option_to_list}
 use Rattle.std.proofs.lemmas.Bool.{eqb-true}
 use Rattle.std.proofs.lemmas.List.Sums.{sum_by-cons, sum_by-append}
@@ -17,8 +18,8 @@ use Rattle.code_blocks.specs.Items.{Item, Does, Shares, Inherits, Holds}
 use Rattle.code_blocks.specs.Blocks.{Place, items, statement_ops}
 use Rattle.code_blocks.specs.Lowered.{has_own_block, own_block, statement_block, body_block}
 use Rattle.abi_lower.specs.Bounds.{body_blocks}
-use Rattle.abi_lower.specs.invariants.Numbers.{is_own_item, own_count, own_events, blocks_in, block_number}
-use Rattle.abi_lower.specs.invariants.Runs.{event_blocks, plan_blocks, end_block, statement_blocks, blocks_of_body, routine_blocks}
+use Rattle.abi_lower.specs.invariants.Numbers.{routines, is_own_item, own_count, own_events, blocks_in, block_count, block_number}
+use Rattle.abi_lower.specs.invariants.Runs.{event_blocks, plan_blocks, end_block, statement_blocks, blocks_of_body, routine_blocks, all_blocks}
 
 -- own events
 
@@ -123,6 +124,18 @@ run_long x r =
     length-append (plan_blocks x (block_number x) r) (blocks_of_body x (block_number x) r (body_of_routine x r))
     ∙ ap (λ n. n + length (blocks_of_body x (block_number x) r (body_of_routine x r))) (plan_long x (block_number x) r)
     ∙ ap (λ n. own_events x r + n) (body_long x (block_number x) r (body_of_routine x r))
+
+runs_long : (x : Setup) (list : List Routine) → length (flat_map (routine_blocks x) list) ≡ sum_by (blocks_in x) list
+runs_long x [] = refl
+runs_long x (r ∷ list) =
+    length-append (routine_blocks x r) (flat_map (routine_blocks x) list)
+    ∙ ap (λ n. n + length (flat_map (routine_blocks x) list)) (run_long x r)
+    ∙ ap (λ n. blocks_in x r + n) (runs_long x list)
+    ∙ sym (sum_by-cons (blocks_in x) r list)
+
+pub all_long : (x : Setup) → length (all_blocks x) ≡ block_count x
+unfolding all_blocks block_count
+all_long x = runs_long x (routines x)
 
 -- the block of a statement, or of the end of the body
 pub statement_in : (x : Setup) (r : Routine) (n : ℕ) (b : Block) → body_block x (block_number x) r n (body_of_routine x r) ≡ Some b → slice_get (routine_blocks x r) (own_events x r + n) ≡ Some b

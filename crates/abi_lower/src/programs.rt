@@ -1,6 +1,6 @@
 //! From a typed program to its code.
 
-ghost use Rattle.std.specs.Prelude.{◌≡◌, ◌<◌, ◌≤◌, IfOk};
+ghost use Rattle.std.specs.Prelude.{◌≡◌, ◌<◌, ◌≤◌, ◌^◌, length, IfOk};
 ghost use Rattle.cxx_overrider.specs.Overriders.{AreOverriders};
 ghost use Rattle.cxx_program.specs.Typed.{IsTypedProgram};
 ghost use Rattle.abi_sound.specs.Places.{places_of};
@@ -79,7 +79,8 @@ impl<'a, L: SoundLayout> Lowering<'a, L> {
         requires rows { numbers.now ≡ code_rows (lowering_setup L.rows self.now) }
         requires tables { AreKeptTables self.now.h.now (places_of self.now.h.now (L.rows self.now.layout.now)) tables.now }
         requires routines { routines_from list.now ≡ routines (lowering_setup L.rows self.now) }
-        ensures { IfOk result (λ code. IsLowered (lowering_setup L.rows self.now) code numbers.now) }
+        ensures lowered { IfOk result (λ code. IsLowered (lowering_setup L.rows self.now) code numbers.now) }
+        ensures few { IfOk result (λ code. length code.blocks < 2 ^ 32) }
     {
         let site = BlockSite {
             lowering: self,
@@ -101,7 +102,8 @@ impl<'a, L: SoundLayout> Lowering<'a, L> {
         requires lowering { IsLoweringAt L.rows self.now }
         requires tables { AreKeptTables self.now.h.now (places_of self.now.h.now (L.rows self.now.layout.now)) tables.now }
         requires routines { routines_from list.now ≡ routines (lowering_setup L.rows self.now) }
-        ensures { IfOk result (λ lowered. IsLowered (lowering_setup L.rows self.now) lowered.code lowered.numbers) }
+        ensures lowered { IfOk result (λ lowered. IsLowered (lowering_setup L.rows self.now) lowered.code lowered.numbers) }
+        ensures few { IfOk result (λ lowered. length lowered.code.blocks < 2 ^ 32) }
     {
         let numbers = self.numbers(list)?;
         let code = self.code(&numbers, tables, list)?;
@@ -126,7 +128,8 @@ pub fn lower<L: SoundLayout>(
     requires words { words_of_all_classes h.now (places_of h.now (L.rows layout.now)) ≤ most_words }
     requires typed { IsTypedProgram h.now program.now }
     requires small { IsSmall program.now }
-    ensures { IfOk result (λ lowered. IsLowered (setup h.now (L.rows layout.now) program.now) lowered.code lowered.numbers) }
+    ensures lowered { IfOk result (λ lowered. IsLowered (setup h.now (L.rows layout.now) program.now) lowered.code lowered.numbers) }
+    ensures few { IfOk result (λ lowered. length lowered.code.blocks < 2 ^ 32) }
 {
     h.keeps();
     let index = BodyIndex::new(alloc, program)?;

@@ -1,6 +1,6 @@
 //! What a program is run over: its code, the numbers of its functions, and the image of its tables.
 
-ghost use Rattle.std.specs.Prelude.{◌≡◌, ◌≤◌, true, IfOk};
+ghost use Rattle.std.specs.Prelude.{◌≡◌, ◌<◌, ◌≤◌, ◌^◌, length, true, IfOk};
 ghost use Rattle.cxx_subobject.specs.Parts.{most_subobjects};
 ghost use Rattle.cxx_overrider.specs.Overriders.{AreOverriders};
 ghost use Rattle.cxx_program.specs.Typed.{IsTypedProgram};
@@ -49,6 +49,7 @@ pub fn build<L: SoundLayout>(
     requires main { is_body program.now.main ≡ true }
     requires small { IsSmall program.now }
     ensures lowered { IfOk result (λ built. IsLowered (setup h.now (L.rows layout.now) program.now) built.code built.numbers) }
+    ensures few { IfOk result (λ built. length built.code.blocks < 2 ^ 32) }
     ensures image { IfOk result (λ built. HasImage h.now (places_of h.now (L.rows layout.now)) built.numbers built.image) }
     ensures world { IfOk result (λ built. HasWorld (setup h.now (L.rows layout.now) program.now) built.code built.numbers built.image most_subobjects) }
 {

@@ -48,7 +48,7 @@ impl<M: Memory> Machine<M> {
     /// A machine before its first step, with globals that are 0 and registers that are unset.
     ///
     /// `largest` is the greatest number of inheritance subobjects of a class: room for a cast is reserved for so many parts.
-    /// `steps` says how many blocks may run. Errors: want of memory, also where the code has 2^32 blocks or more.
+    /// `steps` says how many blocks may run. Errors: want of memory.
     pub fn new(
         alloc: Global,
         memory: M,
@@ -59,15 +59,13 @@ impl<M: Memory> Machine<M> {
     ) -> Result<Machine<M>, NoMemory>
     where
         M: Drop,
+        requires few { length code.blocks < 2 ^ 32 }
         ensures state { IfOk result (λ m. state_of m ≡ start_state (M.meaning memory) code steps) }
         ensures code { IfOk result (λ m. machine_code m ≡ code) }
         ensures image { IfOk result (λ m. machine_image m ≡ image) }
         ensures parts { IfOk result (λ m. cast_room m ≡ largest) }
         ensures failed { IfOk result (λ m. has_failed m ≡ false) }
     {
-        if code.blocks.len() > u32::MAX as usize {
-            return Err(NoMemory);
-        }
         let flat = flat_blocks(alloc, code.blocks.as_slice())?;
         let running = Running {
             heap: Heap::new(alloc, memory),
