@@ -18,3 +18,4 @@ pub mod FlatRuns
 pub mod Flattened
 pub mod KeptTwice
 pub mod Tables
+pub mod CodeCalls

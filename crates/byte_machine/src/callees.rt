@@ -1,6 +1,7 @@
 //! What runs by an entry of a virtual table, and what its thunk adjusts (Itanium C++ ABI 2.5.2, 2.5.3).
 
-ghost use Rattle.std.specs.Prelude.{◌≡◌, ◌*◌};
+ghost use Rattle.std.specs.Prelude.{◌≡◌, ◌*◌, Some};
+ghost use Rattle.byte_machine.specs.Running.{table_word};
 ghost use Rattle.byte_machine.specs.Calls.{callee, moved_by_word, this_by_thunk, thunk_word};
 ghost use Rattle.byte_machine.specs.invariants.GivenCallees.{found_callee};
 
@@ -63,16 +64,17 @@ fn thunk_word(image: &ImageBytes, thunk: u64, bytes: u64) -> Option<u64>
     }
 }
 
-/// What runs by the entry of this number in the table of an address, if something does.
-pub fn find_callee<M: Memory>(
+/// What runs by the entry of this number in the table of an address, where the address of its record is known.
+pub fn callee_by_record<M: Memory>(
     image: &ImageBytes,
     heap: &Heap<M>,
     this: u64,
-    entry: u32,
+    _entry: u32,
+    place: u64,
 ) -> Option<Callee>
-    ensures { result ≡ found_callee (callee image.now (M.meaning heap.now.memory) this entry) }
+    requires { table_word image.now (M.meaning heap.now.memory) this (8 * _entry) ≡ Some place }
+    ensures { result ≡ found_callee (callee image.now (M.meaning heap.now.memory) this _entry) }
 {
-    let place = table_word(image, heap, this, 8 * entry as u64)?;
     if place == 0 {
         return None;
     }
@@ -87,4 +89,17 @@ pub fn find_callee<M: Memory>(
         vbase,
         add,
     })
+}
+
+/// What runs by the entry of this number in the table of an address, if something does.
+pub fn find_callee<M: Memory>(
+    image: &ImageBytes,
+    heap: &Heap<M>,
+    this: u64,
+    entry: u32,
+) -> Option<Callee>
+    ensures { result ≡ found_callee (callee image.now (M.meaning heap.now.memory) this entry) }
+{
+    let place = table_word(image, heap, this, 8 * entry as u64)?;
+    callee_by_record(image, heap, this, entry, place)
 }

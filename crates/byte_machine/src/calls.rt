@@ -1,14 +1,18 @@
 //! Calls, `new` and `delete` (Itanium C++ ABI 2.5.2, 2.5.3).
 
-ghost use Rattle.std.specs.Prelude.{◌≡◌, [], IfOk};
+ghost use Rattle.std.specs.Prelude.{◌≡◌, ◌*◌, [], Some, IfOk};
 ghost use Rattle.byte_machine.specs.Calls.{code_called, deleted_unless_null, entry_called, new_effect, nothing_used};
 ghost use Rattle.byte_machine.specs.Effects.{effect_of};
+ghost use Rattle.byte_machine.specs.Running.{table_word};
+ghost use Rattle.byte_machine.specs.invariants.Flat.{code_call, CanDoAll, DidAllAs};
 ghost use Rattle.byte_machine.specs.invariants.OpKinds.{op_kind, OfCalls, OfDeletes};
-ghost use Rattle.byte_machine.specs.invariants.States.{CanDo, DidAs, KeepsRoomAndOuts, limited};
+ghost use Rattle.byte_machine.specs.invariants.States.{CanDo, DidAs, KeepsRoomAndOuts, limited, stopped};
 
-use crate::callees::find_callee;
+use crate::callees::{callee_by_record, find_callee};
 use crate::entering::{keep, open_call};
-use crate::running::{Running, Setup};
+use crate::running::{Running, Setup, Stop};
+use crate::turn::MachineTurn;
+use crate::words::table_word;
 use byte_code::{Op, ResultUse};
 use byte_memory::Memory;
 use foundation::{NoMemory, Sequence};
@@ -36,6 +40,69 @@ fn call_entry<M: Memory>(
     let kept = keep(setup, outcome, callee.vbase, callee.add)?;
     open_call(setup, running, callee.block, callee.this, arguments, kept)?;
     Ok(None)
+}
+
+/// The same, where the address of the entry's record is known.
+fn call_record<M: Memory>(
+    setup: &Setup,
+    running: &mut Running<M>,
+    this: u64,
+    entry: u32,
+    place: u64,
+    arguments: &[u32],
+    outcome: &ResultUse,
+) -> Result<Option<u8>, NoMemory>
+    requires place { table_word setup.now.image (M.meaning running.old.heap.memory) this (8 * entry) ≡ Some place }
+    requires allowed { CanDo setup.now (λ f s. entry_called f s entry arguments.now outcome.now this) running.old }
+    ensures did { IfOk result (λ limit. DidAs setup.now (λ f s. entry_called f s entry arguments.now outcome.now this) running.old running.new (limited limit)) }
+    ensures kept { KeepsRoomAndOuts running.old running.new }
+{
+    if running.calls >= MOST_CALLS {
+        return Ok(Some(10));
+    }
+    let callee = callee_by_record(&setup.image, &running.heap, this, entry, place).unwrap();
+    let kept = keep(setup, outcome, callee.vbase, callee.add)?;
+    open_call(setup, running, callee.block, callee.this, arguments, kept)?;
+    Ok(None)
+}
+
+/// Tests that an entry of the table of an address has code, and calls it; its record is looked up once. It answers what stops the
+/// block, if something does.
+///
+/// Errors: want of memory; then nothing is said of what it works on.
+pub fn call_with_code<M: Memory>(
+    setup: &Setup,
+    running: &mut Running<M>,
+    this: u32,
+    entry: u32,
+    arguments: &[u32],
+    outcome: &ResultUse,
+) -> Result<Option<Stop>, NoMemory>
+    requires allowed { CanDoAll setup.now (code_call this entry arguments.now outcome.now) running.old }
+    ensures did { IfOk result (λ stop. DidAllAs setup.now (code_call this entry arguments.now outcome.now) running.old running.new (stopped stop)) }
+    ensures kept { KeepsRoomAndOuts running.old running.new }
+{
+    let at = running.register(this).unwrap();
+    if at == 0 {
+        let limit = call_entry(setup, running, at, entry, arguments, outcome)?;
+        return Ok(limit_stop(limit));
+    }
+    let place = table_word(&setup.image, &running.heap, at, 8 * entry as u64).unwrap();
+    if place == 0 {
+        return Ok(Some(Stop::Answers(MachineTurn::Refused(6, running.line))));
+    }
+    let limit = call_record(setup, running, at, entry, place, arguments, outcome)?;
+    Ok(limit_stop(limit))
+}
+
+/// What stops a block, if a limit is met.
+pub fn limit_stop(limit: Option<u8>) -> Option<Stop>
+    ensures { stopped result ≡ limited limit }
+{
+    match limit {
+        None => None,
+        Some(number) => Some(Stop::Answers(MachineTurn::Limit(number))),
+    }
 }
 
 /// A call of a block, with `this`. It answers the limit that it meets, if it does.

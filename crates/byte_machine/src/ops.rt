@@ -4,9 +4,9 @@ ghost use Rattle.std.specs.Prelude.{◌≡◌, None, IfOk};
 ghost use Rattle.abi_dyncast.specs.Casts.{room};
 ghost use Rattle.byte_machine.specs.Effects.{effect_of};
 ghost use Rattle.byte_machine.specs.invariants.OpKinds.{op_kind, OfJumps, NeverStops};
-ghost use Rattle.byte_machine.specs.invariants.States.{CanDo, DidAs, KeepsRoomAndOuts, limited, refusal_stop, stopped};
+ghost use Rattle.byte_machine.specs.invariants.States.{CanDo, DidAs, KeepsRoomAndOuts, refusal_stop, stopped};
 
-use crate::calls::{run_call, run_delete};
+use crate::calls::{limit_stop, run_call, run_delete};
 use crate::finishing::run_finish;
 use crate::outs::run_out;
 use crate::plans::run_plan;
@@ -27,16 +27,6 @@ pub fn refused(rule: Option<u8>, line: u32) -> Option<Stop>
     match rule {
         None => None,
         Some(rule) => Some(Stop::Answers(MachineTurn::Refused(rule, line))),
-    }
-}
-
-/// What stops a block, if a limit is met.
-fn limited(limit: Option<u8>) -> Option<Stop>
-    ensures { stopped result ≡ limited limit }
-{
-    match limit {
-        None => None,
-        Some(number) => Some(Stop::Answers(MachineTurn::Limit(number))),
     }
 }
 
@@ -109,11 +99,11 @@ pub fn run_op<M: Memory>(
         }
         Op::CallEntry { .. } | Op::CallCode { .. } | Op::New { .. } => {
             let limit = run_call(setup, running, op)?;
-            Ok(limited(limit))
+            Ok(limit_stop(limit))
         }
         Op::DeleteEntry { .. } | Op::DeleteCode { .. } => {
             let limit = run_delete(setup, running, op)?;
-            Ok(limited(limit))
+            Ok(limit_stop(limit))
         }
         Op::Return { from, class } => {
             let stop = run_return(setup, running, *from, *class);
