@@ -1,2 +1,3 @@
 pub mod Changed
+mod ObjectLemmas
 mod NoteLemmas

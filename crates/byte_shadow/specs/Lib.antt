@@ -1,2 +1,3 @@
 pub mod Shadows
+pub mod Objects
 pub mod Meaning

@@ -10,6 +10,7 @@
 //! `set_view` take memory.
 #![tactic(auto, unfolding(crate::specs::Meaning::notes_of))]
 
+mod objects;
 mod shadow;
 
 pub use crate::shadow::Shadow;

@@ -2,8 +2,9 @@
 
 ghost use Rattle.std.specs.Prelude.{◌≡◌, ◌≢◌, None, OnOk, OnErr};
 ghost use Rattle.byte_shadow.specs.Shadows.{no_notes, noted_raw, phased, viewed, is_ready_phase, ready_at};
-ghost use Rattle.byte_shadow.specs.Meaning.{shadow_place, note_of, place_pair, note_phase, note_owner, view_pair, is_own_view, IsMarked, notes_of};
+ghost use Rattle.byte_shadow.specs.Meaning.{same_place, shadow_place, object_note, note_of, place_pair, note_phase, note_owner, view_pair, is_own_view, noted_view, IsMarked, IsLastKept, notes_of};
 
+use crate::objects::{CompleteObject, ObjectList};
 use byte_code::Phase;
 use foundation::NoMemory;
 use indexmap::IndexMap;
@@ -42,13 +43,43 @@ fn is_ready_phase(phase: Phase) -> bool
     )
 }
 
+/// The view of a complete object.
+#[derive(Clone, Copy)]
+pub struct Viewed {
+    pub owner: Place,
+    pub view: Place,
+}
+
 /// What is noted of class subobjects, by their address and the number of their class: the phase of each, the complete object
-/// that it belongs to, and of a complete object its view. Addresses are in bytes. That a complete object is the view of itself
-/// stands in its note; other views have a map of their own, since few subobjects are complete objects.
+/// that it belongs to, and of a complete object its view. Addresses are in bytes.
+///
+/// A complete object that is noted behind all others, by its address, stands in a list, and all other subobjects in a map. That a
+/// complete object is the view of itself stands in its note. Other views have a map of their own, since few subobjects are
+/// complete objects; the one that was set last stands beside it, since the view of one object changes many times in a row.
 #[derive(Drop)]
 pub struct Shadow {
+    objects: ObjectList,
     notes: IndexMap<Place, Note>,
+    last: Option<Viewed>,
     views: IndexMap<Place, Place>,
+}
+
+/// What is noted of a complete object as a subobject of itself.
+fn note_from(object: CompleteObject) -> Note
+    ensures { result ≡ object_note object }
+{
+    Note {
+        owner: object.at,
+        owner_class: object.class,
+        phase: object.phase,
+        is_own_view: object.is_own_view,
+    }
+}
+
+fn is_same(place: Place, other: Place) -> bool
+    ensures { result ≡ same_place place other }
+{
+    place.at == other.at && place.class == other.class
 }
 
 impl Shadow {
@@ -57,7 +88,9 @@ impl Shadow {
         ensures { notes_of result ≡ no_notes }
     {
         Shadow {
+            objects: ObjectList::new(alloc),
             notes: IndexMap::new(alloc),
+            last: None,
             views: IndexMap::new(alloc),
         }
     }
@@ -65,7 +98,10 @@ impl Shadow {
     fn note(&self, at: u64, class: u32) -> Option<Note>
         ensures { result ≡ note_of self.now at class }
     {
-        self.notes.get(&Place { at, class }).copied()
+        match self.objects.index_of(at, class) {
+            Some(index) => Some(note_from(self.objects.items[index])),
+            None => self.notes.get(&Place { at, class }).copied(),
+        }
     }
 
     /// Whether a subobject is noted as the view of itself.
@@ -92,6 +128,15 @@ impl Shadow {
         ensures ok { OnOk result (notes_of self.new ≡ noted_raw (notes_of self.old) at class owner owner_class) }
         ensures err { OnErr result (notes_of self.new ≡ notes_of self.old) }
     {
+        if at == owner && class == owner_class && self.objects.are_below(at) {
+            self.objects.push(CompleteObject {
+                at,
+                class,
+                phase: Phase::Raw,
+                is_own_view: false,
+            })?;
+            return Ok(());
+        }
         let note = Note {
             owner,
             owner_class,
@@ -107,9 +152,17 @@ impl Shadow {
         requires { (notes_of self.old).phase at class ≢ None }
         ensures { notes_of self.new ≡ phased (notes_of self.old) at class phase }
     {
-        // a subobject without a note is never met: the `requires` says that it is noted
-        if let Some(note) = self.notes.get_mut(&Place { at, class }) {
-            note.phase = phase;
+        match self.objects.index_of(at, class) {
+            Some(index) => {
+                let is_own_view = self.objects.items[index].is_own_view;
+                self.objects.change(index, phase, is_own_view);
+            }
+            None => {
+                // a subobject without a note is never met: the `requires` says that it is noted
+                if let Some(note) = self.notes.get_mut(&Place { at, class }) {
+                    note.phase = phase;
+                }
+            }
         }
     }
 
@@ -134,8 +187,35 @@ impl Shadow {
     fn mark(&mut self, at: u64, class: u32, is_own_view: bool)
         ensures { IsMarked self.old self.new at class is_own_view }
     {
-        if let Some(note) = self.notes.get_mut(&Place { at, class }) {
-            note.is_own_view = is_own_view;
+        match self.objects.index_of(at, class) {
+            Some(index) => {
+                let phase = self.objects.items[index].phase;
+                self.objects.change(index, phase, is_own_view);
+            }
+            None => {
+                if let Some(note) = self.notes.get_mut(&Place { at, class }) {
+                    note.is_own_view = is_own_view;
+                }
+            }
+        }
+    }
+
+    /// Puts the view that was set last into the map, unless it is that of the complete object.
+    ///
+    /// Errors: want of memory; then all is as before.
+    fn keep_last(&mut self, owner: Place) -> Result<(), NoMemory>
+        ensures ok { OnOk result (IsLastKept self.old self.new owner) }
+        ensures err { OnErr result (notes_of self.new ≡ notes_of self.old) }
+    {
+        match self.last {
+            None => Ok(()),
+            Some(last) => {
+                if is_same(last.owner, owner) {
+                    return Ok(());
+                }
+                self.views.insert(last.owner, last.view)?;
+                Ok(())
+            }
         }
     }
 
@@ -156,13 +236,33 @@ impl Shadow {
             self.mark(at, class, true);
             return Ok(());
         }
-        let complete = Place {
+        let owner_place = Place {
             at: owner,
             class: owner_class,
         };
-        self.views.insert(complete, Place { at, class })?;
+        self.keep_last(owner_place)?;
+        self.last = Some(Viewed {
+            owner: owner_place,
+            view: Place { at, class },
+        });
         self.mark(owner, owner_class, false);
         Ok(())
+    }
+
+    /// The view that was set of a complete object, where it was not set as the view of itself since.
+    fn noted_view(&self, owner: Place) -> Option<Place>
+        ensures { result ≡ noted_view self.now owner.at owner.class }
+    {
+        match self.last {
+            None => self.views.get(&owner).copied(),
+            Some(last) => {
+                if is_same(last.owner, owner) {
+                    Some(last.view)
+                } else {
+                    self.views.get(&owner).copied()
+                }
+            }
+        }
     }
 
     /// The view of a complete object, as an address and the number of a class, if one was set.
@@ -176,8 +276,8 @@ impl Shadow {
             at: owner,
             class: owner_class,
         };
-        let view = self.views.get(&complete)?;
-        Some(pair_of(*view))
+        let view = self.noted_view(complete)?;
+        Some(pair_of(view))
     }
 
     /// The complete object that a subobject belongs to, as an address and the number of a class, if the subobject is noted.

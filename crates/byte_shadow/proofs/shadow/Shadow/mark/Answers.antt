@@ -1,14 +1,24 @@
-use Rattle.std.proofs.Common.{refl, sym, ap}
+use Rattle.std.proofs.Common.{◌≡◌, Some, length, refl, sym, ap, ◌∙◌}
 use Rattle.std.specs.Prelude.{is_some}
+use Rattle.std.specs.List.{slice_get}
+use Rattle.std.proofs.lemmas.Option.{slice_get_read}
 use Rattle.byte_shadow.specs.declared.shadow.Note.{Note}
 use Rattle.byte_shadow.specs.Meaning.{shadow_place}
-use Rattle.byte_shadow.proofs.NoteLemmas.{marked_note-put}
+use Rattle.byte_shadow.proofs.NoteLemmas.{marked-changed, marked-mapped}
 use Rattle.byte_shadow.proofs.shadow.Shadow.mark.Goals as goal
 
 pub returns-in-Some : goal.returns-in-Some
 returns-in-Some c =
-    let before : Note = c.in-Some.note.now in
+    let old = c.args.self.now in
+    let items = old.objects.items.items in
+    let here : slice_get items c.in-Some.index ≡ Some c.index.result.now = slice_get_read items (length items) c.in-Some.index c.index.result.now refl c.in-Some.ensures.0 c.index.ensures in
+    marked-changed old (record { objects = c.change.new.self; notes = old.notes; last = old.last; views = old.views }) c.args.at c.args.class c.index.result.now c.args.is_own_view (c.in-Some.ensures.1 ∙ here) (c.change.ensures c.index.result.now here) refl refl refl
+
+pub returns-in-Some-get_mut : goal.returns-in-Some-get_mut
+returns-in-Some-get_mut c =
+    let old = c.args.self.now in
+    let before : Note = c.in-Some-get_mut.note.now in
     let after : Note = record before { is_own_view = c.args.is_own_view } in
-    let there = sym c.in-Some.ensures.value in
+    let there = sym c.in-Some-get_mut.ensures.value in
     let written = (c.get_mut.follows.holds after).3 (ap is_some there) in
-    marked_note-put c.args.self.now (record { notes = c.get_mut.follows.lender after; views = c.args.self.now.views }) c.args.at c.args.class before c.args.is_own_view there (record { each = λ a d. written.0 (shadow_place a d) }) refl
+    marked-mapped old (record { objects = old.objects; notes = c.get_mut.follows.lender after; last = old.last; views = old.views }) c.args.at c.args.class before c.args.is_own_view c.in-None.ensures there (record { each = λ a d. written.0 (shadow_place a d) }) refl refl refl
