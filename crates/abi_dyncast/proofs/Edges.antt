@@ -1,5 +1,5 @@
 -- The edge to a base, as it is read.
-use Rattle.std.proofs.Common.{◌≡◌, ℕ, ◌+◌, ◌*◌, true, Option, ap, subst, sym, ◌∙◌}
+use Rattle.std.proofs.Common.{◌≡◌, ℕ, ◌+◌, ◌*◌, true, false, Option, refl, ap, subst, sym, ◌∙◌}
 use Rattle.std.specs.Prelude.{IsSome}
 use Rattle.byte_memory.specs.Store.{Store}
 use Rattle.byte_code.specs.Images.{word_at}
@@ -8,7 +8,7 @@ use Rattle.byte_code.specs.declared.code.ImageBytes.{ImageBytes}
 use Rattle.byte_code.specs.declared.image.InfoRecord.{InfoRecord}
 use Rattle.byte_code.specs.declared.image.BaseRecord.{BaseRecord}
 use Rattle.abi_dyncast.specs.declared.parts.Part.{Part}
-use Rattle.abi_dyncast.specs.Graph.{info_at, has_virtual_flag, vbase_at, record_at, base_record}
+use Rattle.abi_dyncast.specs.Graph.{moved, graph_of, info_at, has_virtual_flag, offset_word, distance_word, edge_by, vbase_at, record_at, base_record}
 use Rattle.abi_dyncast.specs.Casts.{CanStep}
 
 -- the base that was read
@@ -27,3 +27,11 @@ pub word_of_table : (image other : ImageBytes) (memory : Store) (part : Part) (i
 word_of_table image other memory part i base same is step v =
     subst (λ (o : ImageBytes). IsTableWord (word_at o) (vbase_at memory part.at base)) (sym same)
     (subst (λ (b : BaseRecord). IsTableWord (word_at image) (vbase_at memory part.at b)) (sym is) (step.table (ap has_virtual_flag (sym is) ∙ v)))
+
+-- the part of a base that is not virtual
+pub plain_part : (image : ℕ → Option ℕ) (memory : Store) (part : Part) (i : ℕ) (base : BaseRecord) (far at : ℕ) → base ≡ base_record image part i → has_virtual_flag base ≡ false → far ≡ offset_word base → at ≡ moved part.at far →
+    record { at = at; info = base.info } ≡ ((graph_of image memory).edge part i).part
+plain_part image memory part i base far at is plain offset place =
+    let make : ℕ → ℕ → Part = λ a info. record { at = a; info = info } in
+    let same : distance_word image memory part.at base ≡ offset_word base = rw plain refl in
+    ap (λ a. make a base.info) (place ∙ ap (moved part.at) (offset ∙ sym same)) ∙ ap (λ (b : BaseRecord). (edge_by image memory part.at b).part) is

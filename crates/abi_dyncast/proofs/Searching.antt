@@ -13,7 +13,7 @@ use Rattle.abi_dyncast.specs.Graph.{Graph, graph_of, any_edge, LeadsByEdges, sta
 use Rattle.abi_dyncast.specs.Casts.{AreClosedParts}
 use Rattle.abi_dyncast.specs.invariants.Chain.{IsMet, IsEachOnce}
 use Rattle.abi_dyncast.specs.invariants.Finding.{IsSource, is_source}
-use Rattle.abi_dyncast.specs.invariants.Searches.{TellsOfSource, AreWithout, MayBeginSearch, Searched}
+use Rattle.abi_dyncast.specs.invariants.Searches.{TellsOfSource, AreWithout, MayBeginSearch, MayDescend, LeadsOnlyTo, Searched}
 use Rattle.abi_dyncast.proofs.OnceLists.{each_once, once_short}
 use Rattle.abi_dyncast.proofs.Entries.{part_in, met_entry, met_cases, none_met, one_met, met_part}
 use Rattle.abi_dyncast.proofs.Findings.{source_test}
@@ -162,6 +162,104 @@ searching_end g goal e old new going high = record {
     without = λ other m l. ⊎_elim
         (λ a. going.clear.without other a l)
         (λ b. let f = subst (λ p. LeadsToSome g any_edge (IsSource g goal) p) (sym (one_met e other b)) l in leads_nowhere g goal e.part f.end f.leads f.is going.past high)
+        (met_cases new (e ∷ []) other m);
+  };
+}
+
+-- all that lies below a part can be read where a search from it can begin
+pub may_descend : (image : ℕ → Option ℕ) (memory : Store) (goal : Goal) (room : ℕ) (entries : List Entry) (part : Part) → MayBeginSearch image memory goal room entries part → MayDescend image memory part
+may_descend image memory goal room entries part ready = record { parts = ready.parts; are = ready.are; read = ready.read; has = ready.has }
+
+pub stays_there : (g : Graph) (goal : Goal) (part : Part) → LeadsOnlyTo g goal part part
+stays_there g goal part = record { leads = stays part; all = λ l. l }
+
+-- a part of one base, which is not the source
+pub descends : (g : Graph) (goal : Goal) (part next low : Part) → g.count part ≡ 1 → goal.class < g.class part → next ≡ (g.edge part 0).part → LeadsOnlyTo g goal next low → LeadsOnlyTo g goal part low
+descends g goal part next low one high is down = record {
+  leads = steps part low 0 (omega arith) refl (subst (λ p. LeadsByEdges g any_edge p low) is down.leads);
+  all = λ l. down.all (subst (λ p. LeadsToSome g any_edge (IsSource g goal) p) (sym is) (below part l.end l.leads l.is one high));
+}
+  where
+    below : (from end : Part) → LeadsByEdges g any_edge from end → IsSource g goal end → g.count from ≡ 1 → goal.class < g.class from → LeadsToSome g any_edge (IsSource g goal) (g.edge from 0).part
+    below _ _ (stays from) q one' high' = let e : g.class from ≡ goal.class = q.same_class in absurd (omega arith)
+    below _ _ (steps from end i lt a l) q one' high' =
+        let first : i ≡ 0 = omega arith in
+        subst (λ j. LeadsToSome g any_edge (IsSource g goal) (g.edge from j).part) first (record { end = end; leads = l; is = q })
+
+-- a search from there can begin
+pub low_ready : (image : ℕ → Option ℕ) (memory : Store) (goal : Goal) (room : ℕ) (entries : List Entry) (part low : Part) → MayBeginSearch image memory goal room entries part → LeadsOnlyTo (graph_of image memory) goal part low → MayBeginSearch image memory goal room entries low
+low_ready image memory goal room entries part low ready down = record {
+  parts = ready.parts;
+  are = ready.are;
+  read = ready.read;
+  has = leads_inside (graph_of image memory) any_edge ready.parts part low ready.are down.leads ready.has;
+  few = ready.few;
+  inside = ready.inside;
+  clear = ready.clear;
+}
+
+-- its class is lower, where it is another part
+pub low_lower : (g : Graph) (goal : Goal) (parts : List Part) (part low : Part) → AreClosedParts g parts → Contains parts part → LeadsOnlyTo g goal part low → (low.info ≡ part.info → ⊥) → g.class low < g.class part
+low_lower g goal parts part low are has down other = ⊎_elim
+    (λ same. absurd (other (ap (λ (p : Part). p.info) same)))
+    (λ less. less)
+    (leads_lower g any_edge parts part low are down.leads has)
+
+way_then : (g : Graph) (part low end : Part) → LeadsByEdges g any_edge part low → LeadsByEdges g any_edge low end → LeadsByEdges g any_edge part end
+way_then g _ _ end (stays part) l = l
+way_then g _ _ end (steps part low i lt a w) l = steps part end i lt a (way_then g (g.edge part i).part low end w l)
+
+-- what a search from there tells of the part
+pub low_tells_of : (g : Graph) (goal : Goal) (part low : Part) (found : Bool) → LeadsOnlyTo g goal part low → TellsOfSource g goal low found → TellsOfSource g goal part found
+low_tells_of g goal part low found down tells = record {
+  source = (λ t. let l = tells.source.0 t in record { end = l.end; leads = way_then g part low l.end down.leads l.leads; is = l.is }, λ f. tells.source.1 (down.all f));
+}
+
+-- what it does, where the source is found
+pub low_searched : (g : Graph) (goal : Goal) (part low : Part) (old new : List Entry) → g.class low < g.class part → LeadsOnlyTo g goal part low → Searched g goal low old new → Searched g goal part old new
+low_searched g goal part low old new less down done = record {
+  more = done.more;
+  is = done.is;
+  low = λ other m. let l = done.low other m in omega arith;
+  below = λ other m. way_then g part low other down.leads (done.below other m);
+  clear = done.clear;
+}
+
+-- the part is not yet there
+pub low_new : (g : Graph) (goal : Goal) (part low : Part) (old new : List Entry) → g.class low < g.class part → Searched g goal low old new → (IsMet old part → ⊥) → IsMet new part → ⊥
+low_new g goal part low old new less done fresh m = ⊎_elim
+    (λ a. fresh a)
+    (λ b. let l = done.low part b in omega arith)
+    (met_cases old done.more part (subst (λ xs. IsMet xs part) done.is m))
+
+-- there is room for it
+pub low_room : (image : ℕ → Option ℕ) (memory : Store) (goal : Goal) (room : ℕ) (part low : Part) (old new : List Entry) → MayBeginSearch image memory goal room old part → (graph_of image memory).class low < (graph_of image memory).class part → LeadsOnlyTo (graph_of image memory) goal part low → Searched (graph_of image memory) goal low old new → IsEachOnce new → (IsMet old part → ⊥) → length new < room
+low_room image memory goal room part low old new ready less down done once fresh =
+    let still = low_new (graph_of image memory) goal part low old new less done fresh in
+    let inside : (other : Part) → IsMet new other → Contains ready.parts other = λ other m. ⊎_elim
+    (λ a. ready.inside other a)
+    (λ b. leads_inside (graph_of image memory) any_edge ready.parts part other ready.are (way_then (graph_of image memory) part low other down.leads (done.below other b)) ready.has)
+    (met_cases old done.more other (subst (λ xs. IsMet xs other) done.is m)) in
+    let short = once_short (part ∷ map part_in new) ready.parts (λ h. still (met_part new part h), each_once part_in new once) (λ other h. has_from_contains ready.parts other (⊎_elim
+    (λ e. subst (λ p. Contains ready.parts p) e ready.has)
+    (λ m. inside other (met_part new other m))
+    h)) in
+    let long : length (map part_in new) ≡ length new = length-map new part_in in
+    let few = ready.few in
+    let short' : suc (length (map part_in new)) ≤ length ready.parts = short in
+    omega arith
+
+-- what it does, where the source is not found and the part is put behind
+pub low_end : (g : Graph) (goal : Goal) (e : Entry) (low : Part) (old new : List Entry) (found : Bool) → g.class low < g.class e.part → LeadsOnlyTo g goal e.part low → found ≡ false → TellsOfSource g goal low found → Searched g goal low old new → Searched g goal e.part old (new ++ e ∷ [])
+low_end g goal e low old new found less down fails tells done = record {
+  more = done.more ++ e ∷ [];
+  is = ap (λ xs. xs ++ e ∷ []) done.is ∙ append_assoc old done.more (e ∷ []);
+  low = λ other m. ⊎_elim (λ a. let l = done.low other a in omega arith) (λ b. let l : g.class e.part ≡ g.class other = ap g.class (one_met e other b) in omega arith) (met_cases done.more (e ∷ []) other m);
+  below = λ other m. ⊎_elim (λ a. way_then g e.part low other down.leads (done.below other a)) (λ b. subst (λ p. LeadsByEdges g any_edge e.part p) (one_met e other b) (stays e.part)) (met_cases done.more (e ∷ []) other m);
+  clear = record {
+    without = λ other m l. ⊎_elim
+        (λ a. done.clear.without other a l)
+        (λ b. let f = subst (λ p. LeadsToSome g any_edge (IsSource g goal) p) (sym (one_met e other b)) l in let there : true ≡ false = sym (tells.source.1 (down.all f)) ∙ fails in cc)
         (met_cases new (e ∷ []) other m);
   };
 }

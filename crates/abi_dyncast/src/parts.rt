@@ -62,7 +62,8 @@ pub(crate) fn moved(at: u64, word: u64) -> u64
     at.wrapping_add(word)
 }
 
-fn is_virtual(base: BaseRecord) -> bool
+/// Whether a base is virtual.
+pub(crate) fn is_virtual(base: BaseRecord) -> bool
     ensures { result ≡ has_virtual_flag base }
 {
     base.offset_flags.cast_unsigned() % 2 == 1
@@ -75,7 +76,7 @@ fn is_public(base: BaseRecord) -> bool
 }
 
 /// The offset behind the flags of a base, as a word.
-fn offset_word(base: BaseRecord) -> u64
+pub(crate) fn offset_word(base: BaseRecord) -> u64
     ensures { result ≡ offset_word base }
 {
     base.offset_flags.div_euclid(256).cast_unsigned()

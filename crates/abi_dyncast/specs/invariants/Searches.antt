@@ -27,6 +27,18 @@ pub record MayBeginSearch (image : ℕ → Option ℕ) (memory : Store) (goal : 
   pub inside : (other : Part) → IsMet entries other → Contains parts other
   pub clear : AreWithout (graph_of image memory) goal entries
 
+-- all that lies below a part can be read
+pub record MayDescend (image : ℕ → Option ℕ) (memory : Store) (part : Part) : Type 0 where
+  pub parts : List Part
+  pub are : AreClosedParts (graph_of image memory) parts
+  pub read : CanReadParts image memory parts
+  pub has : Contains parts part
+
+-- a part leads to another, in which the source lies if it lies in the part
+pub record LeadsOnlyTo (g : Graph) (goal : Goal) (part low : Part) : Type 0 where
+  pub leads : LeadsByEdges g any_edge part low
+  pub all : LeadsToSome g any_edge (IsSource g goal) part → LeadsToSome g any_edge (IsSource g goal) low
+
 -- what a search from a part does: it adds parts below it, those below which the source does not lie
 pub record Searched (g : Graph) (goal : Goal) (part : Part) (old new : List Entry) : Type 0 where
   pub more : List Entry

@@ -1,4 +1,4 @@
-use Rattle.std.proofs.Common.{◌≡◌, ◌<◌, ap, sym, subst, refl, ◌∙◌, arith, false}
+use Rattle.std.proofs.Common.{◌≡◌, ◌<◌, ap, sym, subst, refl, ◌∙◌, arith}
 use Rattle.byte_code.specs.Images.{word_at}
 use Rattle.byte_code.specs.Readers.{image_of}
 use Rattle.byte_code.specs.declared.code.ImageBytes.{ImageBytes}
@@ -9,7 +9,7 @@ use Rattle.abi_dyncast.specs.Graph.{graph_of, info_at}
 use Rattle.abi_dyncast.specs.Casts.{CanStep}
 use Rattle.abi_dyncast.specs.invariants.Chain.{part_entry, link_for}
 use Rattle.abi_dyncast.specs.invariants.Searches.{MayBeginSearch, Searched, TellsOfSource}
-use Rattle.abi_dyncast.proofs.Searching.{Searching, nothing_searched, low_tells, passed_tells, searching_from, searching_ready, searching_next, leads_tells, leads_searched, searching_new, searching_room, searching_tells, searching_end}
+use Rattle.abi_dyncast.proofs.Searching.{Searching, nothing_searched, low_tells, passed_tells, searching_from, searching_ready, searching_next, leads_tells, leads_searched, searching_new, searching_room, searching_tells, searching_end, low_ready, low_lower, low_tells_of, low_searched, low_new, low_room, low_end}
 use Rattle.abi_dyncast.proofs.search.+leads_to_source.Goals as goal
 
 pub returns-then-info-goal-clause-tells : goal.returns-then-info-goal-clause-tells
@@ -30,7 +30,7 @@ pub returns-in-Some-clause-searched : goal.returns-in-Some-clause-searched
 returns-in-Some-clause-searched g t c = nothing_searched _ _ _ _ c.requires.clear
 
 pub loop-number-init : goal.loop-number-init
-loop-number-init g t c = record { going = searching_from _ _ _ _ c.requires.clear; image = refl; parts = refl }
+loop-number-init g t c = record { going = searching_from _ _ _ _ c.requires.clear; image = c.descend-low.ensures.image; parts = refl }
 
 pub edge_at-way-requires : goal.edge_at-way-requires
 edge_at-way-requires g t c =
@@ -114,13 +114,13 @@ loop-number-preserved g t c =
       parts = c.leads_to_source-below.ensures.parts ∙ c.loop-number.invariant.parts;
     }
 
-pub add-requires-clause-space : goal.add-requires-clause-space
-add-requires-clause-space g t c =
+pub add-requires-2-clause-space : goal.add-requires-2-clause-space
+add-requires-2-clause-space g t c =
     let r = searching_room _ _ _ _ _ _ _ _ c.requires c.loop-number.invariant.going c.loop-number.work.once (c.in_default.ensures.none refl) in
     omega (arith, c.loop-number.invariant.parts)
 
-pub add-requires-clause-fresh : goal.add-requires-clause-fresh
-add-requires-clause-fresh g t c = searching_new _ _ _ _ _ _ c.loop-number.invariant.going (c.in_default.ensures.none refl)
+pub add-requires-2-clause-fresh : goal.add-requires-2-clause-fresh
+add-requires-2-clause-fresh g t c = searching_new _ _ _ _ _ _ c.loop-number.invariant.going (c.in_default.ensures.none refl)
 
 pub returns-clause-tells : goal.returns-clause-tells
 returns-clause-tells g t c =
@@ -146,5 +146,74 @@ returns-clause-searched g t c =
     let high : c.args.goal.class < gr.class c.args.part = omega (arith, c.if-info-goal.false) in
     let all : c.loop-number.number ≡ gr.count c.args.part = omega (arith, c.loop-number-test.false, c.loop-number.auto.number-end) in
     let going = subst (λ k. Searching gr c.args.goal c.args.part k c.args.work.now.entries.items c.loop-number.work.entries.items) all c.loop-number.invariant.going in
-    let x : Entry = part_entry c.args.part c.info-info.result.class (record { source = false; public_source = false; public_target = false }) (link_for c.loop-number.work.heads.items c.loop-number.work.entries.items c.args.part) in
-    subst (λ xs. Searched gr c.args.goal c.args.part c.args.work.now.entries.items xs) (sym c.add.ensures.entries) (searching_end gr c.args.goal x c.args.work.now.entries.items c.loop-number.work.entries.items going high)
+    let x : Entry = part_entry c.args.part c.info-info.result.class c.nothing-2.result (link_for c.loop-number.work.heads.items c.loop-number.work.entries.items c.args.part) in
+    subst (λ xs. Searched gr c.args.goal c.args.part c.args.work.now.entries.items xs) (sym c.add-2.ensures.entries) (searching_end gr c.args.goal x c.args.work.now.entries.items c.loop-number.work.entries.items going high)
+
+pub leads_to_source-far-requires : goal.leads_to_source-far-requires
+leads_to_source-far-requires g t c κs within =
+    let image = word_at (image_of c.args.reader.now) in
+    let memory = g.M.Memory.meaning c.args.memory.now in
+    let gr = graph_of image memory in
+    let low = c.descend-low.result in
+    let down = c.descend-low.ensures.down in
+    let less = low_lower gr c.args.goal c.requires.parts c.args.part low c.requires.are c.requires.has down c.if-low-part.true in
+    let on : image_of c.descend-low.new.reader ≡ image_of c.args.reader.now = c.descend-low.ensures.image in
+    let there : (graph_of (word_at (image_of c.descend-low.new.reader)) memory).class low ≡ gr.class low = ap (λ (i : ImageBytes). (graph_of (word_at i) memory).class low) on in
+    let ready = low_ready image memory c.args.goal c.args.work.now.parts c.args.work.now.entries.items c.args.part low c.requires down in
+    (omega (arith, c.decreases), (within, subst (λ (i : ImageBytes). MayBeginSearch (word_at i) memory c.args.goal c.args.work.now.parts c.args.work.now.entries.items low) (sym on) ready))
+
+pub add-requires-clause-space : goal.add-requires-clause-space
+add-requires-clause-space g t c =
+    let image = word_at (image_of c.args.reader.now) in
+    let memory = g.M.Memory.meaning c.args.memory.now in
+    let gr = graph_of image memory in
+    let low = c.descend-low.result in
+    let down = c.descend-low.ensures.down in
+    let less = low_lower gr c.args.goal c.requires.parts c.args.part low c.requires.are c.requires.has down c.if-low-part.true in
+    let done = subst (λ (i : ImageBytes). Searched (graph_of (word_at i) memory) c.args.goal low c.args.work.now.entries.items c.leads_to_source-far.new.work.entries.items) c.descend-low.ensures.image c.leads_to_source-far.ensures.searched in
+    let r = low_room image memory c.args.goal c.args.work.now.parts c.args.part low c.args.work.now.entries.items c.leads_to_source-far.new.work.entries.items c.requires less down done c.leads_to_source-far.new.work.once (c.in_default.ensures.none refl) in
+    omega (arith, c.leads_to_source-far.ensures.parts)
+
+pub add-requires-clause-fresh : goal.add-requires-clause-fresh
+add-requires-clause-fresh g t c =
+    let image = word_at (image_of c.args.reader.now) in
+    let memory = g.M.Memory.meaning c.args.memory.now in
+    let gr = graph_of image memory in
+    let low = c.descend-low.result in
+    let less = low_lower gr c.args.goal c.requires.parts c.args.part low c.requires.are c.requires.has c.descend-low.ensures.down c.if-low-part.true in
+    let done = subst (λ (i : ImageBytes). Searched (graph_of (word_at i) memory) c.args.goal low c.args.work.now.entries.items c.leads_to_source-far.new.work.entries.items) c.descend-low.ensures.image c.leads_to_source-far.ensures.searched in
+    low_new gr c.args.goal c.args.part low _ _ less done (c.in_default.ensures.none refl)
+
+pub returns-then-not-far-clause-searched : goal.returns-then-not-far-clause-searched
+returns-then-not-far-clause-searched g t c =
+    let image = word_at (image_of c.args.reader.now) in
+    let memory = g.M.Memory.meaning c.args.memory.now in
+    let gr = graph_of image memory in
+    let low = c.descend-low.result in
+    let down = c.descend-low.ensures.down in
+    let less = low_lower gr c.args.goal c.requires.parts c.args.part low c.requires.are c.requires.has down c.if-low-part.true in
+    let tells = subst (λ (i : ImageBytes). TellsOfSource (graph_of (word_at i) memory) c.args.goal low c.leads_to_source-far.result) c.descend-low.ensures.image c.leads_to_source-far.ensures.tells in
+    let done = subst (λ (i : ImageBytes). Searched (graph_of (word_at i) memory) c.args.goal low c.args.work.now.entries.items c.leads_to_source-far.new.work.entries.items) c.descend-low.ensures.image c.leads_to_source-far.ensures.searched in
+    let x : Entry = part_entry c.args.part c.info-info.result.class c.nothing.result (link_for c.leads_to_source-far.new.work.heads.items c.leads_to_source-far.new.work.entries.items c.args.part) in
+    subst (λ xs. Searched gr c.args.goal c.args.part c.args.work.now.entries.items xs) (sym c.add.ensures.entries)
+    (low_end gr c.args.goal x low c.args.work.now.entries.items c.leads_to_source-far.new.work.entries.items c.leads_to_source-far.result less down c.if-not-far.true tells done)
+
+pub returns-else-not-far-clause-tells : goal.returns-else-not-far-clause-tells
+returns-else-not-far-clause-tells g t c =
+    let image = word_at (image_of c.args.reader.now) in
+    let memory = g.M.Memory.meaning c.args.memory.now in
+    let gr = graph_of image memory in
+    let low = c.descend-low.result in
+    let tells = subst (λ (i : ImageBytes). TellsOfSource (graph_of (word_at i) memory) c.args.goal low c.leads_to_source-far.result) c.descend-low.ensures.image c.leads_to_source-far.ensures.tells in
+    low_tells_of gr c.args.goal c.args.part low c.leads_to_source-far.result c.descend-low.ensures.down tells
+
+pub returns-else-not-far-clause-searched : goal.returns-else-not-far-clause-searched
+returns-else-not-far-clause-searched g t c =
+    let image = word_at (image_of c.args.reader.now) in
+    let memory = g.M.Memory.meaning c.args.memory.now in
+    let gr = graph_of image memory in
+    let low = c.descend-low.result in
+    let down = c.descend-low.ensures.down in
+    let less = low_lower gr c.args.goal c.requires.parts c.args.part low c.requires.are c.requires.has down c.if-low-part.true in
+    let done = subst (λ (i : ImageBytes). Searched (graph_of (word_at i) memory) c.args.goal low c.args.work.now.entries.items c.leads_to_source-far.new.work.entries.items) c.descend-low.ensures.image c.leads_to_source-far.ensures.searched in
+    low_searched gr c.args.goal c.args.part low _ _ less down done
