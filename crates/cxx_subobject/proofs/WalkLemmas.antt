@@ -19,6 +19,7 @@ use Rattle.cxx_subobject.specs.Subobjects.{IsSubobject, whole, shared, subobject
 use Rattle.cxx_subobject.specs.Preorder.{tree, firsts, preorder}
 use Rattle.cxx_subobject.specs.invariants.Walks.{is_listed, with_new, IsFresh, AreSharedMarks, IsPlaced, IsClosed}
 use Rattle.foundation.proofs.Truth.{split}
+use Rattle.foundation.proofs.Places.{get_front, get_last}
 use Rattle.foundation.proofs.Members.{Has, has_left, has_right, has_cases, from_flat_map, has_at, contains_from_has, has_from_contains}
 use Rattle.cxx_subobject.proofs.TreeLemmas.{IsBelow, down, across, base_down, base_across, edge, tree_sound, tree_complete, tree_steps, subobject_same, same_itself, one_more, base_listed}
 use Rattle.cxx_subobject.proofs.InsideLemmas.{join_valid}
@@ -346,6 +347,14 @@ walk_whole h c s bases i old found is le fresh found_is =
 -- the subobject itself is among what the walk from it found
 pub has_start : (old xs found : List Subobject) (s : Subobject) → found ≡ with_new (old ++ s ∷ []) xs → Has found s
 has_start old xs found s is = subst (λ (ys : List Subobject). Has ys s) (sym is) (kept (old ++ s ∷ []) xs s (has_right old (s ∷ []) s (inl refl)))
+
+-- and stands where it was put
+pub start_there : (xs found : List Subobject) (n : ℕ) (s : Subobject) → slice_get found n ≡ Some s → slice_get (with_new found xs) n ≡ Some s
+start_there [] found n s e = e
+start_there (x ∷ xs) found n s e = start_there xs (if is_listed found x then found else found ++ x ∷ []) n s (split (is_listed found x) (λ b. slice_get (if b then found else found ++ x ∷ []) n ≡ Some s) (λ same. e) (λ same. get_front found (x ∷ []) n s e))
+
+pub start_at : (old xs found : List Subobject) (n : ℕ) (s : Subobject) → n ≡ length old → found ≡ with_new (old ++ s ∷ []) xs → slice_get found n ≡ Some s
+start_at old xs found n s at is = ap (λ ys. slice_get ys n) is ∙ start_there xs (old ++ s ∷ []) n s (ap (λ k. slice_get (old ++ s ∷ []) k) at ∙ get_last old s)
 
 -- what holds when the walk from s, of class c, has gone over its first bases
 pub record IsWalked (h : Classes) (c : ClassId) (s : Subobject) (bases : List (Base ClassId)) (i : ℕ) (old : List Subobject) (held : List Bool) (list : List Subobject) : Type 0 where

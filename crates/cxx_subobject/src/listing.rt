@@ -1,6 +1,6 @@
 //! The subobjects of a class, in preorder.
 
-ghost use Rattle.std.specs.Prelude.{◌≡◌, ◌+◌, ◌≤◌, ◌<◌, ◌++◌, ◌∷◌, [], ◌⊎◌, IfOk, IfErr, OnOk, length, replicate, false};
+ghost use Rattle.std.specs.Prelude.{◌≡◌, ◌+◌, ◌≤◌, ◌<◌, ◌++◌, ◌∷◌, [], ◌⊎◌, Some, IfOk, IfErr, OnOk, length, slice_get, replicate, false};
 ghost use Rattle.cxx_subobject.specs.Subobjects.{subobject, shared_base};
 ghost use Rattle.cxx_subobject.specs.Preorder.{tree, preorder, ListsSubobjects};
 ghost use Rattle.cxx_subobject.specs.Parts.{IsWithinLimits};
@@ -57,12 +57,17 @@ pub fn shared_base(alloc: Global, v: ClassId) -> Result<Subobject, NoMemory>
     })
 }
 
-/// Puts a subobject behind the others. It is no part of the walk below, of which each open call takes room on the stack.
+/// Moves a subobject behind the others; an empty one is left in its place. It is no part of the walk below, of which each open call
+/// takes room on the stack.
 #[inline(never)]
-fn push_again(alloc: Global, s: &Subobject, found: &mut Vec<Subobject>) -> Result<(), NoMemory>
-    ensures { OnOk result (found.new.items ≡ found.old.items ++ s.now ∷ []) }
+fn push_moved(alloc: Global, s: &mut Subobject, found: &mut Vec<Subobject>) -> Result<(), NoMemory>
+    ensures { OnOk result (found.new.items ≡ found.old.items ++ s.old ∷ []) }
 {
-    let itself = subobject_below(alloc, s, &[])?;
+    let empty = Subobject {
+        root: Root::Whole,
+        path: Sequence::new(alloc),
+    };
+    let itself = std::mem::replace(s, empty);
     found.push(itself)?;
     Ok(())
 }
@@ -95,43 +100,56 @@ pub fn put_below(
     Ok(())
 }
 
-/// Puts a subobject of class `c`, and what its bases give, behind the others, each once. A class is marked where it
-/// was met as a shared base.
+/// Makes a subobject the base of a class that the one of a number has for its own, likewise.
+#[inline(never)]
+fn put_below_number(
+    alloc: Global,
+    found: &[Subobject],
+    number: usize,
+    base: ClassId,
+    inner: &mut Subobject,
+) -> Result<(), NoMemory>
+    requires { number < length found.now }
+    ensures { OnOk result ((s : Subobject) → slice_get found.now number ≡ Some s → inner.new ≡ subobject s.root (s.path ++ base ∷ [])) }
+{
+    *inner = subobject_below(alloc, &found[number], &[base])?;
+    Ok(())
+}
+
+/// Moves a subobject of class `c`, and what its bases give, behind the others, each once. A class is marked where it
+/// was met as a shared base. Each path is made once: that of a base is made from the one that was moved.
 fn visit(
     alloc: Global,
     h: &Hierarchy,
-    s: &Subobject,
+    s: &mut Subobject,
     c: ClassId,
     marks: &mut [bool],
     found: &mut Vec<Subobject>,
 ) -> Result<(), NoMemory>
     requires known { c.0 < length h.now }
     requires size { length marks.old ≡ length h.now }
-    requires place { IsPlaced h.now c s.now }
-    requires fresh { IsFresh found.old.items s.now }
-    requires marks { AreSharedMarks marks.old (found.old.items ++ s.now ∷ []) }
+    requires place { IsPlaced h.now c s.old }
+    requires fresh { IsFresh found.old.items s.old }
+    requires marks { AreSharedMarks marks.old (found.old.items ++ s.old ∷ []) }
     requires closed { IsClosed h.now (c.0 + 1) found.old.items }
     ensures size { length marks.new ≡ length h.now }
-    ensures found { OnOk result (found.new.items ≡ with_new found.old.items (tree h.now (c.0 + 1) c s.now)) }
+    ensures found { OnOk result (found.new.items ≡ with_new found.old.items (tree h.now (c.0 + 1) c s.old)) }
     ensures marks { OnOk result (AreSharedMarks marks.new found.new.items) }
 {
     h.keeps();
-    push_again(alloc, s, found)?;
-    let mut inner = Subobject {
-        root: Root::Whole,
-        path: Sequence::new(alloc),
-    };
+    let at = found.len();
+    push_moved(alloc, s, found)?;
     for base in h.class(c).bases.as_slice() {
         let number = base.class.0 as usize;
         if base.is_virtual {
             if !marks[number] {
                 marks[number] = true;
-                put_shared(alloc, base.class, &mut inner)?;
-                visit(alloc, h, &inner, base.class, marks, found)?;
+                put_shared(alloc, base.class, s)?;
+                visit(alloc, h, s, base.class, marks, found)?;
             }
         } else {
-            put_below(alloc, s, base.class, &mut inner)?;
-            visit(alloc, h, &inner, base.class, marks, found)?;
+            put_below_number(alloc, found, at, base.class, s)?;
+            visit(alloc, h, s, base.class, marks, found)?;
         }
     }
     Ok(())
@@ -149,11 +167,11 @@ pub fn list_subobjects(alloc: Global, h: &Hierarchy, c: ClassId) -> Result<Subob
     h.keeps();
     let mut found = Vec::new(alloc);
     let mut marks = no_marks(alloc, h.len())?;
-    let whole = Subobject {
+    let mut whole = Subobject {
         root: Root::Whole,
         path: longer_path(alloc, &[c], &[])?,
     };
-    visit(alloc, h, &whole, c, &mut marks, &mut found)?;
+    visit(alloc, h, &mut whole, c, &mut marks, &mut found)?;
     Ok(Sequence::from_vec(found))
 }
 

@@ -1,6 +1,7 @@
-use Rattle.std.proofs.Common.{◌≡◌, ◌+◌, ◌++◌, ◌∷◌, [], get_or, take, ap, subst, sym, ◌∙◌, arith, true, false, List, set}
-use Rattle.std.specs.List.{flat_map}
+use Rattle.std.proofs.Common.{◌≡◌, ◌+◌, ◌++◌, ◌∷◌, [], get_or, length, take, ap, subst, sym, ◌∙◌, arith, rules, true, false, List, set}
+use Rattle.std.specs.List.{flat_map, slice_get}
 use Rattle.std.proofs.lemmas.List.{length-set}
+use Rattle.std.proofs.lemmas.Option.{slice_get_within}
 use Rattle.cxx_hierarchy.specs.declared.records.ClassId.{ClassId}
 use Rattle.cxx_hierarchy.specs.declared.records.Base.{Base}
 use Rattle.cxx_hierarchy.specs.Classes.{bases_in}
@@ -8,8 +9,8 @@ use Rattle.cxx_subobject.specs.declared.Subobject.{Subobject}
 use Rattle.cxx_subobject.specs.Subobjects.{subobject}
 use Rattle.cxx_subobject.specs.invariants.Walks.{IsFresh, AreSharedMarks, IsPlaced, IsClosed}
 use Rattle.cxx_subobject.proofs.TreeLemmas.{base_listed, base_down, base_across}
-use Rattle.cxx_subobject.proofs.WalkLemmas.{below, closed_here, closed_less, placed_down, fresh_next, others_before, marks_down, marks_across, fresh_shared, walk_whole, has_start, next_walked, skip_walked}
-use Rattle.cxx_subobject.proofs.listing.+visit.Goals.{then-base+then-not-marks-number+in_ok-put_shared+in_ok-visit, then-base+else-not-marks-number, else-base+in_ok-put_below+in_ok-visit-2}
+use Rattle.cxx_subobject.proofs.WalkLemmas.{below, closed_here, closed_less, placed_down, fresh_next, others_before, marks_down, marks_across, fresh_shared, walk_whole, has_start, start_at, next_walked, skip_walked}
+use Rattle.cxx_subobject.proofs.listing.+visit.Goals.{then-base+then-not-marks-number+in_ok-put_shared+in_ok-visit, then-base+else-not-marks-number, else-base+in_ok-put_below_number+in_ok-visit-2}
 use Rattle.cxx_subobject.proofs.listing.+visit.Goals as goal
 
 abbrev no_base : Base ClassId
@@ -17,7 +18,7 @@ no_base = record { class = record { 0 = 0 }; is_virtual = false; is_public = fal
 
 pub loop-base-init : goal.loop-base-init
 loop-base-init t c =
-    let pushed = c.in_ok-push_again.ensures in
+    let pushed = c.in_ok-push_moved.ensures in
     record {
       items = c.as_slice-base-items.ensures ∙ sym (ap bases_in c.class.ensures);
       size = c.requires.size;
@@ -91,7 +92,8 @@ visit-requires-else-base t c =
     let listed = base_listed h c.args.c bases i no_base c.loop-base.invariant.items c.loop-base-test.true in
     let less = c.keeps.ensures.bases c.args.c base listed in
     let known = c.requires.known in
-    let is = c.in_ok-put_below.ensures in
+    let at : c.len-at.result ≡ length old = search rules in
+    let is = c.in_ok-put_below_number.ensures s (ap (λ xs. slice_get xs c.len-at.result) c.deref.ensures.value ∙ start_at c.args.found.now.items (flat_map (below c.args.h.now c.args.c c.args.s.now) (take c.loop-base.base-index c.as_slice-base-items.result.now)) c.loop-base.found.items c.len-at.result c.args.s.now at c.loop-base.invariant.found) in
     let placed = placed_down h c.args.c s base c.requires.place listed in
     let there = base_down s base c.if-base.false in
     let fresh = fresh_next h c.keeps.ensures c.args.c s base (take i bases) old c.requires.place c.requires.fresh (others_before h c.keeps.ensures c.args.c bases i no_base c.loop-base.invariant.items c.loop-base-test.true) in (
@@ -114,6 +116,12 @@ visit-requires-else-base t c =
       ),
     )
 
+-- it stands at its number
+pub put_below_number-requires : goal.put_below_number-requires
+put_below_number-requires t c =
+    let at : c.len-at.result ≡ length c.args.found.now.items = search rules in
+    slice_get_within c.deref.result.now c.len-at.result c.args.s.now (ap (λ xs. slice_get xs c.len-at.result) c.deref.ensures.value ∙ start_at c.args.found.now.items (flat_map (below c.args.h.now c.args.c c.args.s.now) (take c.loop-base.base-index c.as_slice-base-items.result.now)) c.loop-base.found.items c.len-at.result c.args.s.now at c.loop-base.invariant.found)
+
 pub loop-base-preserved : goal.loop-base-preserved
 loop-base-preserved t c =
     let h = c.args.h.now in
@@ -123,6 +131,7 @@ loop-base-preserved t c =
     let old = c.args.found.now.items in
     let s = c.args.s.now in
     let walked = c.loop-base.invariant in
+    let at : c.len-at.result ≡ length old = search rules in
     let lt = c.loop-base-test.true in
     elim c.if-base.branch [
       | then-base+then-not-marks-number+in_ok-put_shared+in_ok-visit w ↦ rw (w.marks-is, w.found-is)
@@ -130,9 +139,9 @@ loop-base-preserved t c =
           (w.in_ok-put_shared.ensures ∙ sym (base_across s base w.if-base.true)) w.in_ok-visit.ensures.found w.in_ok-visit.ensures.marks w.in_ok-visit.ensures.size)
       | then-base+else-not-marks-number w ↦ rw (w.marks-is, w.found-is)
           (skip_walked h c.keeps.ensures c.args.c s bases i no_base old c.loop-base.marks c.loop-base.found.items lt walked w.if-base.true w.if-not-marks-number.false)
-      | else-base+in_ok-put_below+in_ok-visit-2 w ↦ rw (w.marks-is, w.found-is)
-          (next_walked h c.keeps.ensures c.args.c s bases i no_base old c.loop-base.marks w.visit-else-base.new.marks c.loop-base.found.items w.visit-else-base.new.found.items w.put_below.new.inner c.requires.place lt walked
-          (w.in_ok-put_below.ensures ∙ sym (base_down s base w.if-base.false)) w.in_ok-visit-2.ensures.found w.in_ok-visit-2.ensures.marks w.in_ok-visit-2.ensures.size)
+      | else-base+in_ok-put_below_number+in_ok-visit-2 w ↦ rw (w.marks-is, w.found-is)
+          (next_walked h c.keeps.ensures c.args.c s bases i no_base old c.loop-base.marks w.visit-else-base.new.marks c.loop-base.found.items w.visit-else-base.new.found.items w.put_below_number.new.inner c.requires.place lt walked
+          (w.in_ok-put_below_number.ensures s (ap (λ xs. slice_get xs c.len-at.result) w.deref.ensures.value ∙ start_at c.args.found.now.items (flat_map (below c.args.h.now c.args.c c.args.s.now) (take c.loop-base.base-index c.as_slice-base-items.result.now)) c.loop-base.found.items c.len-at.result c.args.s.now at c.loop-base.invariant.found) ∙ sym (base_down s base w.if-base.false)) w.in_ok-visit-2.ensures.found w.in_ok-visit-2.ensures.marks w.in_ok-visit-2.ensures.size)
     ]
 
 pub returns-clause-found : goal.returns-clause-found

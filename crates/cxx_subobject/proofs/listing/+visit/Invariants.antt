@@ -6,4 +6,4 @@ decreases-visit l = l.c.0
 
 -- the subobject itself and what the bases so far give, each once
 abbrev pub invariant-loop-base : goal.invariant-loop-base
-invariant-loop-base l = IsWalked l.h l.fn.c l.s l.base-items l.base-index l.fn.found.items l.marks l.found.items
+invariant-loop-base l = IsWalked l.h l.fn.c l.fn.s l.base-items l.base-index l.fn.found.items l.marks l.found.items
