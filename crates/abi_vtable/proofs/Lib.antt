@@ -10,3 +10,4 @@ pub mod EntryRuns
 pub mod Offsets
 pub mod TableWords
 pub mod Paths
+pub mod Seen

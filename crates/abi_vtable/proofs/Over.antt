@@ -88,15 +88,11 @@ same_part h keeps l x list s at f g part final is class inside = one_of_class h 
 pub base_word : (h : Classes) (l : Places) (x : View) (t : Subobject) (v : ClassId) (o : Offset) (d : ℤ) → o ≡ ToBase v → d ≡ between l x.complete (seen x t) (seen x (shared_base v)) → IsOffsetWord h l x t o (Vbase d v)
 base_word h l x t v o d is e = subst (λ a. IsOffsetWord h l x t a (Vbase d v)) (sym is) (subst (λ a. IsOffsetWord h l x t (ToBase v) (Vbase a v)) (sym e) (to_base v))
 
--- where a part lies in the complete object
-pub part_place : (h : Classes) (l : Places) (x : View) (list : List Subobject) (part : Part) (n : ℕ) → IsViewPart h l x list part → n ≡ l.place x.complete part.seen → n ≡ place l x part.at
-part_place h l x list part n of is = is ∙ ap (l.place x.complete) of.seen
-
 pub call_word : (h : Classes) → IsHierarchy h → (l : Places) (x : View) (list : List Subobject) (t s at : Subobject) (path : List ClassId) (f g : FunctionId) (part : Part) (o : Offset) (start end : ℕ) (d : ℤ) → o ≡ ToOverrider path f → s ≡ named_in x.class path → IsFinalOverrider h x.class s f (overrider at g) →
-    IsViewPart h l x list part → part.class ≡ g.class → IsInside h part.at s → start ≡ place l x t → end ≡ l.place x.complete part.seen → d ≡ pos end -ℤ pos start → IsOffsetWord h l x t o (Vcall d f)
+    IsViewPart h l x list part → part.class ≡ g.class → IsInside h part.at s → start ≡ place l x t → end ≡ place l x part.at → d ≡ pos end -ℤ pos start → IsOffsetWord h l x t o (Vcall d f)
 call_word h keeps l x list t s at path f g part o start end d is named final of class inside from to e =
     let same = same_part h keeps l x list s at f g part final of class inside in
-    let there : end ≡ place l x at = part_place h l x list part end of to ∙ ap (place l x) same in
+    let there : end ≡ place l x at = to ∙ ap (place l x) same in
     let value : d ≡ between l x.complete (seen x t) (seen x at) = e ∙ ap (λ n. pos n -ℤ pos start) there ∙ ap (λ n. pos (place l x at) -ℤ pos n) from in
     let word : IsOffsetWord h l x t (ToOverrider path f) (Vcall (between l x.complete (seen x t) (seen x at)) f) = to_overrider path f (overrider at g) (subst (λ a. IsFinalOverrider h x.class a f (overrider at g)) named final) in
     subst (λ a. IsOffsetWord h l x t a (Vcall d f)) (sym is) (subst (λ a. IsOffsetWord h l x t (ToOverrider path f) (Vcall a f)) (sym value) word)

@@ -2,7 +2,8 @@
 use Rattle.std.proofs.Common.{◌≡◌, ℕ, ◌+◌, ◌<◌, ◌≤◌, ⊎_elim, Bool, true, false, Option, Some, None, List, [], ◌∷◌, ◌++◌, map, length, get_or, refl, ap, subst, sym, ◌∙◌, arith, below_more}
 use Rattle.std.specs.Prelude.{if◌then◌else◌, slice_get, MatchOption}
 use Rattle.std.proofs.lemmas.Option.{slice_get_within}
-use Rattle.foundation.proofs.Places.{contains_at, place_of, get_pushed, get_read}
+use Rattle.std.proofs.lemmas.List.{length-map}
+use Rattle.foundation.proofs.Places.{contains_at, place_of, get_behind, get_pushed, get_read, length_pushed}
 use Rattle.cxx_hierarchy.specs.declared.records.ClassId.{ClassId}
 use Rattle.cxx_hierarchy.specs.Classes.{Classes}
 use Rattle.cxx_hierarchy.specs.Hierarchies.{IsHierarchy}
@@ -18,10 +19,9 @@ use Rattle.abi_sound.specs.Sound.{IsSoundLayout}
 use Rattle.abi_sound.specs.Chains.{is_subobject_in}
 use Rattle.abi_slots.specs.Views.{View, IsView, seen, next_by, next_in, next}
 use Rattle.abi_slots.proofs.Chains.{same_some, next_under}
-use Rattle.abi_slots.proofs.Loops.{pushed_more, pushed_all}
 use Rattle.abi_slots.proofs.Settings.{setting_of}
 use Rattle.abi_vtable.specs.declared.view.Part.{Part}
-use Rattle.abi_vtable.specs.invariants.Parts.{NumbersSubobject, nothing, number, IsViewPart, at_of, AreParts, ArePartsTo, AreStarts, AreStartsTo}
+use Rattle.abi_vtable.specs.invariants.Parts.{NumbersSubobject, nothing, number, AreNexts, AreNextsTo, IsViewPart, at_of, AreParts, ArePartsTo, AreStarts, AreStartsTo}
 use Rattle.abi_vtable.proofs.Lists.{map_more}
 
 -- the class of a subobject of a view is known
@@ -74,18 +74,57 @@ next_number h rows keeps sound x view list s t u o is valid e same m =
     let found = subst (λ a. MatchOption o ((i : ℕ) → slice_get list i ≡ Some a → ⊥) (λ i. slice_get list i ≡ Some a)) same m in
     subst (λ a. NumbersSubobject list o a) (sym e) (number_found list u at.0 here o found)
 
+-- one number more
+pub next_more : (l : Places) (x : View) (list : List Subobject) (i : ℕ) (s : Subobject) (nexts new : List (Option ℕ)) (n : Option ℕ) → i < length list → s ≡ get_or list i s → NumbersSubobject list n (next l x s) → new ≡ nexts ++ n ∷ [] → AreNextsTo l x list i nexts → AreNextsTo l x list (i + 1) new
+next_more l x list i s nexts new n lt is found e so = record {
+  size = ap length e ∙ length_pushed nexts n ∙ ap (λ k. k + 1) so.size;
+  each = λ j t m there at. ⊎_elim (λ old. so.each j t m there old)
+      (λ last. let same : t ≡ s = same_some t s (sym there ∙ ap (slice_get list) (last.0 ∙ so.size) ∙ get_read list i s lt is) in subst (λ a. NumbersSubobject list a (next l x t)) (sym last.1) (subst (λ a. NumbersSubobject list n (next l x a)) (sym same) found))
+      (get_pushed nexts n j m (ap (λ xs. slice_get xs j) (sym e) ∙ at));
+}
+
+pub nexts_all : (l : Places) (x : View) (list : List Subobject) (i : ℕ) (nexts : List (Option ℕ)) → length list ≤ i → AreNextsTo l x list i nexts → AreNexts l x list nexts
+nexts_all l x list i nexts le so = let size = so.size in record { size = omega arith; each = so.each }
+
+pub no_nexts : (l : Places) (x : View) (list : List Subobject) (nexts : List (Option ℕ)) → nexts ≡ [] → AreNextsTo l x list 0 nexts
+no_nexts l x list nexts e = subst (λ a. AreNextsTo l x list 0 a) (sym e) (record { size = refl; each = λ j s n there at. absurd (let lt = slice_get_within [] j n at in omega arith) })
+
+-- the one that is taken from the list next
+pub taken_next : (list taken rest : List Subobject) (s : Subobject) → taken ++ s ∷ rest ≡ list → slice_get list (length taken) ≡ Some s
+taken_next list taken rest s e = ap (λ xs. slice_get xs (length taken)) (sym e) ∙ get_behind taken s rest
+
+pub parts_count : (h : Classes) (l : Places) (x : View) (list taken : List Subobject) (parts : List Part) → ArePartsTo h l x list taken parts → length parts ≡ length taken
+parts_count h l x list taken parts so = sym (length-map parts at_of) ∙ ap length so.subobjects
+
+-- the number of the next of that one is known
+pub next_known : (h : Classes) (l : Places) (x : View) (list taken rest : List Subobject) (s : Subobject) (parts : List Part) (nexts : List (Option ℕ)) (n : Option ℕ) (k : ℕ) → taken ++ s ∷ rest ≡ list → ArePartsTo h l x list taken parts → k ≡ length parts → AreNexts l x list nexts → slice_get nexts k ≡ Some n → NumbersSubobject list n (next l x s)
+next_known h l x list taken rest s parts nexts n k e so count are there =
+    let same : k ≡ length taken = count ∙ parts_count h l x list taken parts so in
+    are.each k s n (ap (slice_get list) same ∙ taken_next list taken rest s e) there
+
+pub next_there : (h : Classes) (l : Places) (x : View) (list taken rest : List Subobject) (s : Subobject) (parts : List Part) (nexts : List (Option ℕ)) (k : ℕ) → taken ++ s ∷ rest ≡ list → ArePartsTo h l x list taken parts → k ≡ length parts → AreNexts l x list nexts → k < length nexts
+next_there h l x list taken rest s parts nexts k e so count are =
+    let same : k ≡ length taken = count ∙ parts_count h l x list taken parts so in
+    let lt = slice_get_within list (length taken) s (taken_next list taken rest s e) in
+    let size = are.size in
+    omega arith
+
+pub nothing_left : {X : Type 0} (xs : List X) → length xs ≡ 0 → xs ≡ []
+nothing_left [] e = refl
+nothing_left (x ∷ xs) e = absurd (omega arith)
+
 -- one part more
-pub part_more : (h : Classes) (l : Places) (x : View) (list : List Subobject) (i : ℕ) (s : Subobject) (parts new : List Part) (part : Part) → i < length list → s ≡ get_or list i s → part.at ≡ s → IsViewPart h l x list part → new ≡ parts ++ part ∷ [] → ArePartsTo h l x list i parts → ArePartsTo h l x list (i + 1) new
-part_more h l x list i s parts new part lt is at of e so = record {
-  subobjects = pushed_more (λ (a : List Subobject). a) list i s (s ∷ []) (map at_of parts) (map at_of new) list lt is refl (ap (map at_of) e ∙ map_more at_of parts part ∙ ap (λ a. map at_of parts ++ a ∷ []) at) so.subobjects;
+pub part_more : (h : Classes) (l : Places) (x : View) (list taken : List Subobject) (s : Subobject) (parts new : List Part) (part : Part) → part.at ≡ s → IsViewPart h l x list part → new ≡ parts ++ part ∷ [] → ArePartsTo h l x list taken parts → ArePartsTo h l x list (taken ++ s ∷ []) new
+part_more h l x list taken s parts new part at of e so = record {
+  subobjects = ap (map at_of) e ∙ map_more at_of parts part ∙ ap (λ a. map at_of parts ++ a ∷ []) at ∙ ap (λ xs. xs ++ s ∷ []) so.subobjects;
   each = λ j q there. ⊎_elim (λ old. so.each j q old) (λ last. subst (λ a. IsViewPart h l x list a) (sym last.1) of) (get_pushed parts part j q (ap (λ xs. slice_get xs j) (sym e) ∙ there));
 }
 
-pub parts_all : (h : Classes) (l : Places) (x : View) (list : List Subobject) (i : ℕ) (parts : List Part) → length list ≤ i → list ≡ preorder h x.class → ArePartsTo h l x list i parts → AreParts h l x parts
-parts_all h l x list i parts le is so = record {
-  subobjects = pushed_all (λ (a : List Subobject). a) refl list i (map at_of parts) list le so.subobjects ∙ is;
-  each = λ j q there. subst (λ a. IsViewPart h l x a q) is (so.each j q there);
-}
+pub no_parts : (h : Classes) (l : Places) (x : View) (list : List Subobject) (parts : List Part) → parts ≡ [] → ArePartsTo h l x list [] parts
+no_parts h l x list parts e = subst (λ a. ArePartsTo h l x list [] a) (sym e) (record { subobjects = refl; each = λ j q at. absurd (let lt = slice_get_within [] j q at in omega arith) })
+
+pub parts_all : (h : Classes) (l : Places) (x : View) (taken : List Subobject) (parts : List Part) → taken ≡ preorder h x.class → ArePartsTo h l x (preorder h x.class) taken parts → AreParts h l x parts
+parts_all h l x taken parts is so = record { subobjects = so.subobjects ∙ is; each = so.each }
 
 -- one part more is noted
 pub start_more : (starts new : List ℕ) (parts : List Part) (i : ℕ) (part : Part) → i < length parts → part ≡ get_or parts i part → ((d k : ℕ) → get_or starts d 0 ≤ k → get_or new d 0 ≤ k) → get_or new part.class.0 0 ≤ i → AreStartsTo starts parts i → AreStartsTo new parts (i + 1)

@@ -7,9 +7,9 @@ use Rattle.foundation.proofs.Places.{get_pushed, get_mapped, get_read}
 use Rattle.cxx_hierarchy.specs.Classes.{Classes}
 use Rattle.cxx_hierarchy.specs.Hierarchies.{IsHierarchy}
 use Rattle.cxx_subobject.specs.declared.Subobject.{Subobject}
-use Rattle.cxx_subobject.specs.Subobjects.{whole_of, class_of}
+use Rattle.cxx_subobject.specs.Subobjects.{IsSubobject, whole_of, class_of}
 use Rattle.cxx_subobject.specs.Preorder.{preorder}
-use Rattle.cxx_subobject.proofs.InsideLemmas.{join_class}
+use Rattle.cxx_subobject.proofs.InsideLemmas.{join_class, join_valid}
 use Rattle.abi_sound.specs.declared.class_layout.ClassLayout.{ClassLayout}
 use Rattle.abi_sound.specs.Places.{Places, places_of}
 use Rattle.abi_sound.specs.Sound.{IsSoundLayout}
@@ -100,16 +100,19 @@ module _ {h : Classes} {rows : List ClassLayout} {v : ViewParts} {n : ℕ} {part
   pub part_number : slice_get (preorder h v.class) n ≡ Some part.at
   part_number = ap (λ xs. slice_get xs n) (sym at.view.parts.subobjects) ∙ get_map at_of v.parts n part at.there
 
-  seen_class : class_of part.seen ≡ Some part.class
-  seen_class = ap class_of part_of.seen ∙ join_class h v.class v.at part.at at.view.view.of_class part_of.valid ∙ part_of.class
+  seen_class : class_of (seen (view_of_parts v) part.at) ≡ Some part.class
+  seen_class = join_class h v.class v.at part.at at.view.view.of_class part_of.valid ∙ part_of.class
 
-  shared_part : (b : Bool) → b ≡ is_shared_base part.seen → b ≡ true → IsVirtualBase h part.class
-  shared_part b is e = record { of = v.complete; has = shared_is_base h v.complete part.class part.seen part_of.seen_valid (sym is ∙ e) seen_class }
+  seen_valid : IsSubobject h v.complete (seen (view_of_parts v) part.at)
+  seen_valid = join_valid h v.complete v.class v.at part.at at.view.view.valid at.view.view.of_class part_of.valid
 
-  listed_offsets : (b : Bool) (list : List Offset) → b ≡ is_shared_base part.seen → list ≡ offsets h (places_of h rows) b part.class → list ≡ offsets h (places_of h rows) (is_shared_base (seen (view_of_parts v) part.at)) part.class
-  listed_offsets b list is e = e ∙ ap (λ a. offsets h (places_of h rows) a part.class) (is ∙ ap is_shared_base part_of.seen)
+  shared_part : (b : Bool) → b ≡ is_shared_base (seen (view_of_parts v) part.at) → b ≡ true → IsVirtualBase h part.class
+  shared_part b is e = record { of = v.complete; has = shared_is_base h v.complete part.class (seen (view_of_parts v) part.at) seen_valid (sym is ∙ e) seen_class }
 
-  pub told_offsets : (b : Bool) (list : List Offset) → b ≡ is_shared_base part.seen → (part.class.0 < length h → (b ≡ true → IsVirtualBase h part.class) → list ≡ offsets h (places_of h rows) b part.class) → list ≡ offsets h (places_of h rows) (is_shared_base (seen (view_of_parts v) part.at)) part.class
+  listed_offsets : (b : Bool) (list : List Offset) → b ≡ is_shared_base (seen (view_of_parts v) part.at) → list ≡ offsets h (places_of h rows) b part.class → list ≡ offsets h (places_of h rows) (is_shared_base (seen (view_of_parts v) part.at)) part.class
+  listed_offsets b list is e = e ∙ ap (λ a. offsets h (places_of h rows) a part.class) is
+
+  pub told_offsets : (b : Bool) (list : List Offset) → b ≡ is_shared_base (seen (view_of_parts v) part.at) → (part.class.0 < length h → (b ≡ true → IsVirtualBase h part.class) → list ≡ offsets h (places_of h rows) b part.class) → list ≡ offsets h (places_of h rows) (is_shared_base (seen (view_of_parts v) part.at)) part.class
   told_offsets b list is told = listed_offsets b list is (told part_known (shared_part b is))
 
   pub part_named : (list : List Offset) → list ≡ offsets h (places_of h rows) (is_shared_base (seen (view_of_parts v) part.at)) part.class → (i : ℕ) (y : Offset) → slice_get list i ≡ Some y → NamesVirtual h v.class y

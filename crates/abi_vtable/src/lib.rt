@@ -11,6 +11,7 @@
 
 pub mod heads;
 pub mod laws;
+pub mod places;
 pub mod returns;
 pub mod table_sites;
 pub mod tables;

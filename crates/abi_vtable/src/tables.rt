@@ -21,9 +21,10 @@ ghost use Rattle.abi_vtable.specs.invariants.Sites.{IsTableSite};
 ghost use Rattle.abi_vtable.specs.invariants.Words.{NamesVirtual, AreAlong};
 
 use crate::heads::heads_of;
+use crate::places::seen_of;
 use crate::returns::KnownReturn;
 use crate::table_sites::TableSite;
-use crate::view::{Part, ViewParts, place_of_part, view_parts};
+use crate::view::{Part, ViewParts, view_parts};
 use crate::words::{distance, entry_word, offset_word};
 use abi_slots::{
     EntryKey, EntryWord, Group, GroupName, Offset, Slots, Table, TableList, TableWord, WordList,
@@ -159,8 +160,9 @@ fn table<L: SoundLayout>(
 {
     site.h.keeps();
     let t = &x.parts.as_slice()[number];
-    let place = place_of_part(site.h, site.layout, x, t);
-    let offsets = site.slots.offsets(t.class, is_shared_base(&t.seen));
+    let seen = seen_of(site.alloc, site.h, x, t)?;
+    let place = site.layout.place(site.h, x.complete, &seen);
+    let offsets = site.slots.offsets(t.class, is_shared_base(&seen));
     let offset_words = offset_words(site, x, t, place, offsets)?;
     let entries = site.slots.entries(t.class);
     let entry_words = entry_words(site, known, x, number, entries)?;

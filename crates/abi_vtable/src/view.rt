@@ -1,36 +1,35 @@
 //! The subobjects of a view: where they lie, and the next of each one's chain.
 
-ghost use Rattle.std.specs.Prelude.{◌≡◌, ◌<◌, ◌≤◌, ◌↔◌, ◌++◌, ◌∷◌, [], ◌&&◌, nat_eq, take, ℕ, IsTrue, IfOk, IfSome, MatchOption, Some, None, length, slice_get, slice_index_or};
+ghost use Rattle.std.specs.Prelude.{◌≡◌, ◌<◌, ◌≤◌, ◌++◌, ◌∷◌, [], ◌&&◌, nat_eq, take, ℕ, List, Option, IfOk, MatchOption, Some, length, slice_get, slice_index_or};
 ghost use Rattle.cxx_hierarchy.specs.Limits.{most_classes};
 ghost use Rattle.cxx_hierarchy.specs.declared.records.ClassId.{ClassId};
-ghost use Rattle.cxx_hierarchy.specs.Classes.{Classes};
 ghost use Rattle.cxx_subobject.specs.declared.Subobject.{Subobject};
 ghost use Rattle.cxx_subobject.specs.Subobjects.{IsSubobject, subobject, same_path, same_subobject, class_of};
 ghost use Rattle.cxx_subobject.specs.Preorder.{preorder};
 ghost use Rattle.abi_primary.specs.Kinds.{IsDynamic};
-ghost use Rattle.abi_sound.specs.Places.{places_of};
+ghost use Rattle.abi_sound.specs.Places.{Places, places_of};
 ghost use Rattle.abi_sound.specs.Chains.{is_subobject_in};
-ghost use Rattle.abi_slots.specs.Views.{IsView, seen, next};
-ghost use Rattle.abi_vtable.specs.invariants.Parts.{NumbersSubobject, IsViewPart, AreParts, AreStarts, IsViewParts, view_of_parts};
+ghost use Rattle.abi_slots.specs.Views.{IsView, next};
+ghost use Rattle.abi_vtable.specs.invariants.Parts.{NumbersSubobject, AreNexts, IsViewPart, AreParts, AreStarts, IsViewParts, view_of_parts};
 
 use abi_primary::{Primary, is_dynamic};
 use abi_slots::GroupName;
 use abi_sound::SoundLayout;
 use cxx_hierarchy::{ClassId, Hierarchy};
 use cxx_subobject::{
-    Subobject, class_of, is_same, is_same_root, join, list_subobjects, shared_base, subobject_below,
+    Subobject, SubobjectList, class_of, is_same, is_same_root, join, list_subobjects, shared_base,
+    subobject_below,
 };
 use foundation::{NoMemory, Sequence};
 use std::alloc::Global;
 
-/// A subobject of a view: where it is in the view, its class and whether that is dynamic, where it is in the complete object,
-/// and the number of the next of its chain.
+/// A subobject of a view: where it is in the view, its class and whether that is dynamic, and the number of the next of its
+/// chain. Where it is in the complete object is asked of few parts (`places`).
 #[derive(Debug, Drop)]
 pub struct Part {
     pub at: Subobject,
     pub class: ClassId,
     pub is_dynamic: bool,
-    pub seen: Subobject,
     pub next: Option<usize>,
 }
 
@@ -179,7 +178,7 @@ fn is_holder<L: SoundLayout>(
     }
 }
 
-/// The number of the next of the chain of a part, which stands at a number of the list. A direct primary base stands behind
+/// The number of the next of the chain of a subobject, which stands at a number of the list. A direct primary base stands behind
 /// it, and most often next to it.
 ///
 /// Errors: want of memory.
@@ -190,26 +189,25 @@ fn next_of<L: SoundLayout>(
     x: &ViewParts,
     list: &[Subobject],
     number: usize,
-    part: &Part,
+    s: &Subobject,
 ) -> Result<Option<usize>, NoMemory>
     requires layout { L.lays_out layout.now h.now }
     requires view { IsView h.now (view_of_parts x.now) }
     requires list { list.now ≡ preorder h.now x.now.class }
-    requires valid { IsSubobject h.now x.now.class part.now.at }
-    requires class { class_of part.now.at ≡ Some part.now.class }
-    requires known { part.now.class.0 < length h.now }
-    requires seen { part.now.seen ≡ seen (view_of_parts x.now) part.now.at }
-    ensures { IfOk result (λ n. NumbersSubobject list.now n (next (places_of h.now (L.rows layout.now)) (view_of_parts x.now) part.now.at)) }
+    requires valid { IsSubobject h.now x.now.class s.now }
+    ensures { IfOk result (λ n. NumbersSubobject list.now n (next (places_of h.now (L.rows layout.now)) (view_of_parts x.now) s.now)) }
 {
     h.keeps();
-    match layout.layout(part.class).primary {
+    let class = class_at(s);
+    match layout.layout(class).primary {
         Primary::None => Ok(None),
         Primary::Direct(b) => {
             // A first base stands next to the subobject.
-            Ok(number_below(list, &part.at, b, number.saturating_add(1)))
+            Ok(number_below(list, s, b, number.saturating_add(1)))
         }
         Primary::Virtual(v) => {
-            if !is_holder(layout, h, x.complete, v, &part.seen) {
+            let seen = join(alloc, h, x.complete, &x.at, s)?;
+            if !is_holder(layout, h, x.complete, v, &seen) {
                 return Ok(None);
             }
             let base = shared_base(alloc, v)?;
@@ -218,56 +216,56 @@ fn next_of<L: SoundLayout>(
     }
 }
 
-/// What is kept of a subobject of the view, which stands at a number.
+/// For each subobject of the view the number of the next of its chain.
 ///
 /// Errors: want of memory.
-fn part_of<L: SoundLayout>(
+fn nexts_of<L: SoundLayout>(
     alloc: Global,
     h: &Hierarchy,
     layout: &L,
     x: &ViewParts,
     list: &[Subobject],
-    number: usize,
-    s: &Subobject,
-) -> Result<Part, NoMemory>
+) -> Result<Vec<Option<usize>>, NoMemory>
     requires layout { L.lays_out layout.now h.now }
     requires view { IsView h.now (view_of_parts x.now) }
     requires list { list.now ≡ preorder h.now x.now.class }
-    requires valid { IsSubobject h.now x.now.class s.now }
-    ensures at { IfOk result (λ part. part.at ≡ s.now) }
-    ensures part { IfOk result (IsViewPart h.now (places_of h.now (L.rows layout.now)) (view_of_parts x.now) list.now) }
+    ensures { IfOk result (λ nexts. AreNexts (places_of h.now (L.rows layout.now)) (view_of_parts x.now) list.now nexts.items) }
 {
     h.keeps();
-    let class = class_at(s);
-    let at = subobject_below(alloc, s, &[])?;
-    let seen = join(alloc, h, x.complete, &x.at, s)?;
-    let mut part = Part {
-        at,
+    let mut nexts = Vec::with_capacity(alloc, list.len())?;
+    for s in list {
+        let next = next_of(alloc, h, layout, x, list, nexts.len(), s)?;
+        nexts.push(next)?;
+    }
+    Ok(nexts)
+}
+
+/// The number of the next, at a number.
+fn next_at(nexts: &[Option<usize>], n: usize) -> Option<usize>
+    requires { n < length nexts.now }
+    ensures { slice_get nexts.now n ≡ Some result }
+{
+    nexts[n]
+}
+
+/// What is kept of a subobject of the view, with the number of the next of its chain.
+fn part_of(h: &Hierarchy, x: &ViewParts, s: Subobject, number: Option<usize>) -> Part
+    requires view { IsView h.now (view_of_parts x.now) }
+    requires valid { IsSubobject h.now x.now.class s }
+    ensures at { result.at ≡ s }
+    ensures part { (l : Places) (list : List Subobject) → NumbersSubobject list number (next l (view_of_parts x.now) s) → IsViewPart h.now l (view_of_parts x.now) list result }
+{
+    h.keeps();
+    let class = class_at(&s);
+    Part {
+        at: s,
         class,
         is_dynamic: is_dynamic(h, class),
-        seen,
-        next: None,
-    };
-    part.next = next_of(alloc, h, layout, x, list, number, &part)?;
-    Ok(part)
+        next: number,
+    }
 }
 
-/// The place of a part in the complete object, in bytes. Few parts are asked for theirs, and a long path takes time.
-pub(crate) fn place_of_part<L: SoundLayout>(
-    h: &Hierarchy,
-    layout: &L,
-    x: &ViewParts,
-    part: &Part,
-) -> u32
-    requires layout { L.lays_out layout.now h.now }
-    requires known { x.now.complete.0 < length h.now }
-    requires seen { IsSubobject h.now x.now.complete part.now.seen }
-    ensures { result ≡ (places_of h.now (L.rows layout.now)).place x.now.complete part.now.seen }
-{
-    layout.place(h, x.complete, &part.seen)
-}
-
-/// The parts of the view, in preorder.
+/// The parts of the view, in preorder. The list of its subobjects is taken apart.
 ///
 /// Errors: want of memory.
 fn parts_of<L: SoundLayout>(
@@ -275,20 +273,23 @@ fn parts_of<L: SoundLayout>(
     h: &Hierarchy,
     layout: &L,
     x: &ViewParts,
-    list: &[Subobject],
+    list: SubobjectList,
 ) -> Result<PartList, NoMemory>
     requires layout { L.lays_out layout.now h.now }
     requires view { IsView h.now (view_of_parts x.now) }
-    requires list { list.now ≡ preorder h.now x.now.class }
+    requires list { list ≡ preorder h.now x.now.class }
     ensures { IfOk result (AreParts h.now (places_of h.now (L.rows layout.now)) (view_of_parts x.now)) }
 {
     h.keeps();
-    let mut parts = Sequence::new(alloc);
-    for s in list {
-        let part = part_of(alloc, h, layout, x, list, parts.len(), s)?;
+    let nexts = nexts_of(alloc, h, layout, x, list.as_slice())?;
+    let mut parts = Vec::with_capacity(alloc, list.len())?;
+    for s in list.into_vec() {
+        let n = parts.len();
+        let next = next_at(&nexts, n);
+        let part = part_of(h, x, s, next);
         parts.push(part)?;
     }
-    Ok(parts)
+    Ok(Sequence::from_vec(parts))
 }
 
 /// Lowers the number under which a class is found to that of a part.
@@ -344,7 +345,7 @@ pub fn view_parts<L: SoundLayout>(
         parts: Sequence::new(alloc),
         starts: Sequence::new(alloc),
     };
-    x.parts = parts_of(alloc, h, layout, &x, list.as_slice())?;
+    x.parts = parts_of(alloc, h, layout, &x, list)?;
     x.starts = starts_of(alloc, class, x.parts.as_slice())?;
     Ok(x)
 }

@@ -19,12 +19,13 @@ ghost use Rattle.abi_vtable.specs.invariants.Returns.{AreKnown};
 ghost use Rattle.abi_vtable.specs.invariants.Sites.{IsTableSite};
 ghost use Rattle.abi_vtable.specs.invariants.Words.{NamesVirtual, LiesInClass, HasVcall, AreAlong, IsFirstDeclarer};
 
+use crate::places::{adjust_between, place_of_part};
 use crate::returns::{KnownReturn, return_for};
 use crate::table_sites::TableSite;
-use crate::view::{Part, ViewParts, place_of_part};
+use crate::view::{Part, ViewParts};
 use abi_slots::{EntryKey, EntryWord, Offset, Slots, TableWord};
 use abi_sound::SoundLayout;
-use abi_thunk::{shared_place, this_adjust};
+use abi_thunk::shared_place;
 use cxx_hierarchy::{ClassId, Hierarchy};
 use cxx_overrider::FunctionId;
 use cxx_overrider::signatures::declaration;
@@ -118,7 +119,7 @@ pub(crate) fn offset_word<L: SoundLayout>(
             let s = named_in(site.alloc, x.class, path.as_slice())?;
             let g = site.overriders.final_function(site.h, x.class, &s, *f);
             let part = part_over(site.h, x, &s, g.class);
-            let place = place_of_part(site.h, site.layout, x, part);
+            let place = place_of_part(site.alloc, site.h, site.layout, x, part)?;
             Ok(TableWord::Vcall(distance(start, place), *f))
         }
     }
@@ -212,7 +213,7 @@ fn code_word<L: SoundLayout>(
     ensures known { OnOk result (AreKnown site.now.h.now (places_of site.now.h.now (L.rows site.now.layout.now)) known.new.items) }
 {
     let vcall = vcall_for(site.slots, key.function, &from.at, &to.at);
-    let this = this_adjust(site.h, site.layout, x.complete, &from.seen, &to.seen, vcall);
+    let this = adjust_between(site.alloc, site.h, site.layout, x, from, to, vcall)?;
     let result = return_for(site, known, g, key.function)?;
     Ok(EntryWord::Code(g, key.kind, this, result))
 }

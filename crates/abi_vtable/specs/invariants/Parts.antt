@@ -1,5 +1,5 @@
 -- The parts of a view, as code keeps them: a subobject is a number in their list.
-use Rattle.std.specs.Prelude.{◌≡◌, ℕ, ◌<◌, ◌≤◌, ◌↔◌, get_or, Bool, false, IsTrue, nat_eq, Option, Some, None, List, ◌++◌, map, filter, length, slice_get, take, drop}
+use Rattle.std.specs.Prelude.{◌≡◌, ℕ, ◌<◌, ◌≤◌, ◌↔◌, get_or, Bool, false, IsTrue, nat_eq, Option, Some, None, List, map, filter, length, slice_get, take}
 use Rattle.std.specs.List.{flat_map, filter_map, list_any}
 use Rattle.cxx_hierarchy.specs.Classes.{Classes}
 use Rattle.cxx_hierarchy.specs.Hierarchies.{IsHierarchy}
@@ -11,7 +11,7 @@ use Rattle.cxx_subobject.specs.Preorder.{preorder}
 use Rattle.cxx_subobject.specs.VirtualBases.{shared_class}
 use Rattle.abi_primary.specs.Kinds.{IsDynamic}
 use Rattle.abi_sound.specs.Places.{Places}
-use Rattle.abi_slots.specs.Views.{View, IsView, seen, place, next, is_head, of_root}
+use Rattle.abi_slots.specs.Views.{View, IsView, place, next, is_head, of_root}
 use Rattle.abi_vtable.specs.declared.view.Part.{Part}
 use Rattle.abi_vtable.specs.declared.view.ViewParts.{ViewParts}
 
@@ -20,13 +20,21 @@ pub data NumbersSubobject (list : List Subobject) : Option ℕ → Option Subobj
   nothing : NumbersSubobject list None None
   number : (n : ℕ) (s : Subobject) → slice_get list n ≡ Some s → NumbersSubobject list (Some n) (Some s)
 
+-- for each subobject the number of the next one
+pub record AreNexts (l : Places) (x : View) (list : List Subobject) (nexts : List (Option ℕ)) : Type 0 where
+  pub size : length list ≤ length nexts
+  pub each : (j : ℕ) (s : Subobject) (n : Option ℕ) → slice_get list j ≡ Some s → slice_get nexts j ≡ Some n → NumbersSubobject list n (next l x s)
+
+-- the same of the first i
+pub record AreNextsTo (l : Places) (x : View) (list : List Subobject) (i : ℕ) (nexts : List (Option ℕ)) : Type 0 where
+  pub size : length nexts ≡ i
+  pub each : (j : ℕ) (s : Subobject) (n : Option ℕ) → slice_get list j ≡ Some s → slice_get nexts j ≡ Some n → NumbersSubobject list n (next l x s)
+
 -- what is kept of a subobject of the view
 pub record IsViewPart (h : Classes) (l : Places) (x : View) (list : List Subobject) (part : Part) : Type 0 where
   pub valid : IsSubobject h x.class part.at
   pub class : class_of part.at ≡ Some part.class
   pub dynamic : IsTrue part.is_dynamic ↔ IsDynamic h part.class
-  pub seen : part.seen ≡ seen x part.at
-  pub seen_valid : IsSubobject h x.complete part.seen
   pub next : NumbersSubobject list part.next (next l x part.at)
 
 abbrev pub at_of : Part → Subobject
@@ -81,9 +89,9 @@ heads_of_root h l x root parts = map Some (filter (is_head h l x) (of_root root 
 abbrev pub heads_of_bases : Classes → Places → View → List Part → List (Option Subobject)
 heads_of_bases h l x parts = map Some (filter (is_head h l x) (flat_map (λ v. of_root (Shared v) (preorder h x.class)) (filter_map shared_class (map at_of parts))))
 
--- the parts of the subobjects before a place of their list
-pub record ArePartsTo (h : Classes) (l : Places) (x : View) (list : List Subobject) (i : ℕ) (parts : List Part) : Type 0 where
-  pub subobjects : map at_of parts ++ drop i list ≡ list
+-- the parts of the subobjects that were taken from the list
+pub record ArePartsTo (h : Classes) (l : Places) (x : View) (list taken : List Subobject) (parts : List Part) : Type 0 where
+  pub subobjects : map at_of parts ≡ taken
   pub each : (j : ℕ) (part : Part) → slice_get parts j ≡ Some part → IsViewPart h l x list part
 
 -- what the parts of a view are of

@@ -4,10 +4,7 @@ use Rattle.abi_vtable.proofs.Parts.{class_known}
 use Rattle.abi_vtable.proofs.view.part_of.Goals as goal
 
 pub class_at-class-requires : goal.class_at-class-requires
-class_at-class-requires g c = class_there c.args.h.now c.args.x.now.class c.args.s.now c.requires.valid
-
-pub next_of-requires-clause-known : goal.next_of-requires-clause-known
-next_of-requires-clause-known g c = class_known c.args.h.now c.keeps.ensures (view_of_parts c.args.x.now) c.requires.view c.args.s.now c.class_at-class.result c.requires.valid c.class_at-class.ensures
+class_at-class-requires c = class_there c.args.h.now c.args.x.now.class c.args.s c.requires.valid
 
 pub is_dynamic-requires : goal.is_dynamic-requires
-is_dynamic-requires g c = class_known c.args.h.now c.keeps.ensures (view_of_parts c.args.x.now) c.requires.view c.args.s.now c.class_at-class.result c.requires.valid c.class_at-class.ensures
+is_dynamic-requires c = class_known c.args.h.now c.keeps.ensures (view_of_parts c.args.x.now) c.requires.view c.args.s c.class_at-class.result c.requires.valid c.class_at-class.ensures

@@ -19,21 +19,18 @@ returns-in-ToBase g c =
     base_word c.args.site.now.h.now l (view_of_parts c.args.x.now) c.args.t.now.at c.in-ToBase.v c.args.offset.now _ c.in-ToBase.is
     (fits ∙ c.distance.ensures ∙ ap (λ n. pos n -ℤ pos c.args.start) c.shared_place-place.ensures ∙ ap (λ n. pos (l.place c.args.x.now.complete (shared_base c.in-ToBase.v)) -ℤ pos n) c.requires.start)
 
-pub returns-in_ok-s-in-ToOverrider : goal.returns-in_ok-s-in-ToOverrider
-returns-in_ok-s-in-ToOverrider g c =
+pub returns-in_ok-place-in-ToOverrider : goal.returns-in_ok-place-in-ToOverrider
+returns-in_ok-place-in-ToOverrider g c =
     let h = c.args.site.now.h.now in
     let l = places_of h (g.L.SoundLayout.rows c.args.site.now.layout.now) in
     let path : c.as_slice.result.now ≡ c.in-ToOverrider.path = c.as_slice.ensures in
     let fits : to_z w64 (of_z w64 c.distance-in-ToOverrider.result) ≡ c.distance-in-ToOverrider.result = grind (arith, to_z-of_z) in
-    call_word h c.keeps.ensures l (view_of_parts c.args.x.now) (preorder h c.args.x.now.class) c.args.t.now.at c.in_ok-s-in-ToOverrider.s c.final_function-g.ensures.0 c.in-ToOverrider.path c.in-ToOverrider.f c.final_function-g.result c.part_over-part.result.now c.args.offset.now c.args.start c.place_of_part-place.result _ c.in-ToOverrider.is
-    (c.in_ok-s-in-ToOverrider.ensures ∙ ap (named_in c.args.x.now.class) path) c.final_function-g.ensures.1 (c.part_over-part.ensures.part l c.requires.view) c.part_over-part.ensures.class c.part_over-part.ensures.inside c.requires.start c.place_of_part-place.ensures
+    call_word h c.keeps.ensures l (view_of_parts c.args.x.now) (preorder h c.args.x.now.class) c.args.t.now.at c.in_ok-s-in-ToOverrider.s c.final_function-g.ensures.0 c.in-ToOverrider.path c.in-ToOverrider.f c.final_function-g.result c.part_over-part.result.now c.args.offset.now c.args.start c.in_ok-place-in-ToOverrider.place _ c.in-ToOverrider.is
+    (c.in_ok-s-in-ToOverrider.ensures ∙ ap (named_in c.args.x.now.class) path) c.final_function-g.ensures.1 (c.part_over-part.ensures.part l c.requires.view) c.part_over-part.ensures.class c.part_over-part.ensures.inside c.requires.start c.in_ok-place-in-ToOverrider.ensures
     (fits ∙ c.distance-in-ToOverrider.ensures)
 
 pub part_over-part-requires-clause-view : goal.part_over-part-requires-clause-view
 part_over-part-requires-clause-view g c = some_view c.args.site.now.h.now (places_of c.args.site.now.h.now (g.L.SoundLayout.rows c.args.site.now.layout.now)) c.args.x.now c.requires.view
 
-pub place_of_part-place-requires-clause-known : goal.place_of_part-place-requires-clause-known
-place_of_part-place-requires-clause-known g c = c.requires.view.view.known
-
-pub place_of_part-place-requires-clause-seen : goal.place_of_part-place-requires-clause-seen
-place_of_part-place-requires-clause-seen g c = (c.part_over-part.ensures.part (places_of c.args.site.now.h.now (g.L.SoundLayout.rows c.args.site.now.layout.now)) c.requires.view).seen_valid
+pub place_of_part-requires-clause-valid : goal.place_of_part-requires-clause-valid
+place_of_part-requires-clause-valid g c = (c.part_over-part.ensures.part (places_of c.args.site.now.h.now (g.L.SoundLayout.rows c.args.site.now.layout.now)) c.requires.view).valid
