@@ -4,4 +4,5 @@ pub mod Conversions
 pub mod Open
 pub mod Landings
 pub mod Views
+pub mod Held
 pub mod invariants

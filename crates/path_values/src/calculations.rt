@@ -1,6 +1,6 @@
 //! Sums, differences, products and comparisons of numbers, and truth values (ISO C++03 5).
 
-ghost use Rattle.std.specs.Prelude.{◌≡◌, List, ℤ, ◌≤◌, ◌^◌, ◌*ℤ◌, ◌+ℤ◌, ◌-ℤ◌, ◌&&◌, unsigned_abs};
+ghost use Rattle.std.specs.Prelude.{◌≡◌, List, ℤ, ◌≤◌, ◌^◌, ◌*ℤ◌, ◌+ℤ◌, ◌-ℤ◌, ◌&&◌, unsigned_abs, IfSome};
 ghost use Rattle.cxx_hierarchy.specs.declared.records.ClassId.{ClassId};
 ghost use Rattle.cxx_hierarchy.specs.Classes.{Classes};
 ghost use Rattle.cxx_hierarchy.specs.Scalars.{wrapped};
@@ -9,6 +9,7 @@ ghost use Rattle.path_model.specs.Values.{Value as ValueOf, Number};
 ghost use Rattle.path_model.specs.Effects.{truth_as_number, calculated_value, arithmetic_value, is_number_zero, negated, is_same_pointer};
 ghost use Rattle.path_model.specs.Rules.{is_over, is_result_over, overflows};
 ghost use Rattle.path_heap.specs.Stands.{Means};
+ghost use Rattle.path_values.specs.Held.{HoldsResult};
 
 use crate::numbers::{is_signed, wrap};
 use cxx_hierarchy::Scalar;
@@ -130,6 +131,23 @@ pub fn overflows(op: Arithmetic, t: Scalar, a: Value, b: Value) -> bool
             }
         }
         _ => false,
+    }
+}
+
+/// The result of two numbers, read in their common type (ISO C++03 5 p9); none of anything else, and none where it is no number
+/// of a signed type (ISO C++03 5 p5).
+pub fn held_result(op: Arithmetic, t: Scalar, a: Value, b: Value) -> Option<Value>
+    ensures { IfSome result (λ r. (h : Classes) (classes : List ClassId) (v w : ValueOf) → Means h classes a v → Means h classes b w → HoldsResult h classes op t v w r) }
+{
+    match (a, b) {
+        (Value::Number(_), Value::Number(_)) => {
+            if overflows(op, t, a, b) {
+                None
+            } else {
+                Some(calculate(op, t, a, b))
+            }
+        }
+        _ => None,
     }
 }
 

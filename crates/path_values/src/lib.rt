@@ -23,7 +23,9 @@ pub mod scene;
 pub mod standing;
 pub mod views;
 
-pub use crate::calculations::{calculate, is_same, is_zero, negated, overflows, truth};
+pub use crate::calculations::{
+    calculate, held_result, is_same, is_zero, negated, overflows, truth,
+};
 pub use crate::calls::{goes_to, receiver};
 pub use crate::conversions::{convert, to_base, to_number};
 pub use crate::numbers::{stored, wrap};
