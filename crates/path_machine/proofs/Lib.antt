@@ -1,5 +1,6 @@
 pub mod Tellings
 pub mod Effecting
+pub mod Numbered
 pub mod Happening
 pub mod Moves
 pub mod Locals

@@ -4,6 +4,7 @@ pub mod Openings
 pub mod Setups
 pub mod Steps
 pub mod StatementSteps
+pub mod NumberSteps
 pub mod Plans
 pub mod Starts
 pub mod Changes

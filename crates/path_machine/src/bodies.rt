@@ -31,6 +31,7 @@ use crate::scenes::scene_of;
 use crate::statements::{
     copy_object, leave, operand, print_dump, print_type, print_value, print_view, write_place,
 };
+use crate::sums::{put_value, taken_number};
 use crate::taking::take;
 use crate::telling::Telling;
 use cxx_hierarchy::{Hierarchy, ReturnType};
@@ -252,7 +253,8 @@ fn refused(
 }
 
 /// A statement: refused, or with its effect.
-fn statement_step(
+#[inline(never)]
+fn asked_step(
     run: &Run,
     machine: &mut Machine,
     answers: &mut Answers,
@@ -270,6 +272,33 @@ fn statement_step(
         Some(rule) => Ok(Next::Refuses(rule, statement.line)),
         None => {
             let done = effect(run, machine, answers, outs, frame, after, statement)?;
+            Ok(done)
+        }
+    }
+}
+
+/// A statement: an assignment of the result of two numbers, or another one.
+fn statement_step(
+    run: &Run,
+    machine: &mut Machine,
+    answers: &mut Answers,
+    outs: &mut Telling,
+    frame: BodyBox,
+    after: usize,
+    statement: &TypedStatement,
+) -> Result<Next, NoMemory>
+    requires setup { IsSetup run.now }
+    requires answers { AreAnswers run.now.world.h.now answers.old }
+    ensures answers { AreAnswers run.now.world.h.now answers.new }
+    ensures agrees { IfOk result (DoesStatement run.now machine.old machine.new frame after statement.now outs.old outs.new) }
+{
+    match taken_number(machine, &frame, &statement.kind) {
+        Some(taken) => {
+            let done = put_value(machine, frame, statement.next, taken.0, taken.1)?;
+            Ok(done)
+        }
+        None => {
+            let done = asked_step(run, machine, answers, outs, frame, after, statement)?;
             Ok(done)
         }
     }

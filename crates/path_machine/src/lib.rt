@@ -30,6 +30,7 @@ mod scenes;
 mod starting;
 pub mod state;
 mod statements;
+mod sums;
 mod taking;
 pub mod telling;
 
