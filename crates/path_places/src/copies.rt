@@ -17,7 +17,7 @@ use std::alloc::Global;
 fn values_of(alloc: Global, heap: &Heap, leaves: &[u32]) -> Result<Vec<Value>, NoMemory>
     ensures { IfOk result (λ values. ReadsAll heap.now leaves.now values.items) }
 {
-    let mut values = Vec::new(alloc);
+    let mut values = Vec::with_capacity(alloc, leaves.len())?;
     for k in leaves {
         values.push(heap.leaf(*k))?;
     }

@@ -156,12 +156,12 @@ pub fn leaf_numbers(
     requires list { IsPartList world.now.h.now c list.now }
     ensures { IfOk result (λ leaves. (s : Objects) (p : ObjectPart) → HeapStands world.now.h.now heap.now s → Points world.now.h.now s.classes n p → HasBegun s p → class_of p.at ≡ Some c → AllZip (PointsLeaf world.now.h.now s.classes) leaves.items (leaves_of world.now.h.now c p)) }
 {
-    let mut leaves = Vec::new(alloc);
     // never met for the class of a part: `Points` says that it is one of the hierarchy
     if c.0 >= world.h.len() {
-        return Ok(leaves);
+        return Ok(Vec::new(alloc));
     }
     world.h.keeps();
+    let mut leaves = Vec::with_capacity(alloc, list.numbers.len())?;
     for (i, base) in list.parts.as_slice().iter().enumerate() {
         let d = class_or_first(base);
         let number = number_at(&list.numbers, i);

@@ -31,4 +31,4 @@ pub returns-then-c-len : goal.returns-then-c-len
 returns-then-c-len c = λ s p stands q begun class.
     let size = c.len.ensures in
     let past = c.if-c-len.true in
-    part_past c.args.world.now.h.now c.requires.world.hierarchy s.classes c.args.c p c.new-leaves.result.items c.new-leaves.ensures.items (omega arith)
+    part_past c.args.world.now.h.now c.requires.world.hierarchy s.classes c.args.c p c.new.result.items c.new.ensures.items (omega arith)
