@@ -2,6 +2,7 @@
 use Rattle.std.proofs.Common.{◌≡◌, ◌∙◌, Bool, refl, ℕ, ◌+◌, ◌-◌, ◌≤◌, ◌<◌, arith, true, false, Option, None, List, [], ◌++◌, length, ap, subst, sym}
 use Rattle.std.specs.Prelude.{filter, not}
 use Rattle.std.proofs.Math.Bool.{or-true, or-false}
+use Rattle.std.proofs.lemmas.List.{append-nil}
 use Rattle.foundation.proofs.Chosen.{filter_all, filter_same}
 use Rattle.cxx_hierarchy.specs.declared.records.ClassId.{ClassId}
 use Rattle.cxx_hierarchy.specs.declared.stop.LimitNo.TheVariants.{L9}
@@ -71,6 +72,13 @@ goes_on h l program trace before after text lines new telling goes step adds few
       taken = step.taken;
       budget = step.budget;
     }
+
+-- a step that told nothing leaves the text
+pub goes_silent : (h : Classes) (l : Places) (program : TypedProgram) (trace : Bool) (before after : PathState) (text : List ℕ) (telling : List Out) → RunGoesOn h l program trace before text → HasGoneOn h l program trace before after telling → telling ≡ [] → IsTurned h l program trace before after text
+goes_silent h l program trace before after text telling goes step none =
+    let small = goes.small in
+    let few : length text + 0 ≤ text_limit = omega (arith, small) in
+    goes_on h l program trace before after text [] text telling goes step (sym (ap (text_of h l) none)) few (sym (append-nil text))
 
 -- the lines of what a step tells
 pub lines_are : (h : Classes) (l : Places) (old lines : List ℕ) (outs telling : List Out) → old ≡ [] → outs ≡ telling → lines ≡ old ++ text_of h l outs → lines ≡ text_of h l telling

@@ -44,6 +44,16 @@ fn step(run: &Run, state: &mut PathState, telling: &mut Telling) -> Result<Optio
     Ok(end_of(turn))
 }
 
+/// Whether nothing was told.
+fn is_silent(telling: &Telling) -> bool
+    ensures { result ≡ true → telling.now.outs ≡ [] }
+{
+    match telling.outs.as_slice() {
+        [] => true,
+        _ => false,
+    }
+}
+
 /// The next step, with its lines behind those before; the end of the run, where it has ended. A step whose lines pass the
 /// limit on the text leaves none.
 ///
@@ -66,6 +76,9 @@ pub(crate) fn turn<L: SoundLayout>(
     match step(run, state, &mut telling)? {
         Some(end) => return Ok(Some(end)),
         None => {}
+    }
+    if is_silent(&telling) {
+        return Ok(None);
     }
     let mut lines = Vec::new(run.alloc);
     append_told(

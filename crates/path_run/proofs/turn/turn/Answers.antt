@@ -8,7 +8,7 @@ use Rattle.abi_sound.specs.Places.{places_of}
 use Rattle.text_told.specs.Told.{text_limit}
 use Rattle.text_told.proofs.Telling.{steps_told}
 use Rattle.path_run.specs.invariants.Going.{all_told}
-use Rattle.path_run.proofs.Turning.{ends_run, goes_on, lines_are, passes_limit, traced}
+use Rattle.path_run.proofs.Turning.{ends_run, goes_on, goes_silent, lines_are, passes_limit, traced}
 use Rattle.path_run.proofs.turn.turn.Goals as goal
 
 pub returns-in-Some : goal.returns-in-Some
@@ -18,6 +18,15 @@ returns-in-Some g c =
     let program = c.args.run.now.program.now in
     let over = traced h l program c.new-telling.result.trace c.args.trace c.args.state.now c.step.new.state c.step.new.telling.outs c.in_ok-end.field-0 (Some c.in-Some.end) c.new-telling.ensures.trace c.in-Some.is (c.in_ok-end.ensures l c.requires.sizes) in
     ends_run h l program c.args.trace c.args.state.now c.args.text.now.items c.in-Some.end c.requires.going over
+
+pub returns-then-is_silent : goal.returns-then-is_silent
+returns-then-is_silent g c =
+    let h = c.args.run.now.world.h.now in
+    let l = places_of h (g.L.SoundLayout.rows c.args.layout.now) in
+    let program = c.args.run.now.program.now in
+    let on = traced h l program c.new-telling.result.trace c.args.trace c.args.state.now c.step.new.state c.step.new.telling.outs c.in_ok-end.field-0 None c.new-telling.ensures.trace c.in-None.is (c.in_ok-end.ensures l c.requires.sizes) in
+    let none = c.is_silent.ensures c.if-is_silent.true in
+    goes_silent h l program c.args.trace c.args.state.now c.step.new.state c.args.text.now.items c.step.new.telling.outs c.requires.going on none
 
 pub append_told-requires-clause-told : goal.append_told-requires-clause-told
 append_told-requires-clause-told g c =
