@@ -1,6 +1,5 @@
 -- Marks, and which signatures are virtual.
 use Rattle.std.proofs.Common.{◌≡◌, ℕ, ◌+◌, ◌⊎◌, ◌↔◌, inl, inr, ⊎_elim, Bool, true, false, Some, List, [], ◌∷◌, ◌++◌, length, get_or, refl, ap, subst, sym, ◌∙◌, arith, length-append}
-use Rattle.std.specs.Prelude.{◌||◌}
 use Rattle.std.specs.List.{Contains}
 use Rattle.cxx_hierarchy.specs.declared.records.ClassId.{ClassId}
 use Rattle.cxx_hierarchy.specs.declared.records.Base.{Base}
@@ -13,7 +12,7 @@ use Rattle.cxx_overrider.specs.Functions.{Signature, signature_of, says_virtual}
 use Rattle.cxx_overrider.specs.Overriding.{HasPart, HasVirtual}
 use Rattle.cxx_overrider.specs.invariants.Numbers.{number_of, IsNumbering, IsNumberOf}
 use Rattle.cxx_overrider.specs.invariants.Places.{base_of, IsThrough}
-use Rattle.cxx_overrider.specs.invariants.Marks.{MarksEach, IsMarkRow, AreMarks, HasMarkedBase, SaysVirtual}
+use Rattle.cxx_overrider.specs.invariants.Marks.{IsMarkRow, AreMarks, MarksNext, HasMarkedBase, SaysVirtual}
 use Rattle.cxx_overrider.proofs.Lists.{or_front, or_last}
 use Rattle.std.proofs.lemmas.Bool.{cases_lt}
 use Rattle.cxx_overrider.proofs.Numbering.{same_function}
@@ -61,44 +60,37 @@ virtual_down h c s k = ⊎_elim
     (λ b. inr (b.0, b.1, record { source = k.source; same = k.same; says = k.says; base = b.2 }))
     (part_down h c k.source.class k.base)
 
-or_left : (a b : Bool) → a ≡ true → (a || b) ≡ true
-or_left true b e = refl
-or_left false b e = cc
+pub marked_virtual : (h : Classes) → IsHierarchy h → (numbers : List (List ℕ)) (rows : List (List Bool)) (c : ClassId) (n : ℕ) (s : Signature) → AreMarks h numbers (HasVirtual h) rows → length rows ≡ c.0 → IsNumberOf h numbers n s → HasMarkedBase h rows c n → HasVirtual h c s
+marked_virtual h keeps numbers rows c n s are size k m = let lt = keeps.bases c m.base m.listed in virtual_up h c s m.base m.listed ((are.each m.base.class n s (omega arith) k).0 m.marked)
 
-or_right : (a b : Bool) → b ≡ true → (a || b) ≡ true
-or_right true b e = refl
-or_right false b e = e
+pub virtual_inherited : (h : Classes) → IsHierarchy h → (numbers : List (List ℕ)) (rows : List (List Bool)) (c : ClassId) (n : ℕ) (s : Signature) (inherited : Bool) → inherited ≡ true → AreMarks h numbers (HasVirtual h) rows → length rows ≡ c.0 → IsNumberOf h numbers n s → (inherited ≡ true) ↔ HasMarkedBase h rows c n → (true ≡ true) ↔ HasVirtual h c s
+virtual_inherited h keeps numbers rows c n s inherited t are size k b = (λ e. marked_virtual h keeps numbers rows c n s are size k (b.0 t), λ v. refl)
 
-or_either : (a b : Bool) → (a || b) ≡ true → (a ≡ true) ⊎ (b ≡ true)
-or_either true b e = inl refl
-or_either false b e = inr e
-
-pub virtual_decided : (h : Classes) → IsHierarchy h → (numbers : List (List ℕ)) (rows : List (List Bool)) (c : ClassId) (n : ℕ) (s : Signature) (own inherited : Bool) → AreMarks h numbers (HasVirtual h) rows → length rows ≡ c.0 → IsNumberOf h numbers n s → (own ≡ true) ↔ SaysVirtual h c s → (inherited ≡ true) ↔ HasMarkedBase h rows c n → ((own || inherited) ≡ true) ↔ HasVirtual h c s
-virtual_decided h keeps numbers rows c n s own inherited are size k a b = (
-  λ e. ⊎_elim (λ o. virtual_own h c s (a.0 o))
-      (λ i. let m = b.0 i in let lt = keeps.bases c m.base m.listed in virtual_up h c s m.base m.listed ((are.each m.base.class n s (omega arith) k).0 m.marked))
-      (or_either own inherited e),
-  λ v. ⊎_elim (λ o. or_left own inherited (a.1 o))
-      (λ i. let lt = keeps.bases c i.0 i.1 in or_right own inherited (b.1 (record { base = i.0; listed = i.1; marked = (are.each i.0.class n s (omega arith) k).1 i.2 })))
+pub virtual_otherwise : (h : Classes) → IsHierarchy h → (numbers : List (List ℕ)) (rows : List (List Bool)) (c : ClassId) (n : ℕ) (s : Signature) (own inherited : Bool) → inherited ≡ false → AreMarks h numbers (HasVirtual h) rows → length rows ≡ c.0 → IsNumberOf h numbers n s → (own ≡ true) ↔ SaysVirtual h c s → (inherited ≡ true) ↔ HasMarkedBase h rows c n → (own ≡ true) ↔ HasVirtual h c s
+virtual_otherwise h keeps numbers rows c n s own inherited f are size k a b = (
+  λ e. virtual_own h c s (a.0 e),
+  λ v. ⊎_elim (λ o. a.1 o)
+      (λ i. let lt = keeps.bases c i.0 i.1 in let t : inherited ≡ true = b.1 (record { base = i.0; listed = i.1; marked = (are.each i.0.class n s (omega arith) k).1 i.2 }) in cc)
       (virtual_down h c s v),
 )
 
 -- rows of marks
-pub no_marks : (h : Classes) (numbers : List (List ℕ)) (P : Signature → Type 0) → MarksEach h numbers P []
-no_marks h numbers P = record { each = λ n s lt k. absurd (omega arith) }
+pub no_marks : (h : Classes) (numbers : List (List ℕ)) (P : Signature → Type 0) → IsMarkRow h numbers 0 P []
+no_marks h numbers P = record { short = omega arith; each = λ n s lt k. absurd (omega arith) }
 
 pub one_more : {X : Type 0} (xs ys : List X) (x : X) (n : ℕ) → length xs ≡ n → ys ≡ xs ++ x ∷ [] → length ys ≡ n + 1
 one_more {X} xs ys x n size e = omega (arith, ap length e, length-append {A = X})
 
-pub marks_more : (h : Classes) (numbers : List (List ℕ)) (P : Signature → Type 0) (row grown : List Bool) (n : ℕ) (b : Bool) → MarksEach h numbers P row → length row ≡ n → ((s : Signature) → IsNumberOf h numbers n s → (b ≡ true) ↔ P s) → grown ≡ row ++ b ∷ [] → MarksEach h numbers P grown
-marks_more h numbers P row grown n b has size new e = subst (MarksEach h numbers P) (sym e) (record {
+pub marks_more : (h : Classes) (numbers : List (List ℕ)) (P : Signature → Type 0) (row grown : List Bool) (n : ℕ) (b : Bool) → IsMarkRow h numbers n P row → ((s : Signature) → IsNumberOf h numbers n s → (b ≡ true) ↔ P s) → MarksNext row n b grown → IsMarkRow h numbers (n + 1) P grown
+marks_more h numbers P row grown n b has new put = record {
+  short = put.short;
   each = λ m s lt k. ⊎_elim
-      (λ small. subst (λ (x : Bool). (x ≡ true) ↔ P s) (sym (or_front row (b ∷ []) m false small)) (has.each m s small k))
-      (λ past. let at : m ≡ length row = let l : length (row ++ b ∷ []) ≡ length row + 1 = length-append row (b ∷ []) in omega arith in
-      let value : get_or (row ++ b ∷ []) m false ≡ b = ap (λ i. get_or (row ++ b ∷ []) i false) at ∙ or_last row b false in
-      subst (λ (x : Bool). (x ≡ true) ↔ P s) (sym value) (new s (subst (λ (i : ℕ). IsNumberOf h numbers i s) (at ∙ size) k)))
-      (cases_lt m (length row));
-})
+      (λ small. subst (λ (x : Bool). (x ≡ true) ↔ P s) (sym (put.kept m small)) (has.each m s small k))
+      (λ past. let at : m ≡ n = omega arith in
+      let value : get_or grown m false ≡ b = ap (λ i. get_or grown i false) at ∙ put.told in
+      subst (λ (x : Bool). (x ≡ true) ↔ P s) (sym value) (new s (subst (λ (i : ℕ). IsNumberOf h numbers i s) at k)))
+      (cases_lt m n);
+}
 
 pub no_mark_rows : (h : Classes) (numbers : List (List ℕ)) (P : ClassId → Signature → Type 0) → AreMarks h numbers P []
 no_mark_rows h numbers P = record { each = λ c n s lt k. absurd (omega arith) }
@@ -111,8 +103,7 @@ mark_rows_more h numbers count P rows grown c row is has size new e = subst (Are
       let same : c ≡ x = same_id c x (omega arith) in
       let value : get_or (rows ++ row ∷ []) x.0 [] ≡ row = ap (λ i. get_or (rows ++ row ∷ []) i []) at ∙ or_last rows row [] in
       let few = is.few k.function n k.number in
-      let all = new.size in
-      subst (λ (r : List Bool). (get_or r n false ≡ true) ↔ P x s) (sym value) (subst (λ (y : ClassId). (get_or row n false ≡ true) ↔ P y s) same (new.marks.each n s (omega arith) k)))
+      subst (λ (r : List Bool). (get_or r n false ≡ true) ↔ P x s) (sym value) (subst (λ (y : ClassId). (get_or row n false ≡ true) ↔ P y s) same (new.each n s few k)))
       (cases_lt x.0 (length rows));
 })
 
@@ -121,10 +112,3 @@ own_decided h keeps c s f b class same is = (
   λ e. record { source = f; class = class; same = same; says = sym is ∙ e },
   λ k. let one : k.source ≡ f = same_function h keeps k.source f s (k.class ∙ sym class) k.same same in is ∙ sym (ap (says_virtual h) one) ∙ k.says,
 )
-
-pub virtual_then : (h : Classes) (c : ClassId) (s : Signature) (own : Bool) → own ≡ true → (own ≡ true) ↔ SaysVirtual h c s → (own ≡ true) ↔ HasVirtual h c s
-virtual_then h c s own t a = (λ e. virtual_own h c s (a.0 e), λ v. t)
-
-pub virtual_else : (h : Classes) → IsHierarchy h → (numbers : List (List ℕ)) (rows : List (List Bool)) (c : ClassId) (n : ℕ) (s : Signature) (own inherited : Bool) → own ≡ false → AreMarks h numbers (HasVirtual h) rows → length rows ≡ c.0 → IsNumberOf h numbers n s → (own ≡ true) ↔ SaysVirtual h c s → (inherited ≡ true) ↔ HasMarkedBase h rows c n → (inherited ≡ true) ↔ HasVirtual h c s
-virtual_else h keeps numbers rows c n s own inherited f are size k a b =
-    subst (λ (o : Bool). ((o || inherited) ≡ true) ↔ HasVirtual h c s) f (virtual_decided h keeps numbers rows c n s own inherited are size k a b)

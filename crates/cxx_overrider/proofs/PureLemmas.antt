@@ -1,5 +1,5 @@
 -- Pure functions that the non-virtual part of a class leaves.
-use Rattle.std.proofs.Common.{◌≡◌, ℕ, ◌↔◌, Bool, true, false, Option, Some, None, List, [], ◌∷◌, length, refl, ap, subst, sym, ◌∙◌, arith}
+use Rattle.std.proofs.Common.{◌≡◌, ◌<◌, ℕ, ◌↔◌, Bool, true, false, Option, Some, None, List, [], ◌∷◌, length, refl, ap, subst, sym, ◌∙◌, arith}
 use Rattle.std.specs.List.{slice_get}
 use Rattle.cxx_hierarchy.specs.declared.records.ClassId.{ClassId}
 use Rattle.cxx_hierarchy.specs.declared.records.Function.{Function}
@@ -10,11 +10,11 @@ use Rattle.cxx_overrider.specs.declared.FunctionId.{FunctionId}
 use Rattle.cxx_overrider.specs.Functions.{Signature, signature_of, is_pure, is_pure_at}
 use Rattle.cxx_overrider.specs.Overriding.{HasVirtual, IsVirtual}
 use Rattle.cxx_overrider.specs.invariants.Numbers.{number_of, IsNumbering, IsNumberOf}
-use Rattle.cxx_overrider.specs.invariants.Marks.{AreMarks, HasMarkedPart}
+use Rattle.cxx_overrider.specs.invariants.Marks.{mark_of, AreMarks, HasMarkedPart}
 use Rattle.cxx_overrider.specs.declared.parts.NextClass.{NextClass}
 use Rattle.cxx_overrider.specs.invariants.Parts.{numbers_of, AreSignatures}
 use Rattle.cxx_overrider.specs.invariants.Pure.{DeclaresNone, StandsFirst, here, below, LeavesPure}
-use Rattle.cxx_overrider.proofs.Numbering.{same_function}
+use Rattle.cxx_overrider.proofs.Numbering.{same_function, signature_class}
 use Rattle.cxx_overrider.proofs.MarkLemmas.{says_number}
 
 pub none_declared : (h : Classes) (rows : List (List ℕ)) (count n : ℕ) (c : ClassId) (s : Signature) → IsNumbering h rows count → IsNumberOf h rows n s → ((f : FunctionId) → f.class ≡ c → number_of rows f ≡ Some n → ⊥) → DeclaresNone h c s
@@ -83,3 +83,12 @@ none_pure_at None all = refl
 pub none_pure_in : (h : Classes) (c : ClassId) (list : List (Function ClassId)) → list ≡ functions_of h c → ((i : ℕ) (x : Function ClassId) → slice_get list i ≡ Some x → x.is_pure ≡ false) → (f : FunctionId) → f.class ≡ c → is_pure h f ≡ false
 none_pure_in h c list is all f class = none_pure_at (slice_get (functions_of h f.class) f.index)
     (λ x e. all f.index x (subst (λ (xs : List (Function ClassId)). slice_get xs f.index ≡ Some x) (sym is) (subst (λ (d : ClassId). slice_get (functions_of h d) f.index ≡ Some x) class e)))
+
+-- where no function is pure, rows without a mark are right
+pub blank_pure : (h : Classes) (numbers : List (List ℕ)) (rows : List (List Bool)) → ((c : ClassId) (n : ℕ) → mark_of rows c n ≡ false) → ((f : FunctionId) → f.class.0 < length h → is_pure h f ≡ false) → AreMarks h numbers (LeavesPure h) rows
+blank_pure h numbers rows blank none = record {
+  each = λ c n s lt k. (
+    λ e. let b = blank c n in cc,
+    λ p. let a = none p.function (signature_class h p.function p.is_virtual.signature p.is_virtual.is) in let b = p.pure in cc,
+  );
+}

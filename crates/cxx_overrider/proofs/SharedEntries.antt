@@ -1,11 +1,10 @@
 -- The entries of a class serve for a class that has it as its one base.
-use Rattle.std.proofs.Common.{◌≡◌, ℕ, zero, suc, ◌+◌, ◌<◌, ◌≤◌, inl, inr, ⊎_elim, Bool, true, false, Option, Some, None, List, [], ◌∷◌, length, get_or, set, refl, ap, subst, sym, ◌∙◌, arith}
+use Rattle.std.proofs.Common.{◌≡◌, ℕ, zero, suc, ◌+◌, ◌<◌, inl, ⊎_elim, Bool, Option, Some, None, List, [], ◌∷◌, length, get_or, set, refl, ap, subst, sym, ◌∙◌, arith}
 use Rattle.std.specs.Prelude.{nat_eq, if◌then◌else◌}
 use Rattle.std.specs.List.{slice_get}
-use Rattle.std.proofs.lemmas.Bool.{eqb-true, eq-eqb, ne_eqb, cases_lt}
+use Rattle.std.proofs.lemmas.Bool.{eq-eqb, ne_eqb, cases_lt}
 use Rattle.std.proofs.lemmas.List.{length-set}
 use Rattle.cxx_hierarchy.specs.declared.records.ClassId.{ClassId}
-use Rattle.cxx_hierarchy.specs.declared.records.Base.{Base}
 use Rattle.cxx_hierarchy.specs.Classes.{Classes, bases_of}
 use Rattle.cxx_hierarchy.specs.Hierarchies.{IsHierarchy}
 use Rattle.cxx_subobject.specs.declared.Subobject.{Subobject}
@@ -16,14 +15,13 @@ use Rattle.cxx_overrider.specs.declared.FunctionId.{FunctionId}
 use Rattle.cxx_overrider.specs.declared.entries.Entry.{Entry}
 use Rattle.cxx_overrider.specs.declared.entries.Key.{Key}
 use Rattle.cxx_overrider.specs.declared.entries.EntryTable.{EntryTable}
-use Rattle.cxx_overrider.specs.declared.places.Place.TheVariants.{InShared}
 use Rattle.cxx_overrider.specs.Functions.{Signature, signature_of}
 use Rattle.cxx_overrider.specs.invariants.Places.{place_of_subobject, lifted}
 use Rattle.cxx_overrider.specs.invariants.Numbers.{row_of, number_of, IsNumbering}
 use Rattle.cxx_overrider.specs.invariants.Pure.{DeclaresNone}
 use Rattle.cxx_overrider.specs.invariants.Entries.{Tells, TellsOf}
 use Rattle.cxx_overrider.specs.invariants.EntryTables.{put_down, server_of, entry_of, KeepsBefore, ServesTo}
-use Rattle.cxx_overrider.specs.invariants.Settling.{Holds, AreCandidates, IsDone, IsMade, key}
+use Rattle.cxx_overrider.specs.invariants.Settling.{Holds, AreCandidates, IsMade, key}
 use Rattle.cxx_overrider.specs.invariants.Sharing.{HasEntriesOf}
 use Rattle.cxx_overrider.proofs.Servers.{server_set}
 use Rattle.cxx_overrider.proofs.SettlingLemmas.{no_candidates, candidates_skip, candidates_push, nothing_tells, top_tells}

@@ -6,10 +6,10 @@ use Rattle.cxx_hierarchy.specs.Hierarchies.{IsHierarchy}
 use Rattle.cxx_hierarchy.specs.VirtualBases.{HasVirtualBase}
 use Rattle.cxx_subobject.specs.declared.Root.TheVariants.{Whole, Shared}
 use Rattle.cxx_subobject.specs.declared.Subobject.{Subobject}
-use Rattle.cxx_subobject.specs.Subobjects.{Leads, IsSubobject, whole, shared, subobject, whole_of, last_of, class_of, join}
+use Rattle.cxx_subobject.specs.Subobjects.{Leads, IsSubobject, whole, shared, subobject, whole_of, class_of, join}
 use Rattle.cxx_subobject.specs.Inside.{IsInside}
 use Rattle.cxx_subobject.proofs.InsideLemmas.{join_valid, join_class, join_inside, virtual_inside, whole_joined}
-use Rattle.cxx_subobject.proofs.PathLemmas.{class_there, last_below, virtual_below, class_low}
+use Rattle.cxx_subobject.proofs.PathLemmas.{class_there, virtual_below, class_low}
 use Rattle.cxx_overrider.specs.declared.FunctionId.{FunctionId}
 use Rattle.cxx_overrider.specs.declared.Overrider.{Overrider}
 use Rattle.cxx_overrider.specs.Functions.{Signature, overrider}

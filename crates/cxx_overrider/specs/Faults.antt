@@ -9,7 +9,6 @@ use Rattle.cxx_hierarchy.specs.declared.stop.Stop.TheVariants.{Refused, Limit, N
 use Rattle.cxx_hierarchy.specs.declared.stop.Rule.TheVariants.{ReturnMismatch, IncompleteClass, AmbiguousCovariant, TwoFinalOverriders, Abstract}
 use Rattle.cxx_hierarchy.specs.declared.stop.LimitNo.TheVariants.{L5}
 use Rattle.cxx_hierarchy.specs.Classes.{Class, Classes, class_at, members_of, functions_of}
-use Rattle.cxx_overrider.specs.declared.FunctionId.{FunctionId}
 use Rattle.cxx_subobject.specs.Parts.{IsWithinLimits}
 use Rattle.cxx_overrider.specs.Virtuals.{function_at}
 use Rattle.cxx_overrider.specs.Overriding.{HasTwoFinalOverriders, IsAbstract}

@@ -91,7 +91,7 @@ fn kind_row(alloc: Global, h: &Hierarchy, rows: &[KindRow], c: ClassId) -> Resul
     ensures { IfOk result (IsKindRow h.now c) }
 {
     h.keeps();
-    let mut row = Sequence::new(alloc);
+    let mut row = Sequence::from_vec(Vec::with_capacity(alloc, c.0 as usize + 1)?);
     for number in 0..c.0 {
         row.push(kind_through(h, rows, c, ClassId(number)))?;
     }

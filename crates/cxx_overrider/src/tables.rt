@@ -9,7 +9,7 @@ use crate::parts::Signatures;
 use crate::pure::has_pure_function;
 use crate::signatures::{NumberRow, Numbering, number_signatures};
 use crate::virtuals::{MarkRow, virtual_rows};
-use crate::within::{PartQuestion, part_rows, within_lists};
+use crate::within::{pure_rows, within_lists};
 use cxx_hierarchy::Hierarchy;
 use cxx_subobject::virtual_flags::classes_with_virtual_bases;
 use foundation::NoMemory;
@@ -47,7 +47,7 @@ pub fn tables_of(alloc: Global, h: &Hierarchy) -> Result<Tables, NoMemory>
         numbering: &numbering,
         virtuals: &virtuals,
     };
-    let pure = part_rows(alloc, &signatures, PartQuestion::LeavesPure)?;
+    let pure = pure_rows(alloc, &signatures)?;
     let within = within_lists(alloc, &signatures)?;
     let with_virtual = classes_with_virtual_bases(alloc, h)?;
     let has_pure = has_pure_function(h);

@@ -1,10 +1,10 @@
 //! Which signatures are virtual in which classes.
 
-ghost use Rattle.std.specs.Prelude.{◌≡◌, ◌<◌, ◌↔◌, false, IsTrue, IfOk, Some, None, IsSome, length, slice_index_or};
+ghost use Rattle.std.specs.Prelude.{◌≡◌, ◌<◌, ◌≤◌, ◌↔◌, ℕ, false, IsTrue, IfOk, OnOk, Some, None, IsSome, length, slice_index_or};
 ghost use Rattle.cxx_overrider.specs.Functions.{Signature, signature_of, says_virtual};
 ghost use Rattle.cxx_overrider.specs.Overriding.{HasVirtual};
 ghost use Rattle.cxx_overrider.specs.invariants.Numbers.{IsNumbering, IsNumberOf};
-ghost use Rattle.cxx_overrider.specs.invariants.Marks.{mark_of, AreMarks, IsMarkRow, HasMarkedBase, SaysVirtual};
+ghost use Rattle.cxx_overrider.specs.invariants.Marks.{mark_of, AreMarks, IsMarkRow, MarksNext, HasMarkedBase, SaysVirtual};
 
 use crate::FunctionId;
 use crate::signatures::{Numbering, declaration, own_function};
@@ -12,8 +12,42 @@ use cxx_hierarchy::{ClassId, Destructor, Hierarchy};
 use foundation::{NoMemory, Sequence};
 use std::alloc::Global;
 
-/// For the numbers in their order whether each is marked.
+/// For the numbers in their order whether each is marked. A row ends at its last mark.
 pub type MarkRow = Sequence<bool>;
+
+/// Makes a row longer, without a mark, until it has so many numbers.
+fn lengthen(row: &mut MarkRow, count: usize) -> Result<(), NoMemory>
+    requires { length row.old ≤ count }
+    ensures size { OnOk result (length row.new ≡ count) }
+    ensures same { (m : ℕ) → slice_index_or row.new m false ≡ slice_index_or row.old m false }
+{
+    while row.len() < count {
+        row.push(false)?;
+    }
+    Ok(())
+}
+
+/// Says of the number behind those that a row tells of whether it is marked. Without a mark the row stays as it is.
+pub fn put_mark(row: &mut MarkRow, n: usize, flag: bool) -> Result<(), NoMemory>
+    requires { length row.old ≤ n }
+    ensures { OnOk result (MarksNext row.old n flag row.new) }
+{
+    if flag {
+        lengthen(row, n)?;
+        row.push(true)?;
+    }
+    Ok(())
+}
+
+/// The same row in no more memory than it needs.
+pub fn fitted(alloc: Global, row: &MarkRow) -> Result<MarkRow, NoMemory>
+    ensures { IfOk result (λ same. same ≡ row.now) }
+{
+    let marks = row.as_slice();
+    let mut items = Vec::with_capacity(alloc, marks.len())?;
+    items.extend_from_slice(marks)?;
+    Ok(Sequence::from_vec(items))
+}
 
 /// Whether a number is marked in the row of a class.
 pub fn is_marked(rows: &[MarkRow], c: ClassId, n: usize) -> bool
@@ -71,9 +105,10 @@ fn has_virtual(h: &Hierarchy, numbering: &Numbering, rows: &[MarkRow], c: ClassI
     ensures { (s : Signature) → IsNumberOf h.now numbering.now.rows.items n s → (IsTrue result ↔ HasVirtual h.now c s) }
 {
     h.keeps();
-    let own = says_own_virtual(h, numbering, c, n);
-    let inherited = has_marked_base(h, rows, c, n);
-    own || inherited
+    if has_marked_base(h, rows, c, n) {
+        return true;
+    }
+    says_own_virtual(h, numbering, c, n)
 }
 
 fn virtual_row(
@@ -91,8 +126,9 @@ fn virtual_row(
 {
     let mut row = Sequence::new(alloc);
     for n in 0..numbering.count {
-        row.push(has_virtual(h, numbering, rows, c, n))?;
+        put_mark(&mut row, n, has_virtual(h, numbering, rows, c, n))?;
     }
+    let row = fitted(alloc, &row)?;
     Ok(row)
 }
 

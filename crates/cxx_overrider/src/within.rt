@@ -1,15 +1,17 @@
 //! Which virtual functions the non-virtual part of a class declares, and which pure ones it leaves without an overrider,
 //! by the numbers of their signatures.
 
-ghost use Rattle.std.specs.Prelude.{◌≡◌, [], IfOk, length, slice_index_or};
-ghost use Rattle.cxx_overrider.specs.invariants.Marks.{AreMarks, IsMarkRow};
+ghost use Rattle.std.specs.Prelude.{◌≡◌, ℕ, [], false, IfOk, length, slice_index_or};
+ghost use Rattle.cxx_hierarchy.specs.declared.records.ClassId.{ClassId};
+ghost use Rattle.cxx_overrider.specs.invariants.Marks.{mark_of, AreMarks, IsMarkRow};
 ghost use Rattle.cxx_overrider.specs.invariants.Parts.{numbers_of, AreSignatures, IsNextClass, TellsNext};
+ghost use Rattle.cxx_overrider.specs.invariants.Pure.{LeavesPure};
 ghost use Rattle.cxx_overrider.specs.invariants.Within.{HasVirtualWithin, IsAnswered, ListsMarked, AreListed, AreWithin};
 
 use crate::parts::{NextClass, Signatures};
-use crate::pure::{has_marked_part, leaves_pure};
+use crate::pure::{has_marked_part, has_pure_function, leaves_pure};
 use crate::signatures::{NumberRow, own_function};
-use crate::virtuals::{MarkRow, is_marked};
+use crate::virtuals::{MarkRow, fitted, is_marked, put_mark};
 use cxx_hierarchy::ClassId;
 use foundation::{NoMemory, Sequence};
 use std::alloc::Global;
@@ -60,8 +62,9 @@ fn part_row(alloc: Global, next: &NextClass, question: PartQuestion) -> Result<M
 {
     let mut row = Sequence::new(alloc);
     for n in 0..next.signatures.numbering.count {
-        row.push(part_answer(next, question, n))?;
+        put_mark(&mut row, n, part_answer(next, question, n))?;
     }
+    let row = fitted(alloc, &row)?;
     Ok(row)
 }
 
@@ -86,6 +89,34 @@ pub fn part_rows(
         rows.push(row)?;
     }
     Ok(rows)
+}
+
+/// Rows without a mark for so many classes.
+fn blank_rows(alloc: Global, classes: u32) -> Result<Vec<MarkRow>, NoMemory>
+    ensures blank { IfOk result (λ rows. (c : ClassId) (n : ℕ) → mark_of rows.items c n ≡ false) }
+    ensures size { IfOk result (λ rows. length rows.items ≡ classes) }
+{
+    let mut rows = Vec::new(alloc);
+    for _ in 0..classes {
+        rows.push(Sequence::new(alloc))?;
+    }
+    Ok(rows)
+}
+
+/// For each class the signatures of which its non-virtual part leaves a virtual pure function without an overrider. Where
+/// no function is pure, nothing more is looked at.
+pub fn pure_rows(alloc: Global, signatures: &Signatures) -> Result<Vec<MarkRow>, NoMemory>
+    requires { AreSignatures signatures.now }
+    ensures marks { IfOk result (λ rows. AreMarks signatures.now.h.now (numbers_of signatures.now) (LeavesPure signatures.now.h.now) rows.items) }
+    ensures size { IfOk result (λ rows. length rows.items ≡ length signatures.now.h.now) }
+{
+    if has_pure_function(signatures.h) {
+        let rows = part_rows(alloc, signatures, PartQuestion::LeavesPure)?;
+        Ok(rows)
+    } else {
+        let blank = blank_rows(alloc, signatures.h.len())?;
+        Ok(blank)
+    }
 }
 
 /// The numbers below a bound that the row of a class marks, in their order.

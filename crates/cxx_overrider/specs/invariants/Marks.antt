@@ -1,5 +1,5 @@
 -- Marks: for each class the signatures, by number, of which something holds.
-use Rattle.std.specs.Prelude.{◌≡◌, ◌↔◌, ◌<◌, ℕ, Bool, true, false, Some, List, [], Contains, length, slice_index_or}
+use Rattle.std.specs.Prelude.{◌≡◌, ◌↔◌, ◌+◌, ◌<◌, ◌≤◌, ℕ, Bool, true, false, Some, List, [], Contains, length, slice_index_or}
 use Rattle.cxx_hierarchy.specs.declared.records.ClassId.{ClassId}
 use Rattle.cxx_hierarchy.specs.declared.records.Base.{Base}
 use Rattle.cxx_hierarchy.specs.Classes.{Classes, bases_of}
@@ -10,16 +10,18 @@ use Rattle.cxx_overrider.specs.invariants.Numbers.{IsNumberOf}
 abbrev pub mark_of : List (List Bool) → ClassId → ℕ → Bool
 mark_of rows c n = slice_index_or (slice_index_or rows c.0 []) n false
 
--- the row marks the numbers of the signatures that are as P says
-pub record MarksEach (h : Classes) (numbers : List (List ℕ)) (P : Signature → Type 0) (row : List Bool) : Type 0 where
-  pub each : (n : ℕ) (s : Signature) → n < length row → IsNumberOf h numbers n s → ((slice_index_or row n false ≡ true) ↔ P s)
-
--- and has a mark for each number
+-- of the numbers below a count the row marks those of the signatures that are as P says; behind its end nothing is marked
 pub record IsMarkRow (h : Classes) (numbers : List (List ℕ)) (count : ℕ) (P : Signature → Type 0) (row : List Bool) : Type 0 where
-  pub size : length row ≡ count
-  pub marks : MarksEach h numbers P row
+  pub short : length row ≤ count
+  pub each : (n : ℕ) (s : Signature) → n < count → IsNumberOf h numbers n s → ((slice_index_or row n false ≡ true) ↔ P s)
 
--- so do the rows of all classes
+-- the new row says of one number more whether it is marked
+pub record MarksNext (row : List Bool) (n : ℕ) (flag : Bool) (new : List Bool) : Type 0 where
+  pub short : length new ≤ n + 1
+  pub told : slice_index_or new n false ≡ flag
+  pub kept : (m : ℕ) → m < n → slice_index_or new m false ≡ slice_index_or row m false
+
+-- the rows of all classes mark those that are as P says
 pub record AreMarks (h : Classes) (numbers : List (List ℕ)) (P : ClassId → Signature → Type 0) (rows : List (List Bool)) : Type 0 where
   pub each : (c : ClassId) (n : ℕ) (s : Signature) → c.0 < length rows → IsNumberOf h numbers n s → ((mark_of rows c n ≡ true) ↔ P c s)
 

@@ -1,8 +1,5 @@
-use Rattle.cxx_overrider.proofs.MarkLemmas.{marks_more, one_more}
+use Rattle.cxx_overrider.proofs.MarkLemmas.{marks_more}
 use Rattle.cxx_overrider.proofs.within.part_row.Goals as goal
 
 pub loop-n-preserved : goal.loop-n-preserved
-loop-n-preserved c = record {
-  size = one_more _ _ _ _ c.loop-n.invariant.size c.in_ok-push.ensures.ok;
-  marks = marks_more _ _ _ _ _ _ _ c.loop-n.invariant.marks c.loop-n.invariant.size c.part_answer.ensures c.in_ok-push.ensures.ok;
-}
+loop-n-preserved c = marks_more _ _ _ _ _ _ _ c.loop-n.invariant c.part_answer.ensures c.in_ok-put_mark.ensures
