@@ -12,7 +12,7 @@ ghost use Rattle.cxx_grammar.specs.Front.{IsName};
 ghost use Rattle.cxx_grammar.specs.invariants.Run.{Follows};
 ghost use Rattle.cxx_grammar.specs.Table.{Only, AName, ABlock, ParamsEnd, AfterDeclared, AfterScalar, AfterType, AfterOwnName, PartsEnd, is_scalar_word, scalar_rest};
 ghost use Rattle.cxx_syntax.specs.Statements.{IsFirst, ScalarReads, ValueReads};
-ghost use Rattle.cxx_syntax.specs.declared.part.Part.{Part};
+ghost use Rattle.cxx_syntax.specs.declared.part.ClassPart.{ClassPart};
 ghost use Rattle.cxx_syntax.specs.Parts.{access_of, PartReads, PartsRead};
 ghost use Rattle.cxx_record_parser.specs.invariants.Readers.{outside, max_lexemes, IsDraft};
 
@@ -22,7 +22,7 @@ use cxx_grammar::{Lexeme, Sort, is_same, name_of, next, refusal, take, take_name
 use cxx_hierarchy::{FieldType, Name, ReturnType, Scalar, Stop, ValueType};
 use cxx_record_parser::draft::{Draft, public_after};
 use cxx_record_parser::member::{bit_field_end, field_end, label};
-use cxx_syntax::Part;
+use cxx_syntax::ClassPart;
 use cxx_syntax::scalar::scalar;
 
 // The first token of a part, and whether what stands there is public.
@@ -39,7 +39,7 @@ fn after_declared<'a>(
     ty: ValueType<Name>,
     word: Lexeme,
     rest: &'a [Lexeme],
-) -> Reading<'a, Part>
+) -> Reading<'a, ClassPart>
     ensures reads { IfOk result (λ x. (ts a : List Lexeme) → IsFirst front.first ts → ValueReads text.now.bytes.now ty ts a → IsName word a rest.now → PartReads text.now.bytes.now front.is_public x.0 ts x.1.now) }
     ensures shorter { IfOk result (λ x. length x.1.now ≤ length rest.now) }
     ensures follows { (m : Bool) → Follows (λ x. x.1.now) (outside m) (AfterDeclared ∷ []) rest.now (outside m) [] result }
@@ -63,7 +63,7 @@ fn pointer_part<'a>(
     front: PartFront,
     ty: ValueType<Name>,
     rest: &'a [Lexeme],
-) -> Reading<'a, Part>
+) -> Reading<'a, ClassPart>
     ensures reads { IfOk result (λ x. (ts : List Lexeme) → IsFirst front.first ts → ValueReads text.now.bytes.now ty ts rest.now → PartReads text.now.bytes.now front.is_public x.0 ts x.1.now) }
     ensures shorter { IfOk result (λ x. length x.1.now ≤ length rest.now) }
     ensures follows { (m : Bool) → Follows (λ x. x.1.now) (outside m) (AName ∷ AfterDeclared ∷ []) rest.now (outside m) [] result }
@@ -80,7 +80,7 @@ fn after_scalar<'a>(
     ty: Scalar,
     word: Lexeme,
     rest: &'a [Lexeme],
-) -> Reading<'a, Part>
+) -> Reading<'a, ClassPart>
     ensures reads { IfOk result (λ x. (ts a : List Lexeme) → IsFirst front.first ts → ScalarReads ty ts a → IsName word a rest.now → PartReads text.now.bytes.now front.is_public x.0 ts x.1.now) }
     ensures shorter { IfOk result (λ x. length x.1.now ≤ length rest.now) }
     ensures follows { (m : Bool) → Follows (λ x. x.1.now) (outside m) (AfterScalar ∷ []) rest.now (outside m) [] result }
@@ -99,7 +99,7 @@ fn after_scalar<'a>(
 }
 
 // a field or a function that begins with a scalar
-fn scalar_part<'a>(text: &Text, front: PartFront, rest: &'a [Lexeme]) -> Reading<'a, Part>
+fn scalar_part<'a>(text: &Text, front: PartFront, rest: &'a [Lexeme]) -> Reading<'a, ClassPart>
     requires { is_scalar_word front.first.sort ≡ true }
     ensures reads { IfOk result (λ x. PartReads text.now.bytes.now front.is_public x.0 (front.first ∷ rest.now) x.1.now) }
     ensures shorter { IfOk result (λ x. length x.1.now ≤ length rest.now) }
@@ -112,7 +112,7 @@ fn scalar_part<'a>(text: &Text, front: PartFront, rest: &'a [Lexeme]) -> Reading
 }
 
 // a field or a function that begins with a name
-fn name_part<'a>(text: &Text, front: PartFront, rest: &'a [Lexeme]) -> Reading<'a, Part>
+fn name_part<'a>(text: &Text, front: PartFront, rest: &'a [Lexeme]) -> Reading<'a, ClassPart>
     requires { is_name front.first.sort ≡ true }
     ensures reads { IfOk result (λ x. PartReads text.now.bytes.now front.is_public x.0 (front.first ∷ rest.now) x.1.now) }
     ensures shorter { IfOk result (λ x. length x.1.now ≤ length rest.now) }
@@ -134,7 +134,7 @@ fn name_part<'a>(text: &Text, front: PartFront, rest: &'a [Lexeme]) -> Reading<'
 }
 
 // a constructor, or a field or a function, that begins with the name of its class
-fn own_name_part<'a>(text: &Text, front: PartFront, rest: &'a [Lexeme]) -> Reading<'a, Part>
+fn own_name_part<'a>(text: &Text, front: PartFront, rest: &'a [Lexeme]) -> Reading<'a, ClassPart>
     requires { front.first.sort ≡ Sort.OwnName }
     ensures reads { IfOk result (λ x. PartReads text.now.bytes.now front.is_public x.0 (front.first ∷ rest.now) x.1.now) }
     ensures shorter { IfOk result (λ x. length x.1.now ≤ length rest.now) }
@@ -150,7 +150,7 @@ fn own_name_part<'a>(text: &Text, front: PartFront, rest: &'a [Lexeme]) -> Readi
 }
 
 // a function without a result, after "void"
-fn void_part<'a>(text: &Text, first: Lexeme, rest: &'a [Lexeme]) -> Reading<'a, Part>
+fn void_part<'a>(text: &Text, first: Lexeme, rest: &'a [Lexeme]) -> Reading<'a, ClassPart>
     requires { first.sort ≡ Sort.Void }
     ensures reads { IfOk result (λ x. (is_public : Bool) → PartReads text.now.bytes.now is_public x.0 (first ∷ rest.now) x.1.now) }
     ensures shorter { IfOk result (λ x. length x.1.now ≤ length rest.now) }
@@ -168,7 +168,7 @@ fn void_part<'a>(text: &Text, first: Lexeme, rest: &'a [Lexeme]) -> Reading<'a, 
 }
 
 // a part, the first token of which was read
-fn part<'a>(text: &Text, front: PartFront, rest: &'a [Lexeme]) -> Reading<'a, Part>
+fn part<'a>(text: &Text, front: PartFront, rest: &'a [Lexeme]) -> Reading<'a, ClassPart>
     requires { front.first.sort ≡ Sort.CloseBrace → ⊥ }
     ensures reads { IfOk result (λ x. PartReads text.now.bytes.now front.is_public x.0 (front.first ∷ rest.now) x.1.now) }
     ensures shorter { IfOk result (λ x. length x.1.now ≤ length rest.now) }
@@ -201,7 +201,7 @@ pub(crate) fn parts<'a>(
     rest: &'a [Lexeme],
 ) -> Result<(Draft, Lexeme, &'a [Lexeme]), Stop>
     requires { length rest.now ≤ max_lexemes }
-    ensures reads { IfOk result (λ x. (ps : List Part) × PartsRead text.now.bytes.now by_default ps rest.now (x.1 ∷ x.2.now) × IsDraft text.now.bytes.now class.now ps x.0) }
+    ensures reads { IfOk result (λ x. (ps : List ClassPart) × PartsRead text.now.bytes.now by_default ps rest.now (x.1 ∷ x.2.now) × IsDraft text.now.bytes.now class.now ps x.0) }
     ensures close { IfOk result (λ x. x.1.sort ≡ Sort.CloseBrace) }
     ensures shorter { IfOk result (λ x. length x.2.now ≤ length rest.now) }
     ensures follows { (m : Bool) → Follows (λ x. x.2.now) (outside m) (PartsEnd ∷ []) rest.now (outside m) [] result }

@@ -17,7 +17,7 @@ use cxx_hierarchy::{Name, ReturnType};
 use cxx_record_parser::initializer::inits;
 use cxx_record_parser::member::function_of;
 use cxx_record_parser::value::{begins_value, params, value};
-use cxx_syntax::Part;
+use cxx_syntax::ClassPart;
 
 /// The first token of a function, behind `virtual` where that stands, what the function returns, and its name.
 #[derive(Drop)]
@@ -33,7 +33,7 @@ pub(crate) fn constructor<'a>(
     first: Lexeme,
     sign: Lexeme,
     rest: &'a [Lexeme],
-) -> Reading<'a, Part>
+) -> Reading<'a, ClassPart>
     requires first { first.sort ≡ Sort.OwnName }
     requires sign { sign.sort ≡ Sort.OpenParen }
     ensures reads { IfOk result (λ x. (is_public : Bool) → PartReads text.now.bytes.now is_public x.0 (first ∷ sign ∷ rest.now) x.1.now) }
@@ -43,7 +43,7 @@ pub(crate) fn constructor<'a>(
     let (_close, rest) = take(rest, Sort::CloseParen)?;
     let (inits, rest) = inits(text.alloc, text.bytes, rest)?;
     let (tree, rest) = block(text, rest, 0)?;
-    Ok((Part::Constructor(first.at, inits, tree), rest))
+    Ok((ClassPart::Constructor(first.at, inits, tree), rest))
 }
 
 // name "(" ")" block after "~"
@@ -52,7 +52,7 @@ pub(crate) fn destructor<'a>(
     is_virtual: bool,
     tilde: Lexeme,
     rest: &'a [Lexeme],
-) -> Reading<'a, Part>
+) -> Reading<'a, ClassPart>
     requires { tilde.sort ≡ Sort.Tilde }
     ensures reads { IfOk result (λ x. (is_public : Bool) (ts : List Lexeme) → VirtualReads is_virtual ts (tilde ∷ rest.now) → PartReads text.now.bytes.now is_public x.0 ts x.1.now) }
     ensures shorter { IfOk result (λ x. length x.1.now ≤ length rest.now) }
@@ -62,7 +62,7 @@ pub(crate) fn destructor<'a>(
     let (_open, rest) = take(rest, Sort::OpenParen)?;
     let (_close, rest) = take(rest, Sort::CloseParen)?;
     let (tree, rest) = block(text, rest, 0)?;
-    Ok((Part::Destructor(is_virtual, word.at, tree), rest))
+    Ok((ClassPart::Destructor(is_virtual, word.at, tree), rest))
 }
 
 // [param {"," param}] ")" block after the "(" of a function without "virtual"
@@ -70,7 +70,7 @@ pub(crate) fn plain_function<'a>(
     text: &Text,
     head: FunctionHead,
     rest: &'a [Lexeme],
-) -> Reading<'a, Part>
+) -> Reading<'a, ClassPart>
     ensures reads { IfOk result (λ x. (is_public : Bool) (ts : List Lexeme) → HeadReads text.now.bytes.now false head.first head.ret head.word ts rest.now → PartReads text.now.bytes.now is_public x.0 ts x.1.now) }
     ensures shorter { IfOk result (λ x. length x.1.now ≤ length rest.now) }
     ensures follows { (m : Bool) → Follows (λ x. x.1.now) (outside m) (ParamsEnd ∷ ABlock ∷ []) rest.now (outside m) [] result }
@@ -79,11 +79,15 @@ pub(crate) fn plain_function<'a>(
     let (params, _close, rest) = params(text.alloc, text.bytes, rest)?;
     let (tree, rest) = block(text, rest, 0)?;
     let function = function_of(text.alloc, text.bytes, &word, params, ret, false, false)?;
-    Ok((Part::Function(function, first.at, Some(tree)), rest))
+    Ok((ClassPart::Function(function, first.at, Some(tree)), rest))
 }
 
 // [param {"," param}] ")", and a block or "=" "0" ";", after the "(" of a virtual function
-fn virtual_function<'a>(text: &Text, head: FunctionHead, rest: &'a [Lexeme]) -> Reading<'a, Part>
+fn virtual_function<'a>(
+    text: &Text,
+    head: FunctionHead,
+    rest: &'a [Lexeme],
+) -> Reading<'a, ClassPart>
     ensures reads { IfOk result (λ x. (is_public : Bool) (ts : List Lexeme) → HeadReads text.now.bytes.now true head.first head.ret head.word ts rest.now → PartReads text.now.bytes.now is_public x.0 ts x.1.now) }
     ensures shorter { IfOk result (λ x. length x.1.now ≤ length rest.now) }
     ensures follows { (m : Bool) → Follows (λ x. x.1.now) (outside m) (ParamsEnd ∷ VirtualEnd ∷ []) rest.now (outside m) [] result }
@@ -95,11 +99,11 @@ fn virtual_function<'a>(text: &Text, head: FunctionHead, rest: &'a [Lexeme]) -> 
         let (_zero, after) = take(after, Sort::Zero)?;
         let (_end, after) = take(after, Sort::Semicolon)?;
         let function = function_of(text.alloc, text.bytes, &word, params, ret, true, true)?;
-        return Ok((Part::Function(function, first.at, None), after));
+        return Ok((ClassPart::Function(function, first.at, None), after));
     }
     let (tree, rest) = block(text, rest, 0)?;
     let function = function_of(text.alloc, text.bytes, &word, params, ret, true, false)?;
-    Ok((Part::Function(function, first.at, Some(tree)), rest))
+    Ok((ClassPart::Function(function, first.at, Some(tree)), rest))
 }
 
 // name "(" and the rest of a virtual function after what it returns
@@ -108,7 +112,7 @@ fn virtual_named<'a>(
     first: Lexeme,
     ret: ReturnType<Name>,
     rest: &'a [Lexeme],
-) -> Reading<'a, Part>
+) -> Reading<'a, ClassPart>
     ensures reads { IfOk result (λ x. (is_public : Bool) (ts a : List Lexeme) → VirtualReads true ts a → IsFirst first a → ReturnReads text.now.bytes.now ret a rest.now → PartReads text.now.bytes.now is_public x.0 ts x.1.now) }
     ensures shorter { IfOk result (λ x. length x.1.now ≤ length rest.now) }
     ensures follows { (m : Bool) → Follows (λ x. x.1.now) (outside m) (AName ∷ Only Sort.OpenParen ∷ ParamsEnd ∷ VirtualEnd ∷ []) rest.now (outside m) [] result }
@@ -121,7 +125,11 @@ fn virtual_named<'a>(
 }
 
 // (value | "void") name "(" and the rest of a function, or a destructor, after "virtual"
-pub(crate) fn virtual_part<'a>(text: &Text, first: Lexeme, rest: &'a [Lexeme]) -> Reading<'a, Part>
+pub(crate) fn virtual_part<'a>(
+    text: &Text,
+    first: Lexeme,
+    rest: &'a [Lexeme],
+) -> Reading<'a, ClassPart>
     requires { first.sort ≡ Sort.Virtual }
     ensures reads { IfOk result (λ x. (is_public : Bool) → PartReads text.now.bytes.now is_public x.0 (first ∷ rest.now) x.1.now) }
     ensures shorter { IfOk result (λ x. length x.1.now ≤ length rest.now) }

@@ -21,7 +21,7 @@ use Rattle.cxx_syntax.specs.declared.tree.BodyTree.{BodyTree}
 use Rattle.cxx_syntax.specs.Operands.{PointerReads, ConstantReads, OperandReads, DotsRead, PartsRead, PlaceReads, MoreRead, ArgumentsRead, RightReads}
 use Rattle.cxx_syntax.specs.Statements.{ScalarReads, ValueReads, InitReads, ResultReads, IsFirst, BodyReads, StatementsRead, StatementReads}
 use Rattle.cxx_syntax.specs.declared.source_text.Init.{Init}
-use Rattle.cxx_syntax.specs.declared.part.Part.{Part}
+use Rattle.cxx_syntax.specs.declared.part.ClassPart.{ClassPart}
 use Rattle.cxx_syntax.specs.declared.part.Item.{Item}
 use Rattle.cxx_syntax.specs.Parts.{Spelled, IsAccess, BaseReads, MoreBasesRead, CountReads, ParamReads, ParamsRead, MoreParamsRead, InitsRead, MoreInitsRead, PartReads, PartsRead as ClassPartsRead}
 use Rattle.cxx_syntax.specs.Parts as parts
@@ -55,14 +55,14 @@ pub data LongReads : List Lexeme → List Lexeme → Type 0 where
 
 -- the parts of a class up to the end of its definition
 abbrev pub ClassEnds : List ℕ → Bool → List Lexeme → List Lexeme → Type 0
-ClassEnds text default ts r = (ps : List Part) × (o z q : Lexeme) × (a b c : List Lexeme) × Is OpenBrace o ts a × ClassPartsRead text default ps a b × Is CloseBrace z b c × Is Semicolon q c r
+ClassEnds text default ts r = (ps : List ClassPart) × (o z q : Lexeme) × (a b c : List Lexeme) × Is OpenBrace o ts a × ClassPartsRead text default ps a b × Is CloseBrace z b c × Is Semicolon q c r
 
 abbrev pub APart : List ℕ → Bool → List Lexeme → List Lexeme → Type 0
-APart text is_public ts r = (p : Part) × PartReads text is_public p ts r
+APart text is_public ts r = (p : ClassPart) × PartReads text is_public p ts r
 
 -- the parts of a class up to the brace that ends them
 abbrev pub SomeParts : List ℕ → List Lexeme → List Lexeme → Type 0
-SomeParts text ts r = (is_public : Bool) → (ps : List Part) × (a : List Lexeme) × (z : Lexeme) × ClassPartsRead text is_public ps ts a × Is CloseBrace z a r
+SomeParts text ts r = (is_public : Bool) → (ps : List ClassPart) × (a : List Lexeme) × (z : Lexeme) × ClassPartsRead text is_public ps ts a × Is CloseBrace z a r
 
 abbrev pub ABody : List ℕ → List Lexeme → List Lexeme → Type 0
 ABody text ts r = (t : BodyTree) × BodyReads text t ts r

@@ -16,8 +16,8 @@ use Rattle.cxx_syntax.specs.declared.source_text.Body.{Body}
 use Rattle.cxx_syntax.specs.declared.source_text.BodyOwner.{BodyOwner}
 use Rattle.cxx_syntax.specs.declared.source_text.BodyOwner.TheVariants as owner
 use Rattle.cxx_syntax.specs.declared.source_text.SourceText.{SourceText}
-use Rattle.cxx_syntax.specs.declared.part.Part.{Part}
-use Rattle.cxx_syntax.specs.declared.part.Part.TheVariants as part
+use Rattle.cxx_syntax.specs.declared.part.ClassPart.{ClassPart}
+use Rattle.cxx_syntax.specs.declared.part.ClassPart.TheVariants as part
 use Rattle.cxx_syntax.specs.declared.part.Item.{Item}
 use Rattle.cxx_syntax.specs.Parts.{Spelled, PartReads, a_label, a_field, a_bit_field, a_function, a_pure_function, a_constructor, a_destructor, PartsRead, no_part, one_part}
 use Rattle.cxx_syntax.specs.Definitions.{function_from, functions_among, given_by_parts, part_at, record_of, body_at, bodies_of}
@@ -25,7 +25,7 @@ use Rattle.cxx_syntax.specs.Sources.{ItemReads, a_class, a_forward, a_global, a_
 use Rattle.cxx_syntax.specs.Owners.{function_owner, owner_at, owner_in, IsIn, AreBodiesOf, no_class, one_class}
 
 -- a function has no body exactly where it is pure
-abbrev PartFits : Part → Type 0
+abbrev PartFits : ClassPart → Type 0
 PartFits (part.Label p) = Unit {0}
 PartFits (part.Field m ty_at) = Unit {0}
 PartFits (part.Function f ty_at None) = f.is_pure ≡ true
@@ -33,7 +33,7 @@ PartFits (part.Function f ty_at (Some t)) = f.is_pure ≡ false
 PartFits (part.Constructor at is t) = Unit {0}
 PartFits (part.Destructor v at t) = Unit {0}
 
-part_fits : {text : List ℕ} {is_public : Bool} {p : Part} {ts rest : List Lexeme} → PartReads text is_public p ts rest → PartFits p
+part_fits : {text : List ℕ} {is_public : Bool} {p : ClassPart} {ts rest : List Lexeme} → PartReads text is_public p ts rest → PartFits p
 part_fits (a_label i k) = tt
 part_fits (a_field f ty n c z e at) = tt
 part_fits (a_bit_field f ty n o w z e at) = tt
@@ -42,12 +42,12 @@ part_fits (a_pure_function v f r n o ps z w q k e at) = ap (λ (g : Function Spe
 part_fits (a_constructor n o z is b at) = tt
 part_fits (a_destructor v w n o z b at) = tt
 
-parts_fit : {text : List ℕ} {is_public : Bool} {ps : List Part} {ts rest : List Lexeme} → PartsRead text is_public ps ts rest → AllByRecursion PartFits ps
+parts_fit : {text : List ℕ} {is_public : Bool} {ps : List ClassPart} {ts rest : List Lexeme} → PartsRead text is_public ps ts rest → AllByRecursion PartFits ps
 parts_fit no_part = tt
 parts_fit (one_part h hs) = (part_fits h, parts_fit hs)
 
 -- the function that a part names
-named : (before ps : List Part) (f : Function Spelled) (ty_at : ℕ) (b : Option BodyTree) → slice_get (functions_among (before ++ part.Function f ty_at b ∷ ps)) (length (functions_among before)) ≡ Some f
+named : (before ps : List ClassPart) (f : Function Spelled) (ty_at : ℕ) (b : Option BodyTree) → slice_get (functions_among (before ++ part.Function f ty_at b ∷ ps)) (length (functions_among before)) ≡ Some f
 named before ps f ty_at b = rw (filter_map-append function_from before (part.Function f ty_at b ∷ ps)) (get_behind (functions_among before) f (functions_among ps))
 
 pure_owner : (f : Function Spelled) (n : ℕ) → f.is_pure ≡ true → function_owner n (Some f) ≡ None
@@ -71,7 +71,7 @@ abbrev function_part : ℕ → Function Spelled → ℕ → PartAt
 function_part n f ty_at = record { kind = kind.Function; number = n; ty_at = Some ty_at; at = f.at }
 
 -- the body of a part is that of the part
-owner_of_part : (class : Spelled) (before ps : List Part) (p : Part) → PartFits p → map owner_in (body_at class before p) ≡ filter_map (owner_at (functions_among (before ++ p ∷ ps))) (part_at before p)
+owner_of_part : (class : Spelled) (before ps : List ClassPart) (p : ClassPart) → PartFits p → map owner_in (body_at class before p) ≡ filter_map (owner_at (functions_among (before ++ p ∷ ps))) (part_at before p)
 owner_of_part class before ps (part.Label p) h = refl
 owner_of_part class before ps (part.Field m ty_at) h = refl
 owner_of_part class before ps (part.Function f ty_at None) h =
@@ -83,7 +83,7 @@ owner_of_part class before ps (part.Function f ty_at (Some t)) h =
 owner_of_part class before ps (part.Constructor at is t) h = refl
 owner_of_part class before ps (part.Destructor v at t) h = refl
 
-owners : (class : Spelled) (before ps : List Part) → AllByRecursion PartFits ps → map owner_in (given_by_parts (body_at class) before ps) ≡ filter_map (owner_at (functions_among (before ++ ps))) (given_by_parts part_at before ps)
+owners : (class : Spelled) (before ps : List ClassPart) → AllByRecursion PartFits ps → map owner_in (given_by_parts (body_at class) before ps) ≡ filter_map (owner_at (functions_among (before ++ ps))) (given_by_parts part_at before ps)
 owners class before [] h = refl
 owners class before (p ∷ ps) (h, hs) =
     let fs : List (Function Spelled) = functions_among (before ++ p ∷ ps) in
@@ -99,7 +99,7 @@ all_join : {X : Type 0} (P : X → Type 0) (xs ys : List X) → AllByRecursion P
 all_join P [] ys h k = k
 all_join P (x ∷ xs) ys (a, h) k = (a, all_join P xs ys h k)
 
-body_in : (r : ClassRec Spelled) (before : List Part) (p : Part) → AllByRecursion (IsIn r) (body_at r.name before p)
+body_in : (r : ClassRec Spelled) (before : List ClassPart) (p : ClassPart) → AllByRecursion (IsIn r) (body_at r.name before p)
 body_in r before (part.Label p) = tt
 body_in r before (part.Field m ty_at) = tt
 body_in r before (part.Function f ty_at None) = tt
@@ -107,11 +107,11 @@ body_in r before (part.Function f ty_at (Some t)) = (record { class = refl; init
 body_in r before (part.Constructor at is t) = (record { class = refl; inits = tt }, tt)
 body_in r before (part.Destructor v at t) = (record { class = refl; inits = refl }, tt)
 
-bodies_in_class : (r : ClassRec Spelled) (before ps : List Part) → AllByRecursion (IsIn r) (given_by_parts (body_at r.name) before ps)
+bodies_in_class : (r : ClassRec Spelled) (before ps : List ClassPart) → AllByRecursion (IsIn r) (given_by_parts (body_at r.name) before ps)
 bodies_in_class r before [] = tt
 bodies_in_class r before (p ∷ ps) = all_join (IsIn r) (body_at r.name before p) (given_by_parts (body_at r.name) (before ++ p ∷ []) ps) (body_in r before p) (bodies_in_class r (before ++ p ∷ []) ps)
 
-class_bodies : (text : List ℕ) (n : Lexeme) (bases : List (Base Spelled)) (ps : List Part) (rs : List (ClassRec Spelled)) (more : List Body) → AllByRecursion PartFits ps → AreBodiesOf rs more → AreBodiesOf (record_of text n bases ps ∷ rs) (bodies_of (bytes_of text n) ps ++ more)
+class_bodies : (text : List ℕ) (n : Lexeme) (bases : List (Base Spelled)) (ps : List ClassPart) (rs : List (ClassRec Spelled)) (more : List Body) → AllByRecursion PartFits ps → AreBodiesOf rs more → AreBodiesOf (record_of text n bases ps ∷ rs) (bodies_of (bytes_of text n) ps ++ more)
 class_bodies text n bases ps rs more h k =
     one_class (bodies_of (bytes_of text n) ps) more (All-from_recursion (IsIn (record_of text n bases ps)) (bodies_of (bytes_of text n) ps) (bodies_in_class (record_of text n bases ps) [] ps)) (owners (bytes_of text n) [] ps h) k
 

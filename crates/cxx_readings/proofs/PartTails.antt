@@ -6,7 +6,7 @@ use Rattle.cxx_hierarchy.specs.declared.records.Param.{Param}
 use Rattle.cxx_hierarchy.specs.declared.records.FieldType.{FieldType}
 use Rattle.cxx_hierarchy.specs.declared.records.ReturnType.{ReturnType}
 use Rattle.cxx_syntax.specs.declared.source_text.Init.{Init}
-use Rattle.cxx_syntax.specs.declared.part.Part.{Part}
+use Rattle.cxx_syntax.specs.declared.part.ClassPart.{ClassPart}
 use Rattle.cxx_syntax.specs.Parts.{Spelled, IsAccess, BaseReads, a_base, a_virtual_base, an_access_base, a_virtual_access_base, an_access_virtual_base, MoreBasesRead, no_more_bases, one_more_base, BasesRead, no_bases, some_bases, FieldTypeReads, a_value_field, an_object_field, CountReads, no_count, a_count, ReturnReads, a_void_return, a_value_return, ParamReads, a_param, MoreParamsRead, no_more_params, one_more_param, ParamsRead, no_params, some_params, InitReads, a_member_init, MoreInitsRead, no_more_inits, one_more_init, InitsRead, no_inits, some_inits, VirtualReads, not_virtual, a_virtual, PartReads, a_label, a_field, a_bit_field, a_function, a_pure_function, a_constructor, a_destructor, PartsRead, no_part, one_part}
 use Rattle.cxx_readings.proofs.StatementTails.{body_tail, scalar_tail, value_tail}
 use Rattle.cxx_readings.proofs.RightTails.{Falls, constant_tail, is_tail, name_tail, number_tail}
@@ -67,7 +67,7 @@ pub virtual_tail : {P : List Lexeme → Type 0} {x : Bool} {ts rest : List Lexem
 virtual_tail _ not_virtual p = p
 virtual_tail falls (a_virtual a) p = is_tail falls a p
 
-pub class_part_tail : {P : List Lexeme → Type 0} {text : List ℕ} {is_public : Bool} {x : Part} {ts rest : List Lexeme} → Falls P → PartReads text is_public x ts rest → P ts → P rest
+pub class_part_tail : {P : List Lexeme → Type 0} {text : List ℕ} {is_public : Bool} {x : ClassPart} {ts rest : List Lexeme} → Falls P → PartReads text is_public x ts rest → P ts → P rest
 class_part_tail falls (a_label a b) p = is_tail falls b (access_tail falls a p)
 class_part_tail falls (a_field _ b c d e _ _) p = is_tail falls e (count_tail falls d (name_tail falls c (field_type_tail falls b p)))
 class_part_tail falls (a_bit_field _ b c d e f _ _) p = is_tail falls f (number_tail falls e (is_tail falls d (name_tail falls c (scalar_tail falls b p))))
@@ -76,6 +76,6 @@ class_part_tail falls (a_pure_function a _ c d e f g h i j _ _) p = is_tail fall
 class_part_tail falls (a_constructor a b c d e _) p = body_tail falls e (inits_tail falls d (is_tail falls c (is_tail falls b (is_tail falls a p))))
 class_part_tail falls (a_destructor a b c d e f _) p = body_tail falls f (is_tail falls e (is_tail falls d (is_tail falls c (is_tail falls b (virtual_tail falls a p)))))
 
-pub class_parts_tail : {P : List Lexeme → Type 0} {text : List ℕ} {x : Bool} {y : List Part} {ts rest : List Lexeme} → Falls P → PartsRead text x y ts rest → P ts → P rest
+pub class_parts_tail : {P : List Lexeme → Type 0} {text : List ℕ} {x : Bool} {y : List ClassPart} {ts rest : List Lexeme} → Falls P → PartsRead text x y ts rest → P ts → P rest
 class_parts_tail _ no_part p = p
 class_parts_tail falls (one_part a b) p = class_parts_tail falls b (class_part_tail falls a p)

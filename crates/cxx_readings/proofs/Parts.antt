@@ -17,7 +17,7 @@ use Rattle.cxx_hierarchy.specs.declared.records.ReturnType.{ReturnType}
 use Rattle.cxx_hierarchy.specs.declared.records.ReturnType.TheVariants as return_type
 use Rattle.cxx_syntax.specs.Operands.{spot_of}
 use Rattle.cxx_syntax.specs.Statements.{ScalarReads, ValueReads, a_scalar, a_class_pointer, IsFirst}
-use Rattle.cxx_syntax.specs.declared.part.Part.TheVariants as part
+use Rattle.cxx_syntax.specs.declared.part.ClassPart.TheVariants as part
 use Rattle.cxx_syntax.specs.Parts.{Spelled, max_count, access_of, IsAccess, base_by_token, a_base, a_virtual_base, an_access_base, a_virtual_access_base, an_access_virtual_base, no_more_bases, one_more_base, a_value_field, an_object_field, no_count, a_count, ReturnReads, a_void_return, a_value_return, ParamReads, a_param, no_more_params, one_more_param, no_params, some_params, a_member_init, no_more_inits, one_more_init, no_inits, some_inits, VirtualReads, not_virtual, a_virtual, bit_field, a_label, a_field, a_bit_field, a_function, a_pure_function, a_constructor, a_destructor, public_after, no_part, one_part}
 use Rattle.cxx_readings.proofs.Meanings.{ClassEnds, APart, SomeParts, Got, Gots, all_done, one_done, NextGots, Step}
 use Rattle.cxx_readings.proofs.Fronts.{here, name_here, first_here, name_first, scalar_front, value_front}

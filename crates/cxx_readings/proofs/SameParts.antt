@@ -18,8 +18,8 @@ use Rattle.cxx_hierarchy.specs.declared.records.ValueType.TheVariants as value
 use Rattle.cxx_syntax.specs.Statements.{ScalarReads, ValueReads, a_scalar, a_class_pointer, BodyReads, a_body, IsFirst}
 use Rattle.cxx_syntax.specs.SameTrees.{SameBody}
 use Rattle.cxx_syntax.specs.declared.source_text.Init.{Init}
-use Rattle.cxx_syntax.specs.declared.part.Part.{Part}
-use Rattle.cxx_syntax.specs.declared.part.Part.TheVariants as part
+use Rattle.cxx_syntax.specs.declared.part.ClassPart.{ClassPart}
+use Rattle.cxx_syntax.specs.declared.part.ClassPart.TheVariants as part
 use Rattle.cxx_syntax.specs.Parts.{Spelled, FieldTypeReads, a_value_field, an_object_field, CountReads, no_count, a_count, ReturnReads, a_void_return, a_value_return, ParamsRead, VirtualReads, not_virtual, a_virtual, bit_field, PartReads, a_label, a_field, a_bit_field, a_function, a_pure_function, a_constructor, a_destructor, public_after, PartsRead, no_part, one_part}
 use Rattle.cxx_readings.proofs.Heads.{head, tail, rests, firsts, by_is, by_name, clash}
 use Rattle.cxx_readings.proofs.Leaves.{is_bracket}
@@ -28,7 +28,7 @@ use Rattle.cxx_readings.proofs.SameStatements.{body_same}
 use Rattle.cxx_readings.proofs.SameBases.{by_access, access_same, field_type_same, return_same, type_rest, count_same, params_same, param_mark, inits_same, list_mark}
 
 -- parts that say the same
-pub data SamePart : Part → Part → Type 0 where
+pub data SamePart : ClassPart → ClassPart → Type 0 where
   same_label : {p : Bool} → SamePart (part.Label p) (part.Label p)
   same_field : {m : Member Spelled} {at : ℕ} → SamePart (part.Field m at) (part.Field m at)
   same_pure : {f : Function Spelled} {at : ℕ} → SamePart (part.Function f at None) (part.Function f at None)
@@ -36,9 +36,9 @@ pub data SamePart : Part → Part → Type 0 where
   same_constructor : {at : ℕ} {is : List Init} {t u : BodyTree} → SameBody t u → SamePart (part.Constructor at is t) (part.Constructor at is u)
   same_destructor : {v : Bool} {at : ℕ} {t u : BodyTree} → SameBody t u → SamePart (part.Destructor v at t) (part.Destructor v at u)
 
-pub data SameParts : List Part → List Part → Type 0 where
+pub data SameParts : List ClassPart → List ClassPart → Type 0 where
   no_parts : SameParts [] []
-  more_parts : {p q : Part} {ps qs : List Part} → SamePart p q → SameParts ps qs → SameParts (p ∷ ps) (q ∷ qs)
+  more_parts : {p q : ClassPart} {ps qs : List ClassPart} → SamePart p q → SameParts ps qs → SameParts (p ∷ ps) (q ∷ qs)
 
 -- the same up to what is equal
 function_same : {f g : Function Spelled} {a b : ℕ} {t u : BodyTree} → f ≡ g → a ≡ b → SameBody t u → SamePart (part.Function f a (Some t)) (part.Function g b (Some u))
@@ -97,7 +97,7 @@ part_kind _ x = 1
 abbrev part_at : List Lexeme → ℕ
 part_at ts = part_kind (head ts) (head (tail ts))
 
-kind_of : {text : List ℕ} {b : Bool} {p : Part} {ts r : List Lexeme} → PartReads text b p ts r → ℕ
+kind_of : {text : List ℕ} {b : Bool} {p : ClassPart} {ts r : List Lexeme} → PartReads text b p ts r → ℕ
 kind_of (a_label w k) = 0
 kind_of (a_field f t n c z p q) = 1
 kind_of (a_bit_field f t n o w z p q) = 1
@@ -130,7 +130,7 @@ return_part (a_value_return h) = value_part h
 virtual_part : {ts r : List Lexeme} {v : Lexeme} → Is Virtual v ts r → part_at ts ≡ virtual_kind (head r)
 virtual_part {ts = ts} v = by_is (λ s. part_kind s (head (tail ts))) v ∙ ap (λ us. virtual_kind (head us)) (ap tail v.front)
 
-part_front : {text : List ℕ} {b : Bool} {p : Part} {ts r : List Lexeme} (h : PartReads text b p ts r) → part_at ts ≡ kind_of h
+part_front : {text : List ℕ} {b : Bool} {p : ClassPart} {ts r : List Lexeme} (h : PartReads text b p ts r) → part_at ts ≡ kind_of h
 unfolding kind_of
 part_front {ts = ts} (a_label w k) = by_access (λ s. part_kind s (head (tail ts))) 0 refl refl refl w
 part_front (a_field f t n c z p q) = field_part n t
@@ -236,7 +236,7 @@ pure_equal : {a b : Function Spelled} {i j : ℕ} → a ≡ b → i ≡ j → Sa
 pure_equal {a = a} {b = b} {i = i} {j = j} e h =
     subst (λ m. SamePart (part.Function a i None) (part.Function m j None)) e (subst (λ k. SamePart (part.Function a i None) (part.Function a k None)) h same_pure)
 
-part_same : {text : List ℕ} {b : Bool} {p q : Part} {ts us r s : List Lexeme} → ts ≡ us → PartReads text b p ts r → PartReads text b q us s → SamePart p q × (r ≡ s)
+part_same : {text : List ℕ} {b : Bool} {p q : ClassPart} {ts us r s : List Lexeme} → ts ≡ us → PartReads text b p ts r → PartReads text b q us s → SamePart p q × (r ≡ s)
 unfolding kind_of
 part_same e (a_label w k) (a_label w' k') = (label_same (access_same e w w'), rests (rests e w.front w'.front) k.front k'.front)
 part_same {text = text} {b = b} e (a_field {ty = x} {count = i} f t n c z p q) (a_field {ty = y} {count = j} {n = m} f' t' n' c' z' p' q') =
@@ -299,7 +299,7 @@ part_same e (a_destructor v w n o z d p) (a_destructor v' w' n' o' z' d' p') =
 part_same e h g = absurd (let f : kind_of h ≡ kind_of g = clash part_at e (part_front h) (part_front g) in cc)
 
 -- parts
-public_same : (b : Bool) {p q : Part} → SamePart p q → public_after b p ≡ public_after b q
+public_same : (b : Bool) {p q : ClassPart} → SamePart p q → public_after b p ≡ public_after b q
 public_same b same_label = refl
 public_same b same_field = refl
 public_same b same_pure = refl
@@ -308,15 +308,15 @@ public_same b (same_constructor s) = refl
 public_same b (same_destructor s) = refl
 
 -- no part begins with the brace that closes a class
-no_five : {text : List ℕ} {b : Bool} {p : Part} {ts r : List Lexeme} (h : PartReads text b p ts r) → kind_of h ≡ 5 → ⊥
+no_five : {text : List ℕ} {b : Bool} {p : ClassPart} {ts r : List Lexeme} (h : PartReads text b p ts r) → kind_of h ≡ 5 → ⊥
 unfolding kind_of
 no_five (a_label w k) e = absurd (cc)
 no_five _ e = absurd (cc)
 
-not_at_end : {text : List ℕ} {b : Bool} {p : Part} {ts r : List Lexeme} → PartReads text b p ts r → head ts ≡ CloseBrace → ⊥
+not_at_end : {text : List ℕ} {b : Bool} {p : ClassPart} {ts r : List Lexeme} → PartReads text b p ts r → head ts ≡ CloseBrace → ⊥
 not_at_end {ts = ts} h e = no_five h (sym (part_front h) ∙ ap (λ s. part_kind s (head (tail ts))) e)
 
-pub parts_same : {text : List ℕ} {b c : Bool} {ps qs : List Part} {ts us r s : List Lexeme} → b ≡ c → ts ≡ us → head r ≡ CloseBrace → head s ≡ CloseBrace →
+pub parts_same : {text : List ℕ} {b c : Bool} {ps qs : List ClassPart} {ts us r s : List Lexeme} → b ≡ c → ts ≡ us → head r ≡ CloseBrace → head s ≡ CloseBrace →
     PartsRead text b ps ts r → PartsRead text c qs us s → SameParts ps qs × (r ≡ s)
 parts_same h e x y no_part no_part = (no_parts, e)
 parts_same h e x y no_part (one_part p ps) = absurd (not_at_end p (ap head (sym e) ∙ x))

@@ -6,7 +6,7 @@ use Rattle.cxx_grammar.specs.declared.sort.Sort.TheVariants.{Colon, Comma}
 use Rattle.cxx_hierarchy.specs.declared.records.Base.{Base}
 use Rattle.cxx_hierarchy.specs.declared.records.Param.{Param}
 use Rattle.cxx_syntax.specs.declared.source_text.Init.{Init}
-use Rattle.cxx_syntax.specs.declared.part.Part.{Part}
+use Rattle.cxx_syntax.specs.declared.part.ClassPart.{ClassPart}
 use Rattle.cxx_syntax.specs.declared.part.Item.{Item}
 use Rattle.cxx_syntax.specs.Parts.{Spelled, BaseReads, MoreBasesRead, BasesRead, some_bases, one_more_base, no_more_bases, ParamReads, MoreParamsRead, ParamsRead, some_params, one_more_param, no_more_params, InitReads, MoreInitsRead, InitsRead, some_inits, one_more_init, no_more_inits, PartReads, PartsRead, public_after, one_part, no_part}
 use Rattle.cxx_syntax.specs.Sources.{ItemReads, ItemsRead, one_item, no_item}
@@ -55,14 +55,14 @@ pub all_inits : (text : List ℕ) (rest left : List Lexeme) (items : List Init) 
 all_inits text rest left items so_far = let e : items ++ [] ≡ items = append-nil items in rw e at (so_far [] left no_more_inits)
 
 -- the parts so far, whatever follows
-abbrev pub PartsSoFar : List ℕ → Bool → List Lexeme → Bool → List Lexeme → List Part → Type 0
-PartsSoFar text d rest is_public left done = (ps : List Part) (r : List Lexeme) → PartsRead text is_public ps left r → PartsRead text d (done ++ ps) rest r
+abbrev pub PartsSoFar : List ℕ → Bool → List Lexeme → Bool → List Lexeme → List ClassPart → Type 0
+PartsSoFar text d rest is_public left done = (ps : List ClassPart) (r : List Lexeme) → PartsRead text is_public ps left r → PartsRead text d (done ++ ps) rest r
 
-pub next_part : (text : List ℕ) (d : Bool) (rest : List Lexeme) (is_public : Bool) (left more : List Lexeme) (done : List Part) (p : Part) → PartsSoFar text d rest is_public left done →
+pub next_part : (text : List ℕ) (d : Bool) (rest : List Lexeme) (is_public : Bool) (left more : List Lexeme) (done : List ClassPart) (p : ClassPart) → PartsSoFar text d rest is_public left done →
     PartReads text is_public p left more → PartsSoFar text d rest (public_after is_public p) more (done ++ p ∷ [])
 next_part text d rest is_public left more done p so_far h ps r m = rw append_assoc (so_far (p ∷ ps) r (one_part h m))
 
-pub all_parts : (text : List ℕ) (d : Bool) (rest : List Lexeme) (is_public : Bool) (left : List Lexeme) (done : List Part) → PartsSoFar text d rest is_public left done → PartsRead text d done rest left
+pub all_parts : (text : List ℕ) (d : Bool) (rest : List Lexeme) (is_public : Bool) (left : List Lexeme) (done : List ClassPart) → PartsSoFar text d rest is_public left done → PartsRead text d done rest left
 all_parts text d rest is_public left done so_far = let e : done ++ [] ≡ done = append-nil done in rw e at (so_far [] left no_part)
 
 -- the items so far, whatever follows

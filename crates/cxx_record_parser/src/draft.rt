@@ -5,7 +5,7 @@ ghost use Rattle.cxx_hierarchy.specs.declared.stop.Stop.{Stop};
 ghost use Rattle.cxx_grammar.specs.declared.sort.Lexeme.{Lexeme};
 ghost use Rattle.cxx_hierarchy.specs.declared.records.PartKind.{PartKind};
 ghost use Rattle.cxx_grammar.specs.Lexemes.{bytes_of};
-ghost use Rattle.cxx_syntax.specs.declared.part.Part.{Part};
+ghost use Rattle.cxx_syntax.specs.declared.part.ClassPart.{ClassPart};
 ghost use Rattle.cxx_syntax.specs.Parts.{public_after};
 ghost use Rattle.cxx_syntax.specs.Definitions.{record_of, bodies_of, declared_destructor, entry, a_body};
 ghost use Rattle.cxx_record_parser.specs.invariants.Readers.{IsDraft, max_lexemes};
@@ -15,7 +15,7 @@ use cxx_hierarchy::{
     BaseList, ClassRec, Destructor, Function, FunctionList, Member, MemberList, Name, PartAt,
     PartKind, PartOrder, Stop,
 };
-use cxx_syntax::{Body, BodyList, BodyOwner, BodyTree, InitList, Part};
+use cxx_syntax::{Body, BodyList, BodyOwner, BodyTree, ClassPart, InitList};
 use foundation::Sequence;
 use std::alloc::Global;
 
@@ -39,11 +39,11 @@ fn number_of(len: usize) -> u32
 }
 
 /// Whether what stands behind a part is public.
-pub fn public_after(is_public: bool, part: &Part) -> bool
+pub fn public_after(is_public: bool, part: &ClassPart) -> bool
     ensures { result ≡ public_after is_public part.now }
 {
     match part {
-        Part::Label(label) => *label,
+        ClassPart::Label(label) => *label,
         _ => is_public,
     }
 }
@@ -136,7 +136,7 @@ impl Draft {
         body: Option<BodyTree>,
     ) -> Result<(), Stop>
         requires { length self.old.functions ≤ max_lexemes }
-        ensures ok { OnOk result ((parts : List Part) → IsDraft text.now class.now parts self.old → IsDraft text.now class.now (parts ++ Part.Function function ty_at body ∷ []) self.new) }
+        ensures ok { OnOk result ((parts : List ClassPart) → IsDraft text.now class.now parts self.old → IsDraft text.now class.now (parts ++ ClassPart.Function function ty_at body ∷ []) self.new) }
         ensures err { IfErr result (λ e. e ≡ Stop.NoMemory) }
     {
         let number = number_of(self.functions.len());
@@ -155,30 +155,30 @@ impl Draft {
         alloc: Global,
         text: &[u8],
         class: &Lexeme,
-        part: Part,
+        part: ClassPart,
     ) -> Result<(), Stop>
         requires members { length self.old.members ≤ max_lexemes }
         requires functions { length self.old.functions ≤ max_lexemes }
-        ensures ok { OnOk result ((parts : List Part) → IsDraft text.now class.now parts self.old → IsDraft text.now class.now (parts ++ part ∷ []) self.new) }
+        ensures ok { OnOk result ((parts : List ClassPart) → IsDraft text.now class.now parts self.old → IsDraft text.now class.now (parts ++ part ∷ []) self.new) }
         ensures err { IfErr result (λ e. e ≡ Stop.NoMemory) }
     {
         match part {
-            Part::Label(_) => Ok(()),
-            Part::Field(member, ty_at) => {
+            ClassPart::Label(_) => Ok(()),
+            ClassPart::Field(member, ty_at) => {
                 self.add_field(member, ty_at)?;
                 Ok(())
             }
-            Part::Function(function, ty_at, body) => {
+            ClassPart::Function(function, ty_at, body) => {
                 self.add_function(alloc, text, class, function, ty_at, body)?;
                 Ok(())
             }
-            Part::Constructor(at, inits, tree) => {
+            ClassPart::Constructor(at, inits, tree) => {
                 self.push_entry(PartKind::Constructor, 0, None, at)?;
                 self.has_constructor = true;
                 self.push_body(alloc, text, class, BodyOwner::Constructor, inits, tree)?;
                 Ok(())
             }
-            Part::Destructor(is_virtual, at, tree) => {
+            ClassPart::Destructor(is_virtual, at, tree) => {
                 self.push_entry(PartKind::Destructor, 0, None, at)?;
                 self.destructor = declared_destructor(is_virtual);
                 let owner = BodyOwner::Destructor;
@@ -196,8 +196,8 @@ impl Draft {
         class: &Lexeme,
         bases: BaseList<Name>,
     ) -> Result<(ClassRec<Name>, BodyList), Stop>
-        ensures definition { IfOk result (λ x. (parts : List Part) → IsDraft text.now class.now parts self → x.0 ≡ record_of text.now class.now bases parts) }
-        ensures bodies { IfOk result (λ x. (parts : List Part) → IsDraft text.now class.now parts self → x.1 ≡ bodies_of (bytes_of text.now class.now) parts) }
+        ensures definition { IfOk result (λ x. (parts : List ClassPart) → IsDraft text.now class.now parts self → x.0 ≡ record_of text.now class.now bases parts) }
+        ensures bodies { IfOk result (λ x. (parts : List ClassPart) → IsDraft text.now class.now parts self → x.1 ≡ bodies_of (bytes_of text.now class.now) parts) }
         ensures err { IfErr result (λ e. e ≡ Stop.NoMemory) }
     {
         let Draft {

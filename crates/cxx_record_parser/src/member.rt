@@ -13,7 +13,7 @@ ghost use Rattle.cxx_grammar.specs.Event.{State};
 ghost use Rattle.cxx_grammar.specs.invariants.Run.{Follows};
 ghost use Rattle.cxx_grammar.specs.Table.{Only, ANumber, FieldEnd};
 ghost use Rattle.cxx_syntax.specs.Statements.{IsFirst, ScalarReads};
-ghost use Rattle.cxx_syntax.specs.declared.part.Part.{Part};
+ghost use Rattle.cxx_syntax.specs.declared.part.ClassPart.{ClassPart};
 ghost use Rattle.cxx_syntax.specs.Parts.{access_of, FieldTypeReads, PartReads};
 
 use crate::value::{count, held};
@@ -21,20 +21,20 @@ use cxx_grammar::{Lexeme, Sort, name_of, take, take_number};
 use cxx_hierarchy::{
     FieldType, Function, Member, Name, ParamList, ReturnType, Scalar, Stop, ValueType,
 };
-use cxx_syntax::Part;
+use cxx_syntax::ClassPart;
 use std::alloc::Global;
 
 /// Reads the `:` of an access label after its word.
 ///
 /// Errors: E1, E21 or E2 at the first token that fits no form.
-pub fn label(first: Lexeme, access: bool, rest: &[Lexeme]) -> Result<(Part, &[Lexeme]), Stop>
+pub fn label(first: Lexeme, access: bool, rest: &[Lexeme]) -> Result<(ClassPart, &[Lexeme]), Stop>
     requires { access_of first.sort ≡ Some access }
     ensures reads { IfOk result (λ x. (text : List ℕ) (is_public : Bool) → PartReads text is_public x.0 (first ∷ rest.now) x.1.now) }
     ensures shorter { IfOk result (λ x. length x.1.now ≤ length rest.now) }
     ensures follows { (s : State) → Follows (λ x. x.1.now) s (Only Sort.Colon ∷ []) rest.now s [] result }
 {
     let (_colon, rest) = take(rest, Sort::Colon)?;
-    Ok((Part::Label(access), rest))
+    Ok((ClassPart::Label(access), rest))
 }
 
 /// Reads `["[" number "]"] ";"` after the type and the name of a field.
@@ -48,7 +48,7 @@ pub fn field_end<'a>(
     ty: FieldType<Name>,
     word: Lexeme,
     rest: &'a [Lexeme],
-) -> Result<(Part, &'a [Lexeme]), Stop>
+) -> Result<(ClassPart, &'a [Lexeme]), Stop>
     ensures reads { IfOk result (λ x. (ts a : List Lexeme) → IsFirst first ts → FieldTypeReads text.now ty ts a → IsName word a rest.now → PartReads text.now is_public x.0 ts x.1.now) }
     ensures shorter { IfOk result (λ x. length x.1.now ≤ length rest.now) }
     ensures follows { (s : State) → Follows (λ x. x.1.now) s (FieldEnd ∷ []) rest.now s [] result }
@@ -65,7 +65,7 @@ pub fn field_end<'a>(
         is_public,
         at: word.at,
     };
-    Ok((Part::Field(member, first.at), rest))
+    Ok((ClassPart::Field(member, first.at), rest))
 }
 
 /// Reads `":" number ";"` after the type and the name of a bit-field (ISO C++03 9.6).
@@ -79,7 +79,7 @@ pub fn bit_field_end<'a>(
     ty: Scalar,
     word: Lexeme,
     rest: &'a [Lexeme],
-) -> Result<(Part, &'a [Lexeme]), Stop>
+) -> Result<(ClassPart, &'a [Lexeme]), Stop>
     ensures reads { IfOk result (λ x. (ts a : List Lexeme) → IsFirst first ts → ScalarReads ty ts a → IsName word a rest.now → PartReads text.now is_public x.0 ts x.1.now) }
     ensures shorter { IfOk result (λ x. length x.1.now ≤ length rest.now) }
     ensures follows { (s : State) → Follows (λ x. x.1.now) s (Only Sort.Colon ∷ ANumber ∷ Only Sort.Semicolon ∷ []) rest.now s [] result }
@@ -97,7 +97,7 @@ pub fn bit_field_end<'a>(
         is_public,
         at: word.at,
     };
-    Ok((Part::Field(member, first.at), rest))
+    Ok((ClassPart::Field(member, first.at), rest))
 }
 
 /// The function that a name token gives. The error is want of memory.

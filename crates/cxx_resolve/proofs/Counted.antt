@@ -5,7 +5,7 @@ use Rattle.std.proofs.lemmas.List.Elements.{All-nil, All-cons, All-append, All-h
 use Rattle.cxx_grammar.specs.declared.sort.Lexeme.{Lexeme}
 use Rattle.cxx_syntax.specs.declared.tree.BodyTree.{BodyTree}
 use Rattle.cxx_syntax.specs.Statements.{BodyReads}
-use Rattle.cxx_syntax.specs.declared.part.Part.{Part}
+use Rattle.cxx_syntax.specs.declared.part.ClassPart.{ClassPart}
 use Rattle.cxx_syntax.specs.declared.part.Item.{Item}
 use Rattle.cxx_syntax.specs.declared.source_text.Body.{Body}
 use Rattle.cxx_syntax.specs.declared.source_text.SourceText.{SourceText}
@@ -35,7 +35,7 @@ none_short n = All-nil (IsShortBody n)
 one_short : (n : ℕ) (b : Body) → IsShort n b.tree → AllShort n (b ∷ [])
 one_short n b h = All-cons (IsShortBody n) b [] h (none_short n)
 
-part_less : {text : List ℕ} {is_public : Bool} {p : Part} {ts rest : List Lexeme} → PartReads text is_public p ts rest → length rest ≤ length ts
+part_less : {text : List ℕ} {is_public : Bool} {p : ClassPart} {ts rest : List Lexeme} → PartReads text is_public p ts rest → length rest ≤ length ts
 part_less (a_label w k) = omega (arith, one_less w.front, one_less k.front)
 part_less (a_field f t n c z e g) = omega (arith, field_less t, one_less n.front, count_less c, one_less z.front)
 part_less (a_bit_field f t n o w z e g) = omega (arith, scalar_less t, one_less n.front, one_less o.front, one_less w.front, one_less z.front)
@@ -45,7 +45,7 @@ part_less (a_pure_function v f r n o ps z w q k e g) =
 part_less (a_constructor n o z is b e) = omega (arith, one_less n.front, one_less o.front, one_less z.front, inits_less is, body_less b)
 part_less (a_destructor v w n o z b e) = omega (arith, virtual_less v, one_less w.front, one_less n.front, one_less o.front, one_less z.front, body_less b)
 
-part_short : {text : List ℕ} {is_public : Bool} {p : Part} {ts rest : List Lexeme} (n : ℕ) (class : Spelled) (before : List Part) → PartReads text is_public p ts rest → length ts ≤ n → AllShort n (body_at class before p)
+part_short : {text : List ℕ} {is_public : Bool} {p : ClassPart} {ts rest : List Lexeme} (n : ℕ) (class : Spelled) (before : List ClassPart) → PartReads text is_public p ts rest → length ts ≤ n → AllShort n (body_at class before p)
 part_short n class before (a_label w k) m = none_short n
 part_short n class before (a_field f t x c z e g) m = none_short n
 part_short n class before (a_bit_field f t x o w z e g) m = none_short n
@@ -55,11 +55,11 @@ part_short n class before (a_pure_function v f r x o ps z w q k e g) m = none_sh
 part_short n class before (a_constructor x o z is b e) m = one_short n _ (short n b (omega (arith, m, one_less x.front, one_less o.front, one_less z.front, inits_less is)))
 part_short n class before (a_destructor v w x o z b e) m = one_short n _ (short n b (omega (arith, m, virtual_less v, one_less w.front, one_less x.front, one_less o.front, one_less z.front)))
 
-parts_less : {text : List ℕ} {is_public : Bool} {ps : List Part} {ts rest : List Lexeme} → PartsRead text is_public ps ts rest → length rest ≤ length ts
+parts_less : {text : List ℕ} {is_public : Bool} {ps : List ClassPart} {ts rest : List Lexeme} → PartsRead text is_public ps ts rest → length rest ≤ length ts
 parts_less no_part = omega arith
 parts_less (one_part p ps) = omega (arith, part_less p, parts_less ps)
 
-parts_short : {text : List ℕ} {is_public : Bool} {ps : List Part} {ts rest : List Lexeme} (n : ℕ) (class : Spelled) (before : List Part) → PartsRead text is_public ps ts rest → length ts ≤ n →
+parts_short : {text : List ℕ} {is_public : Bool} {ps : List ClassPart} {ts rest : List Lexeme} (n : ℕ) (class : Spelled) (before : List ClassPart) → PartsRead text is_public ps ts rest → length ts ≤ n →
     AllShort n (given_by_parts (body_at class) before ps)
 parts_short n class before no_part m = none_short n
 parts_short n class before (one_part {p = p} {ps = ps} x xs) m =

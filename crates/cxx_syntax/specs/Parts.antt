@@ -21,8 +21,8 @@ use Rattle.cxx_syntax.specs.declared.tree.BodyTree.{BodyTree}
 use Rattle.cxx_syntax.specs.Operands.{spot_of, ConstantReads}
 use Rattle.cxx_syntax.specs.Statements.{ScalarReads, ValueReads, IsFirst, BodyReads}
 use Rattle.cxx_syntax.specs.declared.source_text.Init.{Init}
-use Rattle.cxx_syntax.specs.declared.part.Part.{Part}
-use Rattle.cxx_syntax.specs.declared.part.Part.TheVariants as part
+use Rattle.cxx_syntax.specs.declared.part.ClassPart.{ClassPart}
+use Rattle.cxx_syntax.specs.declared.part.ClassPart.TheVariants as part
 
 -- a name as the source spells it
 abbrev pub Spelled : Type 0
@@ -144,7 +144,7 @@ bit_field text n k w is_public = record {
 }
 
 -- a part of a class, where what stands there is public or not
-pub data PartReads (text : List ℕ) (is_public : Bool) : Part → List Lexeme → List Lexeme → Type 0 where
+pub data PartReads (text : List ℕ) (is_public : Bool) : ClassPart → List Lexeme → List Lexeme → Type 0 where
   -- access ":"
   a_label : {p : Bool} {ts a rest : List Lexeme} {w k : Lexeme} →
       IsAccess p w ts a → Is Colon k a rest → PartReads text is_public (part.Label p) ts rest
@@ -180,12 +180,12 @@ pub data PartReads (text : List ℕ) (is_public : Bool) : Part → List Lexeme �
       at ≡ n.at → PartReads text is_public (part.Destructor v at t) ts rest
 
 -- whether what stands behind a part is public: an access label holds up to the next one
-abbrev pub public_after : Bool → Part → Bool
+abbrev pub public_after : Bool → ClassPart → Bool
 public_after is_public (part.Label p) = p
 public_after is_public _ = is_public
 
 -- {part}
-pub data PartsRead (text : List ℕ) : Bool → List Part → List Lexeme → List Lexeme → Type 0 where
+pub data PartsRead (text : List ℕ) : Bool → List ClassPart → List Lexeme → List Lexeme → Type 0 where
   no_part : {is_public : Bool} {ts : List Lexeme} → PartsRead text is_public [] ts ts
-  one_part : {is_public : Bool} {p : Part} {ps : List Part} {ts a rest : List Lexeme} →
+  one_part : {is_public : Bool} {p : ClassPart} {ps : List ClassPart} {ts a rest : List Lexeme} →
       PartReads text is_public p ts a → PartsRead text (public_after is_public p) ps a rest → PartsRead text is_public (p ∷ ps) ts rest

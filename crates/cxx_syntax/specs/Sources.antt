@@ -16,7 +16,7 @@ use Rattle.cxx_syntax.specs.Statements.{ValueReads, IsFirst, BodyReads}
 use Rattle.cxx_syntax.specs.declared.source_text.Global.{Global}
 use Rattle.cxx_syntax.specs.declared.source_text.Body.{Body}
 use Rattle.cxx_syntax.specs.declared.source_text.SourceText.{SourceText}
-use Rattle.cxx_syntax.specs.declared.part.Part.{Part}
+use Rattle.cxx_syntax.specs.declared.part.ClassPart.{ClassPart}
 use Rattle.cxx_syntax.specs.declared.part.Item.{Item}
 use Rattle.cxx_syntax.specs.declared.part.Item.TheVariants as item
 use Rattle.cxx_syntax.specs.Parts.{Spelled, BasesRead, PartsRead}
@@ -35,7 +35,7 @@ pub record IsClassKey (default : Bool) (l : Lexeme) (ts rest : List Lexeme) : Ty
 
 pub data ItemReads (text : List ℕ) : Item → List Lexeme → List Lexeme → Type 0 where
   -- ("struct" | "class") name [":" base {"," base}] "{" {part} "}" ";"
-  a_class : {c : ClassRec Spelled} {bs : List Body} {default : Bool} {bases : List (Base Spelled)} {parts : List Part}
+  a_class : {c : ClassRec Spelled} {bs : List Body} {default : Bool} {bases : List (Base Spelled)} {parts : List ClassPart}
       {ts a b d e f g rest : List Lexeme} {k n o z q : Lexeme} →
       IsClassKey default k ts a → IsName n a b → BasesRead text default bases b d →
       Is OpenBrace o d e → PartsRead text default parts e f → Is CloseBrace z f g → Is Semicolon q g rest →

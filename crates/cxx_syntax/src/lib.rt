@@ -17,7 +17,7 @@ pub mod source_text;
 pub mod tree;
 
 pub use crate::operand::{constant, spot};
-pub use crate::part::{Item, Part};
+pub use crate::part::{ClassPart, Item};
 pub use crate::scalar::is_scalar_word;
 pub use crate::source_text::{
     Body, BodyList, BodyOwner, Global, GlobalList, Init, InitList, SourceText,

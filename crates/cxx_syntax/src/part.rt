@@ -6,7 +6,7 @@ use cxx_hierarchy::{ClassRec, Function, Member, Name};
 
 /// A part of a class.
 #[derive(Drop)]
-pub enum Part {
+pub enum ClassPart {
     /// An access label, and whether it is `public`.
     Label(bool),
     /// A field, and the byte of its type's first token.

@@ -18,8 +18,8 @@ use Rattle.cxx_overrider.specs.Virtuals.{is_virtual}
 use Rattle.cxx_overrider.specs.Overriding.{IsVirtual}
 use Rattle.cxx_overrider.proofs.MarkLemmas.{part_itself}
 use Rattle.cxx_search.proofs.Virtuals.{virtual_test}
-use Rattle.cxx_syntax.specs.declared.part.Part.{Part}
-use Rattle.cxx_syntax.specs.declared.part.Part.TheVariants as part
+use Rattle.cxx_syntax.specs.declared.part.ClassPart.{ClassPart}
+use Rattle.cxx_syntax.specs.declared.part.ClassPart.TheVariants as part
 use Rattle.cxx_syntax.specs.declared.part.Item.{Item}
 use Rattle.cxx_syntax.specs.declared.source_text.SourceText.{SourceText}
 use Rattle.cxx_syntax.specs.Parts.{Spelled, PartReads, a_label, a_field, a_bit_field, a_function, a_pure_function, a_constructor, a_destructor, PartsRead, no_part, one_part}
@@ -33,14 +33,14 @@ use Rattle.cxx_typing.specs.Scopes.{PureAreVirtual}
 abbrev SaysSo : Function Spelled → Type 0
 SaysSo f = f.is_pure ≡ true → f.is_virtual ≡ true
 
-abbrev PartSays : Part → Type 0
+abbrev PartSays : ClassPart → Type 0
 PartSays (part.Label p) = Unit {0}
 PartSays (part.Field m ty_at) = Unit {0}
 PartSays (part.Function f ty_at body) = SaysSo f
 PartSays (part.Constructor at is t) = Unit {0}
 PartSays (part.Destructor v at t) = Unit {0}
 
-part_says : {text : List ℕ} {is_public : Bool} {p : Part} {ts rest : List Lexeme} → PartReads text is_public p ts rest → PartSays p
+part_says : {text : List ℕ} {is_public : Bool} {p : ClassPart} {ts rest : List Lexeme} → PartReads text is_public p ts rest → PartSays p
 part_says (a_label i k) = tt
 part_says (a_field f ty n c z e at) = tt
 part_says (a_bit_field f ty n o w z e at) = tt
@@ -49,11 +49,11 @@ part_says (a_pure_function v f r n o ps z w q k e at) = λ pure. ap (λ (g : Fun
 part_says (a_constructor n o z is b at) = tt
 part_says (a_destructor v w n o z b at) = tt
 
-parts_say : {text : List ℕ} {is_public : Bool} {ps : List Part} {ts rest : List Lexeme} → PartsRead text is_public ps ts rest → (p : Part) → Has ps p → PartSays p
+parts_say : {text : List ℕ} {is_public : Bool} {ps : List ClassPart} {ts rest : List Lexeme} → PartsRead text is_public ps ts rest → (p : ClassPart) → Has ps p → PartSays p
 parts_say no_part p has = absurd has
 parts_say (one_part x xs) p has = ⊎_elim (λ same. subst PartSays same (part_says x)) (λ later. parts_say xs p later) has
 
-function_says : (p : Part) (f : Function Spelled) → function_from p ≡ Some f → PartSays p → SaysSo f
+function_says : (p : ClassPart) (f : Function Spelled) → function_from p ≡ Some f → PartSays p → SaysSo f
 function_says (part.Label p) f e says = absurd (cc)
 function_says (part.Field m ty_at) f e says = absurd (cc)
 function_says (part.Function g ty_at body) f e says = let same : g ≡ f = cc in subst SaysSo same says

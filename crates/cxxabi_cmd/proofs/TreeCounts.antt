@@ -7,7 +7,7 @@ use Rattle.cxx_grammar.specs.declared.sort.Lexeme.{Lexeme}
 use Rattle.cxx_grammar.specs.Lexemes.{bytes_of}
 use Rattle.cxx_syntax.specs.declared.tree.BodyTree.{BodyTree}
 use Rattle.cxx_syntax.specs.Statements.{BodyReads}
-use Rattle.cxx_syntax.specs.declared.part.Part.{Part}
+use Rattle.cxx_syntax.specs.declared.part.ClassPart.{ClassPart}
 use Rattle.cxx_syntax.specs.declared.part.Item.{Item}
 use Rattle.cxx_syntax.specs.declared.source_text.Body.{Body}
 use Rattle.cxx_syntax.specs.declared.source_text.SourceText.{SourceText}
@@ -41,7 +41,7 @@ source_weight source = sum_by body_weight source.bodies + main_weight source.mai
 body_within : {text : List ℕ} {t : BodyTree} {ts rest : List Lexeme} → BodyReads text t ts rest → tree_weight t + length rest ≤ length ts
 body_within x = omega (arith, body_counted x)
 
-part_within : {text : List ℕ} {is_public : Bool} {p : Part} {ts rest : List Lexeme} (class : Spelled) (before : List Part) → PartReads text is_public p ts rest → sum_by body_weight (body_at class before p) + length rest ≤ length ts
+part_within : {text : List ℕ} {is_public : Bool} {p : ClassPart} {ts rest : List Lexeme} (class : Spelled) (before : List ClassPart) → PartReads text is_public p ts rest → sum_by body_weight (body_at class before p) + length rest ≤ length ts
 part_within class before (a_label w k) = omega (arith, one_less w.front, one_less k.front)
 part_within class before (a_field f t n c z e g) = omega (arith, field_less t, one_less n.front, count_less c, one_less z.front)
 part_within class before (a_bit_field f t n o w z e g) = omega (arith, scalar_less t, one_less n.front, one_less o.front, one_less w.front, one_less z.front)
@@ -51,12 +51,12 @@ part_within class before (a_pure_function v f r n o ps z w q k e g) =
 part_within class before (a_constructor n o z is b e) = omega (arith, one_less n.front, one_less o.front, one_less z.front, inits_less is, body_within b)
 part_within class before (a_destructor v w n o z b e) = omega (arith, virtual_less v, one_less w.front, one_less n.front, one_less o.front, one_less z.front, body_within b)
 
-parts_within : {text : List ℕ} {is_public : Bool} {ps : List Part} {ts rest : List Lexeme} (class : Spelled) (before : List Part) → PartsRead text is_public ps ts rest → sum_by body_weight (given_by_parts (body_at class) before ps) + length rest ≤ length ts
+parts_within : {text : List ℕ} {is_public : Bool} {ps : List ClassPart} {ts rest : List Lexeme} (class : Spelled) (before : List ClassPart) → PartsRead text is_public ps ts rest → sum_by body_weight (given_by_parts (body_at class) before ps) + length rest ≤ length ts
 parts_within class before no_part = omega arith
 parts_within class before (one_part {p = p} {ps = ps} x xs) =
     omega (arith, part_within class before x, parts_within class (before ++ p ∷ []) xs, sum_by-append body_weight (body_at class before p) (given_by_parts (body_at class) (before ++ p ∷ []) ps))
 
-class_within : {text : List ℕ} {is_public : Bool} {ps : List Part} {ts rest : List Lexeme} {bs : List Body} (class : Spelled) → bs ≡ bodies_of class ps → PartsRead text is_public ps ts rest → sum_by body_weight bs + length rest ≤ length ts
+class_within : {text : List ℕ} {is_public : Bool} {ps : List ClassPart} {ts rest : List Lexeme} {bs : List Body} (class : Spelled) → bs ≡ bodies_of class ps → PartsRead text is_public ps ts rest → sum_by body_weight bs + length rest ≤ length ts
 class_within class same x = omega (arith, ap (sum_by body_weight) same, parts_within class [] x)
 
 -- the bodies of a class, or `main`

@@ -12,7 +12,7 @@ use Rattle.cxx_grammar.specs.invariants.Run.{TasksLead, Stops}
 use Rattle.cxx_hierarchy.specs.declared.stop.Stop.{Stop}
 use Rattle.cxx_hierarchy.specs.declared.records.ReturnType.{ReturnType}
 use Rattle.cxx_syntax.specs.Statements.{IsFirst}
-use Rattle.cxx_syntax.specs.declared.part.Part.{Part}
+use Rattle.cxx_syntax.specs.declared.part.ClassPart.{ClassPart}
 use Rattle.cxx_syntax.specs.declared.part.Item.{Item}
 use Rattle.cxx_syntax.specs.declared.part.Item.TheVariants as item
 use Rattle.cxx_record_parser.specs.declared.draft.Draft.{Draft}
@@ -62,7 +62,7 @@ pub record HeadReads (text : List ℕ) (v : Bool) (f : Lexeme) (r : ReturnType S
   pub sign : Is OpenParen open_sign open_at rest
 
 -- what these parts of a class of this name make
-pub record IsDraft (text : List ℕ) (class : Lexeme) (parts : List Part) (d : Draft) : Type 0 where
+pub record IsDraft (text : List ℕ) (class : Lexeme) (parts : List ClassPart) (d : Draft) : Type 0 where
   pub members : d.members ≡ members_among parts
   pub functions : d.functions ≡ functions_among parts
   pub order : d.order ≡ order_of parts
