@@ -1,5 +1,5 @@
 -- Places and calls are refused, or typed.
-use Rattle.std.proofs.Common.{ℕ, ◌+◌, nat_eq, nat_lt, Option, Some, None, List, [], ◌∷◌, length, slice_get, refl}
+use Rattle.std.proofs.Common.{ℕ, ◌+◌, nat_eq, nat_lt, Option, Some, None, Result, List, [], ◌∷◌, length, slice_get, refl}
 use Rattle.cxx_hierarchy.specs.declared.records.ClassId.{ClassId}
 use Rattle.cxx_hierarchy.specs.declared.records.ValueType.{ValueType}
 use Rattle.cxx_hierarchy.specs.declared.records.FieldType.{FieldType}
@@ -21,6 +21,7 @@ use Rattle.cxx_syntax.specs.declared.tree.CallText.{CallText}
 use Rattle.cxx_program.specs.declared.statement.TypedPlace.{TypedPlace}
 use Rattle.cxx_expression.specs.declared.look_up.Looked.{Looked}
 use Rattle.cxx_expression.specs.declared.look_up.Looked.TheVariants as looked
+use Rattle.cxx_expression.specs.declared.faults.Fault.{Fault}
 use Rattle.cxx_expression.specs.declared.scene.Scene.{Scene}
 use Rattle.cxx_expression.specs.declared.scene.Setting.{Setting}
 use Rattle.cxx_expression.specs.declared.typed.FieldPlace.{FieldPlace}
@@ -159,13 +160,13 @@ c_receiver : (h : Classes) (e : Setting) (s : Scene) (at : ℕ) (k : ClassId) (x
 unfolding receiver_of
 c_receiver h e s at k x = complete_bind _ _ (c_pointer e s at x) (λ p. complete_bind _ _ (c_path h at p.class k) (λ path. complete_pure _))
 
-c_passed : (h : Classes) (e : Setting) (s : Scene) (at : ℕ) (k : ClassId) (call : CallText) (f : Option FoundFunction) → IsComplete (both (receiver_of h e s at k call.pointer) (arguments_of h e s at (found_parameters f) 0 call.arguments))
+c_passed : (h : Classes) (e : Setting) (s : Scene) (at : ℕ) (k : ClassId) (call : CallText) (f : Result FoundFunction Fault) → IsComplete (both (receiver_of h e s at k call.pointer) (arguments_of h e s at (found_parameters f) 0 call.arguments))
 c_passed h e s at k call f = complete_both _ _ (c_receiver h e s at k call.pointer) (c_arguments h e s at (found_parameters f) 0 call.arguments)
 
 c_qualified : (h : Classes) (e : Setting) (s : Scene) (at : ℕ) (call : CallText) (x : Spot) → IsComplete (qualified_call h e s at call x >>= (λ v. kept v.call))
 unfolding qualified_call
 c_qualified h e s at call x = complete_nested (class_of_spot h x) _ (λ v. kept v.call) (complete_bind _ _ (c_class_of h x) (λ k.
-    let passed = λ (f : Option FoundFunction). both (receiver_of h e s at k call.pointer) (arguments_of h e s at (found_parameters f) 0 call.arguments) in
+    let passed = λ (f : Result FoundFunction Fault). both (receiver_of h e s at k call.pointer) (arguments_of h e s at (found_parameters f) 0 call.arguments) in
     complete_nested (beside (named_function h at k call) passed) (λ r. pure (qualified_value r.0 r.1)) (λ v. kept v.call)
     (beside_whole (named_function h at k call) passed (λ f o. qualified_value f o) (λ v. v.call) (λ f r. refl) (c_named h at k call) (c_passed h e s at k call))))
 

@@ -1,5 +1,5 @@
 -- Right sides are refused, or typed.
-use Rattle.std.proofs.Common.{◌≡◌, ◌≤◌, ℕ, Bool, true, false, nat_eq, Option, Some, None, List, length, arith}
+use Rattle.std.proofs.Common.{◌≡◌, ◌≤◌, ℕ, Bool, true, false, nat_eq, Result, Ok, Err, List, length, arith}
 use Rattle.cxx_hierarchy.specs.declared.records.ClassId.{ClassId}
 use Rattle.cxx_hierarchy.specs.declared.records.ValueType.{ValueType}
 use Rattle.cxx_hierarchy.specs.declared.records.ValueType.TheVariants as type
@@ -167,18 +167,18 @@ c_address : (h : Classes) (e : Setting) (s : Scene) (at : ℕ) (x : PlaceText) �
 unfolding address_right
 c_address h e s at x = complete_nested (object_place_of h e s at x) _ _ (complete_bind _ _ (c_object_place h e s at x) (λ object. complete_pure _))
 
-pub c_as_result : (at : ℕ) (call : Option TypedCall) (r : ReturnType ClassId) → IsComplete (as_result at call r)
+pub c_as_result : (at : ℕ) (call : Result TypedCall Fault) (r : ReturnType ClassId) → IsComplete (as_result at call r)
 c_as_result at call returns.Void = complete_fail _ _
 c_as_result at call (returns.Value t) = complete_pure _
 
-result_grows : (at : ℕ) (call : Option TypedCall) (r : ReturnType ClassId) (b : List Fault) → length b ≤ length ((all_of (as_result at call r)).faults b)
+result_grows : (at : ℕ) (call : Result TypedCall Fault) (r : ReturnType ClassId) (b : List Fault) → length b ≤ length ((all_of (as_result at call r)).faults b)
 result_grows at call returns.Void b = (complete_fail {X = TypedRight} rule.TypeMismatch at).grows b
 result_grows at call (returns.Value t) b = omega arith
 
-result_whole : (at : ℕ) (o : Option TypedCall) (r : ReturnType ClassId) (call : TypedCall) → o ≡ Some call → IsComplete (all_of (as_result at o r))
+result_whole : (at : ℕ) (o : Result TypedCall Fault) (r : ReturnType ClassId) (call : TypedCall) → o ≡ Ok call → IsComplete (all_of (as_result at o r))
 result_whole at o returns.Void call is = complete_fail _ _
-result_whole at None (returns.Value t) call is = absurd (cc)
-result_whole at (Some c) (returns.Value t) call is = complete_pure _
+result_whole at (Err e) (returns.Value t) call is = absurd (cc)
+result_whole at (Ok c) (returns.Value t) call is = complete_pure _
 
 c_call_right : (h : Classes) (e : Setting) (s : Scene) (at : ℕ) (x : CallText) → IsComplete (all_of (call_right h e s at x))
 unfolding call_right
@@ -206,13 +206,13 @@ c_whole_right : (h : Classes) (e : Setting) (s : Scene) (at : ℕ) (r : Right) �
 unfolding whole_right
 c_whole_right h e s at r = c_right h e s at r
 
-kept_grows : {X Y : Type 0} (o : Option X) (f : X → Y) (b : List Fault) → length b ≤ length ((kept o >>= (λ x. pure (f x))).faults b)
-kept_grows None f b = omega arith
-kept_grows (Some x) f b = omega arith
+kept_grows : {X Y : Type 0} (o : Result X Fault) (f : X → Y) (b : List Fault) → length b ≤ length ((kept o >>= (λ x. pure (f x))).faults b)
+kept_grows (Err e) f b = omega arith
+kept_grows (Ok x) f b = omega arith
 
-kept_whole : {X Y : Type 0} (o : Option X) (f : X → Y) (x : X) → o ≡ Some x → IsComplete (kept o >>= (λ x. pure (f x)))
-kept_whole None f x is = absurd (cc)
-kept_whole (Some y) f x is = complete_pure _
+kept_whole : {X Y : Type 0} (o : Result X Fault) (f : X → Y) (x : X) → o ≡ Ok x → IsComplete (kept o >>= (λ x. pure (f x)))
+kept_whole (Err e) f x is = absurd (cc)
+kept_whole (Ok y) f x is = complete_pure _
 
 pub value_grows : (h : Classes) (at : ℕ) (t : ValueType ClassId) (v : RightValue) (b : List Fault) → length b ≤ length ((converted_value h at t v).faults b)
 unfolding converted_value
@@ -220,7 +220,7 @@ value_grows h at t v b =
     let p = conversion_of h at v.ty v.is_null t in
     omega (arith, (c_conversion h at v.ty v.is_null t).grows b, whole_grows p.typed (λ c. kept v.right >>= (λ right. pure (converted right c))) (λ c f. kept_grows v.right (λ right. converted right c) f) (p.faults b))
 
-pub c_value : (h : Classes) (at : ℕ) (t : ValueType ClassId) (v : RightValue) (right : TypedRight) → v.right ≡ Some right → IsComplete (converted_value h at t v)
+pub c_value : (h : Classes) (at : ℕ) (t : ValueType ClassId) (v : RightValue) (right : TypedRight) → v.right ≡ Ok right → IsComplete (converted_value h at t v)
 unfolding converted_value
 c_value h at t v right is = complete_bind _ _ (c_conversion h at v.ty v.is_null t) (λ c. kept_whole v.right (λ right. converted right c) right is)
 

@@ -1,5 +1,5 @@
 -- Calls. `at` is the place of the statement's first token.
-use Rattle.std.specs.Prelude.{ℕ, ◌+◌, Bool, false, nat_eq, if◌then◌else◌, Option, Some, None, List, [], ◌∷◌, length, map, slice_get, option_map}
+use Rattle.std.specs.Prelude.{ℕ, ◌+◌, Bool, false, nat_eq, if◌then◌else◌, Option, Some, None, Result, Ok, Err, List, [], ◌∷◌, length, map, slice_get}
 use Rattle.cxx_hierarchy.specs.declared.records.ClassId.{ClassId}
 use Rattle.cxx_hierarchy.specs.declared.records.ValueType.{ValueType}
 use Rattle.cxx_hierarchy.specs.declared.records.Param.{Param}
@@ -17,6 +17,7 @@ use Rattle.cxx_syntax.specs.declared.tree.PointerText.{PointerText}
 use Rattle.cxx_program.specs.declared.operand.Argument.{Argument}
 use Rattle.cxx_program.specs.declared.operand.Conversion.TheVariants as conversion
 use Rattle.cxx_program.specs.declared.statement.TypedCall.{TypedCall}
+use Rattle.cxx_expression.specs.declared.faults.Fault.{Fault}
 use Rattle.cxx_expression.specs.declared.look_up.Looked.{Looked}
 use Rattle.cxx_expression.specs.declared.look_up.Looked.TheVariants as looked
 use Rattle.cxx_expression.specs.declared.scene.Scene.{Scene}
@@ -26,7 +27,7 @@ use Rattle.cxx_expression.specs.declared.typed.FoundFunction.{FoundFunction}
 use Rattle.cxx_expression.specs.declared.typed.Target.{Target}
 use Rattle.cxx_expression.specs.declared.typed.Receiver.{Receiver}
 use Rattle.cxx_expression.specs.declared.typed.CallValue.{CallValue}
-use Rattle.cxx_expression.specs.Checked.{Checked, pure, fail, warn, ◌>>=◌, both, beside, kept}
+use Rattle.cxx_expression.specs.Checked.{Checked, pure, fail, warn, ◌>>=◌, both, beside, kept, where_typed}
 use Rattle.cxx_expression.specs.Lookups.{looked_up, function_record}
 use Rattle.cxx_expression.specs.Values.{operand_of, pointer_of, class_of_spot, path_to, converted_operand, argument}
 
@@ -94,9 +95,9 @@ arguments_of h e s at parameters n (x ∷ xs) = do
   pure (r.0 ∷ r.1)
 
 -- the types of the parameters of a function that was found
-abbrev pub target_parameters : Option Target → List (ValueType ClassId)
-target_parameters None = []
-target_parameters (Some t) = t.found.parameters
+abbrev pub target_parameters : Result Target Fault → List (ValueType ClassId)
+target_parameters (Err f) = []
+target_parameters (Ok t) = t.found.parameters
 
 -- a call in the class of the pointer: the final overrider runs where the function is virtual (ISO C++03 10.3 p6)
 abbrev pub dispatched : Target → Bool → List Argument → TypedCall
@@ -111,8 +112,8 @@ dispatched t virtual arguments = record {
 }
 
 -- what it returns rests on the function alone
-abbrev pub plain_value : Target → Bool → Option (List Argument) → CallValue
-plain_value t virtual arguments = record { call = option_map (dispatched t virtual) arguments; returns = t.found.returns }
+abbrev pub plain_value : Target → Bool → Result (List Argument) Fault → CallValue
+plain_value t virtual arguments = record { call = where_typed (dispatched t virtual) arguments; returns = t.found.returns }
 
 -- the arguments are asked also where the function is none
 unfoldable pub plain_call : Classes → Setting → Scene → ℕ → CallText → Checked CallValue
@@ -143,9 +144,9 @@ receiver_of h e s at k x = do
   pure (receiver p path)
 
 -- the types of the parameters of a function that was found
-abbrev pub found_parameters : Option FoundFunction → List (ValueType ClassId)
-found_parameters None = []
-found_parameters (Some f) = f.parameters
+abbrev pub found_parameters : Result FoundFunction Fault → List (ValueType ClassId)
+found_parameters (Err e) = []
+found_parameters (Ok f) = f.parameters
 
 -- a call with a class before `::`: the function itself runs (ISO C++03 10.3 p12)
 abbrev pub qualified : FoundFunction → Receiver × List Argument → TypedCall
@@ -160,8 +161,8 @@ qualified f passed = record {
 }
 
 -- what it returns rests on the function alone
-abbrev pub qualified_value : FoundFunction → Option (Receiver × List Argument) → CallValue
-qualified_value f passed = record { call = option_map (qualified f) passed; returns = f.returns }
+abbrev pub qualified_value : FoundFunction → Result (Receiver × List Argument) Fault → CallValue
+qualified_value f passed = record { call = where_typed (qualified f) passed; returns = f.returns }
 
 -- the receiver and the arguments are asked also where the function is none (ISO C++03 5.2.2 p1)
 unfoldable pub qualified_call : Classes → Setting → Scene → ℕ → CallText → Spot → Checked CallValue

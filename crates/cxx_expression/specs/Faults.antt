@@ -2,7 +2,7 @@
 use Rattle.std.specs.Prelude.{Bool, true, false, nat_lt, if◌then◌else◌, Option, Some, None, Result, Ok, Err, List, [], ◌∷◌}
 use Rattle.cxx_hierarchy.specs.Stops.{rule_no}
 use Rattle.cxx_hierarchy.specs.declared.stop.Stop.{Stop}
-use Rattle.cxx_hierarchy.specs.declared.stop.Stop.TheVariants.{Refused, NoMemory}
+use Rattle.cxx_hierarchy.specs.declared.stop.Stop.TheVariants.{Refused}
 use Rattle.cxx_expression.specs.declared.faults.Fault.{Fault}
 
 -- the least number counts, and of one number the first place
@@ -19,8 +19,12 @@ abbrev pub least : List Fault → Option Fault
 least [] = None
 least (f ∷ fs) = Some (lesser f (least fs))
 
--- the fault that counts, or what is typed. Where nothing refuses, all is typed
-abbrev pub settled : {X : Type 0} → Option Fault → Option X → Result X Stop
-settled (Some f) typed = Err (Refused f.rule f.at)
-settled None None = Err NoMemory
-settled None (Some x) = Ok x
+-- what a source is refused with
+abbrev pub stopped_by : Fault → Stop
+stopped_by f = Refused f.rule f.at
+
+-- the fault that counts, or what is typed
+abbrev pub settled : {X : Type 0} → Option Fault → Result X Fault → Result X Stop
+settled (Some f) typed = Err (stopped_by f)
+settled None (Err f) = Err (stopped_by f)
+settled None (Ok x) = Ok x

@@ -1,5 +1,5 @@
 -- Laws of the pieces of a statement.
-use Rattle.std.specs.Prelude.{◌≡◌, ℕ, ◌≤◌, ◌<◌, Bool, false, Option, Some, None, IsSome, List, length, option_map}
+use Rattle.std.specs.Prelude.{◌≡◌, ℕ, ◌≤◌, ◌<◌, Bool, false, Option, Some, None, Result, Ok, Err, IsOk, List, length}
 use Rattle.cxx_hierarchy.specs.declared.records.ClassId.{ClassId}
 use Rattle.cxx_hierarchy.specs.declared.records.ValueType.{ValueType}
 use Rattle.cxx_hierarchy.specs.declared.records.ReturnType.{ReturnType}
@@ -19,7 +19,7 @@ use Rattle.cxx_expression.specs.declared.scene.Scene.{Scene}
 use Rattle.cxx_expression.specs.declared.scene.Setting.{Setting}
 use Rattle.cxx_expression.specs.declared.typed.Pointer.{Pointer}
 use Rattle.cxx_expression.specs.declared.typed.FoundFunction.{FoundFunction}
-use Rattle.cxx_expression.specs.Checked.{Checked, noted}
+use Rattle.cxx_expression.specs.Checked.{Checked, noted, where_typed}
 use Rattle.cxx_expression.specs.Values.{class_named, class_of_spot, type_of, variable_of, operand_of, pointer_of, number_operand, class_conversion, conversion_of, converted_operand}
 use Rattle.cxx_expression.specs.Places.{leaf_of}
 use Rattle.cxx_expression.specs.Calls.{function_of, whole_call}
@@ -29,7 +29,7 @@ use Rattle.cxx_expression.specs.Rights.{whole_right, converted_right}
 -- faults are only added to those before, and where none is added the piece is typed
 pub record IsComplete {X : Type 0} (p : Checked X) : Type 0 where
   pub grows : (before : List Fault) → length before ≤ length (p.faults before)
-  pub typed : (before : List Fault) → (IsSome p.typed → ⊥) → length before < length (p.faults before)
+  pub typed : (before : List Fault) → (IsOk p.typed → ⊥) → length before < length (p.faults before)
 
 -- each piece of a statement is refused, or typed
 pub record PiecesAreComplete : Type 0 where
@@ -50,17 +50,17 @@ pub record PiecesAreComplete : Type 0 where
   pub right : (h : Classes) (e : Setting) (s : Scene) (at : ℕ) (t : ValueType ClassId) (r : Right) → IsComplete (converted_right h e s at t r)
 
 -- the class in which a call looks its function up: the one before `::`, or else that of the pointer
-abbrev pub class_asked : Classes → Setting → Scene → ℕ → PointerText → Option Spot → Option ClassId
-class_asked h e s at pointer None = option_map (λ (p : Pointer). p.class) (pointer_of e s at pointer).typed
+abbrev pub class_asked : Classes → Setting → Scene → ℕ → PointerText → Option Spot → Result ClassId Fault
+class_asked h e s at pointer None = where_typed (λ (p : Pointer). p.class) (pointer_of e s at pointer).typed
 class_asked h e s at pointer (Some x) = (class_of_spot h x).typed
 
 -- what the function of a name in a class returns
-abbrev pub result_in : Classes → ℕ → Spot → Option ClassId → Option (ReturnType ClassId)
-result_in h at name None = None
-result_in h at name (Some c) = option_map (λ (f : FoundFunction). f.returns) (function_of h at c name).typed
+abbrev pub result_in : Classes → ℕ → Spot → Result ClassId Fault → Result (ReturnType ClassId) Fault
+result_in h at name (Err f) = Err f
+result_in h at name (Ok c) = where_typed (λ (f : FoundFunction). f.returns) (function_of h at c name).typed
 
 -- what the function of a call returns, where it is found: that rests on the class and the name, and on nothing else of the call
-abbrev pub result_known : Classes → Setting → Scene → ℕ → CallText → Option (ReturnType ClassId)
+abbrev pub result_known : Classes → Setting → Scene → ℕ → CallText → Result (ReturnType ClassId) Fault
 result_known h e s at text = result_in h at text.name (class_asked h e s at text.pointer text.class)
 
 -- E19: a void result used; else those of the conversion of the result to the type of what takes it
@@ -71,5 +71,5 @@ result_faults h at (returns.Value from) to before = (conversion_of h at from fal
 -- where the function of a call is found, the faults of its result stand behind those of the call: also where the receiver or an
 -- argument is refused
 pub record ResultsAreAsked : Type 0 where
-  pub asked : (h : Classes) (e : Setting) (s : Scene) (at : ℕ) (text : CallText) (returned : ReturnType ClassId) (to : ValueType ClassId) (before : List Fault) → result_known h e s at text ≡ Some returned →
+  pub asked : (h : Classes) (e : Setting) (s : Scene) (at : ℕ) (text : CallText) (returned : ReturnType ClassId) (to : ValueType ClassId) (before : List Fault) → result_known h e s at text ≡ Ok returned →
       (converted_right h e s at to (right.Call text)).faults before ≡ result_faults h at returned to ((whole_call h e s at text).faults before)

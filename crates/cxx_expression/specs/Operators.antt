@@ -1,5 +1,5 @@
 -- Operators of numbers and of pointers. `at` is the place of the statement's first token.
-use Rattle.std.specs.Prelude.{ℕ, Bool, true, false, nat_eq, if◌then◌else◌, Some}
+use Rattle.std.specs.Prelude.{ℕ, Bool, true, false, nat_eq, if◌then◌else◌, Ok}
 use Rattle.cxx_hierarchy.specs.declared.records.ClassId.{ClassId}
 use Rattle.cxx_hierarchy.specs.declared.records.Scalar.{Scalar}
 use Rattle.cxx_hierarchy.specs.declared.records.Scalar.TheVariants as scalar
@@ -29,7 +29,7 @@ use Rattle.cxx_expression.specs.Values.{operand_of, number_operand, argument}
 
 -- a right side with its type
 abbrev pub right_value : TypedRight → ValueType ClassId → Bool → RightValue
-right_value right ty is_null = record { right = Some right; ty = ty; is_null = is_null }
+right_value right ty is_null = record { right = Ok right; ty = ty; is_null = is_null }
 
 -- a right side that is true or false
 abbrev pub truth_value : TypedRight → RightValue

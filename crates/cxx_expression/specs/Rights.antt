@@ -1,5 +1,5 @@
 -- Right sides. `at` is the place of the statement's first token.
-use Rattle.std.specs.Prelude.{ℕ, Bool, false, if◌then◌else◌, Option, option_map}
+use Rattle.std.specs.Prelude.{ℕ, Bool, false, if◌then◌else◌, Result}
 use Rattle.cxx_hierarchy.specs.declared.records.ClassId.{ClassId}
 use Rattle.cxx_hierarchy.specs.declared.records.ValueType.{ValueType}
 use Rattle.cxx_hierarchy.specs.declared.records.ValueType.TheVariants as type
@@ -19,10 +19,11 @@ use Rattle.cxx_program.specs.declared.statement.TypedCall.{TypedCall}
 use Rattle.cxx_program.specs.declared.statement.TypedRight.{TypedRight}
 use Rattle.cxx_program.specs.declared.statement.TypedRight.TheVariants as typed
 use Rattle.cxx_program.specs.declared.statement.Converted.{Converted}
+use Rattle.cxx_expression.specs.declared.faults.Fault.{Fault}
 use Rattle.cxx_expression.specs.declared.scene.Scene.{Scene}
 use Rattle.cxx_expression.specs.declared.scene.Setting.{Setting}
 use Rattle.cxx_expression.specs.declared.typed.RightValue.{RightValue}
-use Rattle.cxx_expression.specs.Checked.{Checked, pure, fail, ◌>>=◌, kept}
+use Rattle.cxx_expression.specs.Checked.{Checked, pure, fail, ◌>>=◌, kept, where_typed}
 use Rattle.cxx_expression.specs.Values.{operand_of, class_of_spot, conversion_of}
 use Rattle.cxx_expression.specs.Places.{leaf_of, object_place_of}
 use Rattle.cxx_expression.specs.Calls.{call_of}
@@ -48,11 +49,11 @@ address_right h e s at text = do
   pure (right_value (typed.Address object.place object.class) (type.Pointer object.class) false)
 
 -- a call with the type of its result
-abbrev pub result_value : Option TypedCall → ValueType ClassId → RightValue
-result_value call t = record { right = option_map typed.Call call; ty = t; is_null = false }
+abbrev pub result_value : Result TypedCall Fault → ValueType ClassId → RightValue
+result_value call t = record { right = where_typed typed.Call call; ty = t; is_null = false }
 
 -- E19: a void result used
-abbrev pub as_result : ℕ → Option TypedCall → ReturnType ClassId → Checked RightValue
+abbrev pub as_result : ℕ → Result TypedCall Fault → ReturnType ClassId → Checked RightValue
 as_result at call returns.Void = fail rule.TypeMismatch at
 as_result at call (returns.Value t) = pure (result_value call t)
 

@@ -8,7 +8,7 @@ ghost use Rattle.cxx_expression.specs.invariants.Arguments.{joined};
 
 use crate::conversions::converted_operand;
 use crate::copies::copy_type;
-use crate::faults::FaultList;
+use crate::faults::{FaultList, Piece, pair_of};
 use crate::known::Known;
 use crate::site::Site;
 use crate::values::operand_of;
@@ -23,13 +23,14 @@ fn plain_operand(
     site: &Site,
     faults: &mut FaultList,
     operand: &Operand,
-) -> Result<Option<Argument>, NoMemory>
+) -> Result<Piece<Argument>, NoMemory>
     ensures { Answers result faults.old faults.new (plain_operand site.now.setting.now site.now.scene.now site.now.at operand.now) }
 {
-    let Some(value) = operand_of(site, faults, operand)? else {
-        return Ok(None);
+    let value = match operand_of(site, faults, operand)? {
+        Ok(value) => value,
+        Err(fault) => return Ok(Err(fault)),
     };
-    Ok(Some(Argument {
+    Ok(Ok(Argument {
         operand: value.operand,
         conversion: Conversion::Same,
     }))
@@ -43,7 +44,7 @@ fn argument_of(
     faults: &mut FaultList,
     parameter: Option<ValueType<ClassId>>,
     operand: &Operand,
-) -> Result<Option<Argument>, NoMemory>
+) -> Result<Piece<Argument>, NoMemory>
     requires knows { Knows site.now.h.now known.old }
     ensures answers { Answers result faults.old faults.new (argument_of site.now.h.now site.now.setting.now site.now.scene.now site.now.at parameter operand.now) }
     ensures knows { OnOk result (Knows site.now.h.now known.new) }
@@ -56,16 +57,17 @@ fn argument_of(
 
 /// Puts an argument behind those so far, where each of them is one.
 fn joined(
-    so_far: Option<ArgumentList>,
-    next: Option<Argument>,
-) -> Result<Option<ArgumentList>, NoMemory>
+    so_far: Piece<ArgumentList>,
+    next: Piece<Argument>,
+) -> Result<Piece<ArgumentList>, NoMemory>
     ensures { IfOk result (λ both. both ≡ joined so_far next) }
 {
-    let (Some(mut list), Some(argument)) = (so_far, next) else {
-        return Ok(None);
+    let (mut list, argument) = match pair_of(so_far, next) {
+        Ok(pair) => pair,
+        Err(fault) => return Ok(Err(fault)),
     };
     list.push(argument)?;
-    Ok(Some(list))
+    Ok(Ok(list))
 }
 
 /// The parameter of a number.
@@ -86,12 +88,12 @@ pub(crate) fn arguments_of(
     faults: &mut FaultList,
     parameters: &[ValueType<ClassId>],
     operands: &[Operand],
-) -> Result<Option<ArgumentList>, NoMemory>
+) -> Result<Piece<ArgumentList>, NoMemory>
     requires knows { Knows site.now.h.now known.old }
     ensures answers { Answers result faults.old faults.new (arguments_of site.now.h.now site.now.setting.now site.now.scene.now site.now.at parameters.now 0 operands.now) }
     ensures knows { OnOk result (Knows site.now.h.now known.new) }
 {
-    let mut list = Some(Sequence::new(known.alloc));
+    let mut list = Ok(Sequence::new(known.alloc));
     for (n, operand) in operands.iter().enumerate() {
         let parameter = nth(parameters, n);
         let argument = argument_of(site, known, faults, parameter, operand)?;

@@ -12,7 +12,7 @@ ghost use Rattle.cxx_expression.specs.invariants.Known.{Knows};
 
 use crate::arguments::arguments_of;
 use crate::copies::{copy_return, copy_type};
-use crate::faults::{FaultList, note, refuse};
+use crate::faults::{FaultList, Piece, note, refuse};
 use crate::known::Known;
 use crate::look_up::{Looked, function_record, looked_up};
 use crate::qualified::qualified_call;
@@ -29,7 +29,7 @@ use foundation::{NoMemory, Sequence};
 use std::alloc::Global;
 
 /// What is known of a call, where its function is.
-type Answer = Result<Option<CallValue>, NoMemory>;
+type Answer = Result<Piece<CallValue>, NoMemory>;
 
 /// The types of parameters.
 fn types_of(alloc: Global, params: &[Param<ClassId>]) -> Result<TypeList, NoMemory>
@@ -51,7 +51,7 @@ fn function_in(
     faults: &mut FaultList,
     s: Subobject,
     number: u32,
-) -> Result<Option<FoundFunction>, NoMemory>
+) -> Result<Piece<FoundFunction>, NoMemory>
     ensures { Answers result faults.old faults.new (function_in h.now name_at s number (class_of_subobject s)) }
 {
     // neither refusal is met for what `lookup` of cxx_lookup found: it is declared, in a subobject
@@ -62,7 +62,7 @@ fn function_in(
         return refuse(faults, Rule::NoSuchMember, name_at);
     };
     let parameters = types_of(alloc, function.params.as_slice())?;
-    Ok(Some(FoundFunction {
+    Ok(Ok(FoundFunction {
         base: s,
         function: FunctionId {
             class,
@@ -82,7 +82,7 @@ pub(crate) fn function_of(
     faults: &mut FaultList,
     c: ClassId,
     x: &Spot,
-) -> Result<Option<FoundFunction>, NoMemory>
+) -> Result<Piece<FoundFunction>, NoMemory>
     requires knows { Knows site.now.h.now known.old }
     ensures answers { Answers result faults.old faults.new (function_of site.now.h.now site.now.at c x.now) }
     ensures knows { OnOk result (Knows site.now.h.now known.new) }
@@ -102,35 +102,37 @@ fn target_of(
     known: &mut Known,
     faults: &mut FaultList,
     call: &CallText,
-) -> Result<Option<Target>, NoMemory>
+) -> Result<Piece<Target>, NoMemory>
     requires knows { Knows site.now.h.now known.old }
     ensures answers { Answers result faults.old faults.new (target_of site.now.h.now site.now.setting.now site.now.scene.now site.now.at call.now) }
     ensures knows { OnOk result (Knows site.now.h.now known.new) }
 {
-    let Some(pointer) = pointer_of(site, faults, &call.pointer)? else {
-        return Ok(None);
+    let pointer = match pointer_of(site, faults, &call.pointer)? {
+        Ok(pointer) => pointer,
+        Err(fault) => return Ok(Err(fault)),
     };
-    let Some(found) = function_of(site, known, faults, pointer.class, &call.name)? else {
-        return Ok(None);
+    let found = match function_of(site, known, faults, pointer.class, &call.name)? {
+        Ok(found) => found,
+        Err(fault) => return Ok(Err(fault)),
     };
     if call.arguments.len() != found.parameters.len() {
         note(faults, Rule::TypeMismatch, site.at)?;
     }
-    Ok(Some(Target { pointer, found }))
+    Ok(Ok(Target { pointer, found }))
 }
 
 /// The types of the parameters of a call's function.
-fn parameters_in(target: &Option<Target>) -> &[ValueType<ClassId>]
+fn parameters_in(target: &Piece<Target>) -> &[ValueType<ClassId>]
     ensures { result.now ≡ target_parameters target.now }
 {
     match target {
-        None => &[],
-        Some(target) => target.found.parameters.as_slice(),
+        Err(_) => &[],
+        Ok(target) => target.found.parameters.as_slice(),
     }
 }
 
 /// What a call in the class of the pointer returns, and the call, where its arguments are there.
-fn plain_value(target: Target, is_dispatched: bool, arguments: Option<ArgumentList>) -> CallValue
+fn plain_value(target: Target, is_dispatched: bool, arguments: Piece<ArgumentList>) -> CallValue
     ensures { result ≡ plain_value target is_dispatched arguments }
 {
     let Target { pointer, found } = target;
@@ -141,8 +143,8 @@ fn plain_value(target: Target, is_dispatched: bool, arguments: Option<ArgumentLi
         ..
     } = found;
     let call = match arguments {
-        None => None,
-        Some(arguments) => Some(TypedCall {
+        Err(fault) => Err(fault),
+        Ok(arguments) => Ok(TypedCall {
             pointer: pointer.operand,
             class: pointer.class,
             qualifier: None,
@@ -177,11 +179,12 @@ fn plain_call(site: &Site, known: &mut Known, faults: &mut FaultList, call: &Cal
     let parameters = parameters_in(&target);
     let operands = call.arguments.as_slice();
     let list = arguments_of(site, known, faults, parameters, operands)?;
-    let Some(target) = target else {
-        return Ok(None);
+    let target = match target {
+        Ok(target) => target,
+        Err(fault) => return Ok(Err(fault)),
     };
     let is_dispatched = is_virtual(site.h, site.overriders, target.found.function);
-    Ok(Some(plain_value(target, is_dispatched, list)))
+    Ok(Ok(plain_value(target, is_dispatched, list)))
 }
 
 /// What a call returns, where its function is known, and the call, where its receiver and its arguments are too.
@@ -211,14 +214,15 @@ pub fn whole_call(
     known: &mut Known,
     faults: &mut FaultList,
     call: &CallText,
-) -> Result<Option<TypedCall>, NoMemory>
+) -> Result<Piece<TypedCall>, NoMemory>
     requires made { AreOverriders site.now.h.now site.now.overriders.now }
     requires knows { Knows site.now.h.now known.old }
     ensures answers { Answers result faults.old faults.new (whole_call site.now.h.now site.now.setting.now site.now.scene.now site.now.at call.now) }
     ensures knows { OnOk result (Knows site.now.h.now known.new) }
 {
-    let Some(value) = call_of(site, known, faults, call)? else {
-        return Ok(None);
+    let value = match call_of(site, known, faults, call)? {
+        Ok(value) => value,
+        Err(fault) => return Ok(Err(fault)),
     };
     Ok(value.call)
 }

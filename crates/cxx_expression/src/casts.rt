@@ -6,7 +6,7 @@ ghost use Rattle.cxx_expression.specs.Casts.{down_to, up_or_down, static_cast, i
 ghost use Rattle.cxx_expression.specs.invariants.Known.{Knows};
 
 use crate::classes::class_of;
-use crate::faults::{FaultList, refuse};
+use crate::faults::{FaultList, Piece, pair_of, refuse};
 use crate::known::Known;
 use crate::look_up::{Based, base_up, is_polymorphic};
 use crate::operators::truth_value;
@@ -25,11 +25,11 @@ fn down_to(
     faults: &mut FaultList,
     d: ClassId,
     s: Subobject,
-) -> Result<Option<TypedCast>, NoMemory>
+) -> Result<Piece<TypedCast>, NoMemory>
     ensures { Answers result faults.old faults.new (down_to at d s s.root) }
 {
     match s.root {
-        Root::Whole => Ok(Some(TypedCast::Down(d, s))),
+        Root::Whole => Ok(Ok(TypedCast::Down(d, s))),
         Root::Shared(_) => refuse(faults, Rule::DowncastVirtual, at),
     }
 }
@@ -41,11 +41,11 @@ fn up_or_down(
     d: ClassId,
     up: Based,
     down: Based,
-) -> Result<Option<TypedCast>, NoMemory>
+) -> Result<Piece<TypedCast>, NoMemory>
     ensures { Answers result faults.old faults.new (up_or_down at d up down) }
 {
     match (up, down) {
-        (Based::Base(s), _) => Ok(Some(TypedCast::Up(s))),
+        (Based::Base(s), _) => Ok(Ok(TypedCast::Up(s))),
         (Based::NotBase, Based::Base(s)) => down_to(at, faults, d, s),
         (Based::TwoBases, _) | (Based::NotBase, Based::TwoBases) => refuse(
             faults,
@@ -64,13 +64,13 @@ fn static_cast(
     faults: &mut FaultList,
     c: ClassId,
     d: ClassId,
-) -> Result<Option<TypedCast>, NoMemory>
+) -> Result<Piece<TypedCast>, NoMemory>
     requires knows { Knows site.now.h.now known.old }
     ensures answers { Answers result faults.old faults.new (static_cast site.now.h.now site.now.at c d) }
     ensures knows { OnOk result (Knows site.now.h.now known.new) }
 {
     if c.0 == d.0 {
-        return Ok(Some(TypedCast::Same));
+        return Ok(Ok(TypedCast::Same));
     }
     let up = base_up(site.h, known, c, d)?;
     let down = base_up(site.h, known, d, c)?;
@@ -85,20 +85,20 @@ fn dynamic_cast(
     faults: &mut FaultList,
     c: ClassId,
     d: ClassId,
-) -> Result<Option<TypedCast>, NoMemory>
+) -> Result<Piece<TypedCast>, NoMemory>
     requires knows { Knows site.now.h.now known.old }
     ensures answers { Answers result faults.old faults.new (dynamic_cast site.now.h.now site.now.at c d) }
     ensures knows { OnOk result (Knows site.now.h.now known.new) }
 {
     if c.0 == d.0 {
-        return Ok(Some(TypedCast::Same));
+        return Ok(Ok(TypedCast::Same));
     }
     match base_up(site.h, known, c, d)? {
-        Based::Base(s) => Ok(Some(TypedCast::Up(s))),
+        Based::Base(s) => Ok(Ok(TypedCast::Up(s))),
         Based::TwoBases => refuse(faults, Rule::AmbiguousBase, site.at),
         Based::NotBase => {
             if is_polymorphic(site.h, known, c)? {
-                return Ok(Some(TypedCast::Dynamic(d)));
+                return Ok(Ok(TypedCast::Dynamic(d)));
             }
             refuse(faults, Rule::NotPolymorphic, site.at)
         }
@@ -114,7 +114,7 @@ fn cast_of(
     kind: CastKind,
     c: ClassId,
     d: ClassId,
-) -> Result<Option<TypedCast>, NoMemory>
+) -> Result<Piece<TypedCast>, NoMemory>
     requires knows { Knows site.now.h.now known.old }
     ensures answers { Answers result faults.old faults.new (cast_of site.now.h.now site.now.at kind c d) }
     ensures knows { OnOk result (Knows site.now.h.now known.new) }
@@ -132,21 +132,23 @@ pub(crate) fn cast_right(
     known: &mut Known,
     faults: &mut FaultList,
     text: &CastText,
-) -> Result<Option<RightValue>, NoMemory>
+) -> Result<Piece<RightValue>, NoMemory>
     requires knows { Knows site.now.h.now known.old }
     ensures answers { Answers result faults.old faults.new (cast_right site.now.h.now site.now.setting.now site.now.scene.now site.now.at text.now) }
     ensures knows { OnOk result (Knows site.now.h.now known.new) }
 {
     let target = class_of(site.h, faults, &text.target)?;
     let pointer = pointer_of(site, faults, &text.pointer)?;
-    let (Some(target), Some(pointer)) = (target, pointer) else {
-        return Ok(None);
+    let (target, pointer) = match pair_of(target, pointer) {
+        Ok(pair) => pair,
+        Err(fault) => return Ok(Err(fault)),
     };
-    let Some(cast) = cast_of(site, known, faults, text.kind, pointer.class, target)? else {
-        return Ok(None);
+    let cast = match cast_of(site, known, faults, text.kind, pointer.class, target)? {
+        Ok(cast) => cast,
+        Err(fault) => return Ok(Err(fault)),
     };
-    Ok(Some(RightValue {
-        right: Some(TypedRight::Cast(cast, pointer.operand)),
+    Ok(Ok(RightValue {
+        right: Ok(TypedRight::Cast(cast, pointer.operand)),
         ty: ValueType::Pointer(target),
         is_null: false,
     }))
@@ -160,18 +162,19 @@ pub fn polymorphic_pointer(
     known: &mut Known,
     faults: &mut FaultList,
     pointer: &PointerText,
-) -> Result<Option<Pointer>, NoMemory>
+) -> Result<Piece<Pointer>, NoMemory>
     requires knows { Knows site.now.h.now known.old }
     ensures answers { Answers result faults.old faults.new (polymorphic_pointer site.now.h.now site.now.setting.now site.now.scene.now site.now.at pointer.now) }
     ensures knows { OnOk result (Knows site.now.h.now known.new) }
 {
-    let Some(pointer) = pointer_of(site, faults, pointer)? else {
-        return Ok(None);
+    let pointer = match pointer_of(site, faults, pointer)? {
+        Ok(pointer) => pointer,
+        Err(fault) => return Ok(Err(fault)),
     };
     if !is_polymorphic(site.h, known, pointer.class)? {
         return refuse(faults, Rule::NotPolymorphic, site.at);
     }
-    Ok(Some(pointer))
+    Ok(Ok(pointer))
 }
 
 /// `typeid(*pointer) == typeid(class)`.
@@ -182,15 +185,16 @@ pub(crate) fn type_right(
     faults: &mut FaultList,
     pointer: &PointerText,
     name: &Spot,
-) -> Result<Option<RightValue>, NoMemory>
+) -> Result<Piece<RightValue>, NoMemory>
     requires knows { Knows site.now.h.now known.old }
     ensures answers { Answers result faults.old faults.new (type_right site.now.h.now site.now.setting.now site.now.scene.now site.now.at pointer.now name.now) }
     ensures knows { OnOk result (Knows site.now.h.now known.new) }
 {
     let pointer = polymorphic_pointer(site, known, faults, pointer)?;
     let class = class_of(site.h, faults, name)?;
-    let (Some(pointer), Some(class)) = (pointer, class) else {
-        return Ok(None);
+    let (pointer, class) = match pair_of(pointer, class) {
+        Ok(pair) => pair,
+        Err(fault) => return Ok(Err(fault)),
     };
-    Ok(Some(truth_value(TypedRight::TypeEqual(pointer.operand, class))))
+    Ok(Ok(truth_value(TypedRight::TypeEqual(pointer.operand, class))))
 }

@@ -5,7 +5,7 @@ ghost use Rattle.cxx_expression.specs.Checked.{Answers};
 ghost use Rattle.cxx_expression.specs.Lookups.{find_class};
 ghost use Rattle.cxx_expression.specs.Values.{class_named, class_of_spot, type_of};
 
-use crate::faults::{FaultList, refuse};
+use crate::faults::{FaultList, Piece, refuse};
 use cxx_hierarchy::{ClassId, Hierarchy, Name, Rule, ValueType};
 use cxx_syntax::Spot;
 use foundation::NoMemory;
@@ -26,22 +26,18 @@ pub fn class_named(
     faults: &mut FaultList,
     name: &Name,
     at: u32,
-) -> Result<Option<ClassId>, NoMemory>
+) -> Result<Piece<ClassId>, NoMemory>
     ensures { Answers result faults.old faults.new (class_named h.now name.now at) }
 {
     let Some(class) = find_class(h, name.as_slice()) else {
         return refuse(faults, Rule::UnknownClass, at);
     };
-    Ok(Some(class))
+    Ok(Ok(class))
 }
 
 /// The class of a name. Faults: E3.
 #[tactic(auto, unfolding(crate::specs::Values::class_of_spot))]
-pub fn class_of(
-    h: &Hierarchy,
-    faults: &mut FaultList,
-    x: &Spot,
-) -> Result<Option<ClassId>, NoMemory>
+pub fn class_of(h: &Hierarchy, faults: &mut FaultList, x: &Spot) -> Result<Piece<ClassId>, NoMemory>
     ensures { Answers result faults.old faults.new (class_of_spot h.now x.now) }
 {
     class_named(h, faults, &x.name, x.at)
@@ -54,16 +50,17 @@ pub fn type_of(
     faults: &mut FaultList,
     ty: &ValueType<Name>,
     at: u32,
-) -> Result<Option<ValueType<ClassId>>, NoMemory>
+) -> Result<Piece<ValueType<ClassId>>, NoMemory>
     ensures { Answers result faults.old faults.new (type_of h.now ty.now at) }
 {
     match ty {
-        ValueType::Number(scalar) => Ok(Some(ValueType::Number(*scalar))),
+        ValueType::Number(scalar) => Ok(Ok(ValueType::Number(*scalar))),
         ValueType::Pointer(name) => {
-            let Some(class) = class_named(h, faults, name, at)? else {
-                return Ok(None);
+            let class = match class_named(h, faults, name, at)? {
+                Ok(class) => class,
+                Err(fault) => return Ok(Err(fault)),
             };
-            Ok(Some(ValueType::Pointer(class)))
+            Ok(Ok(ValueType::Pointer(class)))
         }
     }
 }

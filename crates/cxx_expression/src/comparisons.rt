@@ -5,7 +5,7 @@ ghost use Rattle.cxx_expression.specs.Checked.{Answers};
 ghost use Rattle.cxx_expression.specs.Operators.{same_pointer, one_converted, to_one_class, if_null, equality, pointers_right, null_right, compared, equal_right};
 ghost use Rattle.cxx_expression.specs.invariants.Known.{Knows};
 
-use crate::faults::{FaultList, refuse};
+use crate::faults::{FaultList, Piece, pair_of, refuse};
 use crate::known::Known;
 use crate::look_up::{Based, base_up};
 use crate::operators::{calculated, truth_value};
@@ -46,12 +46,12 @@ fn one_converted(
     faults: &mut FaultList,
     up: Based,
     down: Based,
-) -> Result<Option<(Conversion, Conversion)>, NoMemory>
+) -> Result<Piece<(Conversion, Conversion)>, NoMemory>
     ensures { Answers result faults.old faults.new (one_converted at up down) }
 {
     match (up, down) {
-        (Based::Base(s), _) => Ok(Some((Conversion::Base(s), Conversion::Same))),
-        (Based::NotBase, Based::Base(s)) => Ok(Some((Conversion::Same, Conversion::Base(s)))),
+        (Based::Base(s), _) => Ok(Ok((Conversion::Base(s), Conversion::Same))),
+        (Based::NotBase, Based::Base(s)) => Ok(Ok((Conversion::Same, Conversion::Base(s)))),
         (Based::TwoBases, _) | (Based::NotBase, Based::TwoBases) => refuse(
             faults,
             Rule::AmbiguousBase,
@@ -69,13 +69,13 @@ fn to_one_class(
     faults: &mut FaultList,
     c: ClassId,
     d: ClassId,
-) -> Result<Option<(Conversion, Conversion)>, NoMemory>
+) -> Result<Piece<(Conversion, Conversion)>, NoMemory>
     requires knows { Knows site.now.h.now known.old }
     ensures answers { Answers result faults.old faults.new (to_one_class site.now.h.now site.now.at c d) }
     ensures knows { OnOk result (Knows site.now.h.now known.new) }
 {
     if c.0 == d.0 {
-        return Ok(Some((Conversion::Same, Conversion::Same)));
+        return Ok(Ok((Conversion::Same, Conversion::Same)));
     }
     let up = base_up(site.h, known, c, d)?;
     let down = base_up(site.h, known, d, c)?;
@@ -101,15 +101,16 @@ fn pointers_right(
     differ: bool,
     a: Pointer,
     b: Pointer,
-) -> Result<Option<RightValue>, NoMemory>
+) -> Result<Piece<RightValue>, NoMemory>
     requires knows { Knows site.now.h.now known.old }
     ensures answers { Answers result faults.old faults.new (pointers_right site.now.h.now site.now.at differ a.operand a.class b.operand b.class) }
     ensures knows { OnOk result (Knows site.now.h.now known.new) }
 {
-    let Some(conversions) = to_one_class(site, known, faults, a.class, b.class)? else {
-        return Ok(None);
+    let conversions = match to_one_class(site, known, faults, a.class, b.class)? {
+        Ok(conversions) => conversions,
+        Err(fault) => return Ok(Err(fault)),
     };
-    Ok(Some(same_pointer(differ, a.operand, b.operand, conversions)))
+    Ok(Ok(same_pointer(differ, a.operand, b.operand, conversions)))
 }
 
 /// A pointer, and a number that must be a null pointer constant.
@@ -122,13 +123,13 @@ fn null_right(
     a: TypedOperand,
     b: TypedOperand,
     conversions: (Conversion, Conversion),
-) -> Result<Option<RightValue>, NoMemory>
+) -> Result<Piece<RightValue>, NoMemory>
     ensures { Answers result faults.old faults.new (null_right at is_null differ a b conversions) }
 {
     if !is_null {
         return refuse(faults, Rule::TypeMismatch, at);
     }
-    Ok(Some(same_pointer(differ, a, b, conversions)))
+    Ok(Ok(same_pointer(differ, a, b, conversions)))
 }
 
 /// Two numbers, two pointers, or a pointer and a null pointer constant.
@@ -140,7 +141,7 @@ fn compared(
     differ: bool,
     a: &Value,
     b: &Value,
-) -> Result<Option<RightValue>, NoMemory>
+) -> Result<Piece<RightValue>, NoMemory>
     requires knows { Knows site.now.h.now known.old }
     ensures answers { Answers result faults.old faults.new (compared site.now.h.now site.now.at differ a.now.operand a.now.ty a.now.is_null b.now.operand b.now.ty b.now.is_null) }
     ensures knows { OnOk result (Knows site.now.h.now known.new) }
@@ -148,7 +149,7 @@ fn compared(
     let (x, y) = (a.operand, b.operand);
     match (&a.ty, &b.ty) {
         (ValueType::Number(s), ValueType::Number(t)) => {
-            Ok(Some(calculated(equality(differ), x, *s, y, *t)))
+            Ok(Ok(calculated(equality(differ), x, *s, y, *t)))
         }
         (ValueType::Number(_), ValueType::Pointer(_)) => {
             let conversions = (Conversion::Null, Conversion::Same);
@@ -181,15 +182,16 @@ pub(crate) fn equal_right(
     differ: bool,
     x: &Operand,
     y: &Operand,
-) -> Result<Option<RightValue>, NoMemory>
+) -> Result<Piece<RightValue>, NoMemory>
     requires knows { Knows site.now.h.now known.old }
     ensures answers { Answers result faults.old faults.new (equal_right site.now.h.now site.now.setting.now site.now.scene.now site.now.at differ x.now y.now) }
     ensures knows { OnOk result (Knows site.now.h.now known.new) }
 {
     let left = operand_of(site, faults, x)?;
     let right = operand_of(site, faults, y)?;
-    let (Some(a), Some(b)) = (left, right) else {
-        return Ok(None);
+    let (a, b) = match pair_of(left, right) {
+        Ok(pair) => pair,
+        Err(fault) => return Ok(Err(fault)),
     };
     compared(site, known, faults, differ, &a, &b)
 }

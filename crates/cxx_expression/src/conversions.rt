@@ -5,7 +5,7 @@ ghost use Rattle.cxx_expression.specs.Checked.{Answers};
 ghost use Rattle.cxx_expression.specs.Values.{path_to, conversion_by, class_conversion, conversion_of, fitted, converted_operand};
 ghost use Rattle.cxx_expression.specs.invariants.Known.{Knows};
 
-use crate::faults::{FaultList, refuse};
+use crate::faults::{FaultList, Piece, refuse};
 use crate::known::Known;
 use crate::look_up::{Based, base_up};
 use crate::site::Site;
@@ -24,16 +24,16 @@ pub(crate) fn path_to(
     faults: &mut FaultList,
     from: ClassId,
     to: ClassId,
-) -> Result<Option<Option<Subobject>>, NoMemory>
+) -> Result<Piece<Option<Subobject>>, NoMemory>
     requires knows { Knows site.now.h.now known.old }
     ensures answers { Answers result faults.old faults.new (path_to site.now.h.now site.now.at from to) }
     ensures knows { OnOk result (Knows site.now.h.now known.new) }
 {
     if from.0 == to.0 {
-        return Ok(Some(None));
+        return Ok(Ok(None));
     }
     match base_up(site.h, known, from, to)? {
-        Based::Base(s) => Ok(Some(Some(s))),
+        Based::Base(s) => Ok(Ok(Some(s))),
         Based::TwoBases => refuse(faults, Rule::AmbiguousBase, site.at),
         Based::NotBase => refuse(faults, Rule::NotBase, site.at),
     }
@@ -56,15 +56,16 @@ pub fn class_conversion(
     faults: &mut FaultList,
     from: ClassId,
     to: ClassId,
-) -> Result<Option<Conversion>, NoMemory>
+) -> Result<Piece<Conversion>, NoMemory>
     requires knows { Knows site.now.h.now known.old }
     ensures answers { Answers result faults.old faults.new (class_conversion site.now.h.now site.now.at from to) }
     ensures knows { OnOk result (Knows site.now.h.now known.new) }
 {
-    let Some(path) = path_to(site, known, faults, from, to)? else {
-        return Ok(None);
+    let path = match path_to(site, known, faults, from, to)? {
+        Ok(path) => path,
+        Err(fault) => return Ok(Err(fault)),
     };
-    Ok(Some(conversion_by(path)))
+    Ok(Ok(conversion_by(path)))
 }
 
 /// How a value becomes one of a type; `at` is the place of the statement's first token. Faults: E15, E16, E19.
@@ -76,16 +77,16 @@ pub fn conversion_of(
     from: &ValueType<ClassId>,
     is_null: bool,
     to: &ValueType<ClassId>,
-) -> Result<Option<Conversion>, NoMemory>
+) -> Result<Piece<Conversion>, NoMemory>
     requires knows { Knows site.now.h.now known.old }
     ensures answers { Answers result faults.old faults.new (conversion_of site.now.h.now site.now.at from.now is_null to.now) }
     ensures knows { OnOk result (Knows site.now.h.now known.new) }
 {
     match (from, to) {
-        (ValueType::Number(_), ValueType::Number(scalar)) => Ok(Some(Conversion::Number(*scalar))),
+        (ValueType::Number(_), ValueType::Number(scalar)) => Ok(Ok(Conversion::Number(*scalar))),
         (ValueType::Number(_), ValueType::Pointer(_)) => {
             if is_null {
-                return Ok(Some(Conversion::Null));
+                return Ok(Ok(Conversion::Null));
             }
             refuse(faults, Rule::TypeMismatch, site.at)
         }
@@ -123,18 +124,20 @@ pub fn converted_operand(
     faults: &mut FaultList,
     ty: &ValueType<ClassId>,
     operand: &Operand,
-) -> Result<Option<Argument>, NoMemory>
+) -> Result<Piece<Argument>, NoMemory>
     requires knows { Knows site.now.h.now known.old }
     ensures answers { Answers result faults.old faults.new (converted_operand site.now.h.now site.now.setting.now site.now.scene.now site.now.at ty.now operand.now) }
     ensures knows { OnOk result (Knows site.now.h.now known.new) }
 {
-    let Some(value) = operand_of(site, faults, operand)? else {
-        return Ok(None);
+    let value = match operand_of(site, faults, operand)? {
+        Ok(value) => value,
+        Err(fault) => return Ok(Err(fault)),
     };
-    let Some(conversion) = conversion_of(site, known, faults, &value.ty, value.is_null, ty)? else {
-        return Ok(None);
+    let conversion = match conversion_of(site, known, faults, &value.ty, value.is_null, ty)? {
+        Ok(conversion) => conversion,
+        Err(fault) => return Ok(Err(fault)),
     };
-    Ok(Some(Argument {
+    Ok(Ok(Argument {
         operand: value.operand,
         conversion,
     }))

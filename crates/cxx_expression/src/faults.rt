@@ -1,8 +1,8 @@
-//! The refusals of a statement, and the least of them.
+//! The refusals of a statement, what a piece of one is or the fault that refuses it, and the least of the faults.
 
 ghost use Rattle.std.specs.Prelude.{◌≡◌, ◌++◌, ◌∷◌, [], IfOk, IfErr, OnOk, Ok, Err};
 ghost use Rattle.cxx_hierarchy.specs.declared.stop.Stop.TheVariants.{NoMemory as OutOfMemory};
-ghost use Rattle.cxx_expression.specs.Checked.{Answers, fail};
+ghost use Rattle.cxx_expression.specs.Checked.{Answers, pair_of, fail};
 ghost use Rattle.cxx_expression.specs.Faults.{is_before, least, settled};
 
 use cxx_hierarchy::{Rule, Stop};
@@ -16,6 +16,16 @@ pub struct Fault {
 }
 
 pub type FaultList = Sequence<Fault>;
+
+/// What a piece of a statement is typed to, or the fault that refuses it.
+pub type Piece<X> = Result<X, Fault>;
+
+/// Both pieces, or the first fault that refuses one of them.
+pub fn pair_of<X: Drop, Y: Drop>(x: Piece<X>, y: Piece<Y>) -> Piece<(X, Y)>
+    ensures { result ≡ pair_of x y }
+{
+    Ok((x?, y?))
+}
 
 /// Whether a fault counts before another: the least number, and of one number the first place.
 fn is_before(f: Fault, g: Fault) -> bool
@@ -60,25 +70,22 @@ pub fn note(faults: &mut FaultList, rule: Rule, at: u32) -> Result<(), NoMemory>
 /// Adds a fault to a piece that is then not typed.
 ///
 /// Errors: want of memory.
-pub fn refuse<X>(faults: &mut FaultList, rule: Rule, at: u32) -> Result<Option<X>, NoMemory>
+pub fn refuse<X>(faults: &mut FaultList, rule: Rule, at: u32) -> Result<Piece<X>, NoMemory>
     ensures { Answers result faults.old faults.new (fail rule at) }
 {
     note(faults, rule, at)?;
-    Ok(None)
+    Ok(Err(Fault { rule, at }))
 }
 
-/// The fault that counts, or what is typed. Where nothing refuses, all is typed.
+/// The fault that counts, or what is typed.
 ///
-/// Errors: `Refused` with the fault that counts; want of memory where nothing refuses and nothing is typed, which no
-/// piece meets.
-pub fn settle<X: Drop>(faults: &[Fault], typed: Option<X>) -> Result<X, Stop>
+/// Errors: `Refused` with the fault that counts among those of a piece.
+pub fn settle<X: Drop>(faults: &[Fault], typed: Piece<X>) -> Result<X, Stop>
     ensures ok { IfOk result (λ x. settled (least faults.now) typed ≡ Ok x) }
     ensures err { IfErr result (λ stop. settled (least faults.now) typed ≡ Err stop) }
 {
     match (least(faults), typed) {
-        (Some(fault), _) => Err(Stop::Refused(fault.rule, fault.at)),
-        (None, Some(typed)) => Ok(typed),
-        // never met: a piece of a statement has a fault, or it is typed, by `answered`
-        (None, None) => Err(Stop::NoMemory),
+        (Some(fault), _) | (None, Err(fault)) => Err(Stop::Refused(fault.rule, fault.at)),
+        (None, Ok(typed)) => Ok(typed),
     }
 }

@@ -6,7 +6,7 @@ ghost use Rattle.cxx_expression.specs.Operators.{right_value, truth_value, type_
 ghost use Rattle.cxx_expression.specs.invariants.Known.{Knows};
 
 use crate::comparisons::equal_right;
-use crate::faults::FaultList;
+use crate::faults::{FaultList, Piece, pair_of};
 use crate::known::Known;
 use crate::scalars::common_type;
 use crate::site::Site;
@@ -22,7 +22,7 @@ pub(crate) fn truth_value(right: TypedRight) -> RightValue
     ensures { result ≡ truth_value right }
 {
     RightValue {
-        right: Some(right),
+        right: Ok(right),
         ty: ValueType::Number(Scalar::Bool),
         is_null: false,
     }
@@ -51,7 +51,7 @@ pub(crate) fn calculated(
 {
     let common = common_type(s, t);
     RightValue {
-        right: Some(TypedRight::Arithmetic(op, common, a, b)),
+        right: Ok(TypedRight::Arithmetic(op, common, a, b)),
         ty: ValueType::Number(type_by(op, common)),
         is_null: false,
     }
@@ -65,15 +65,16 @@ fn arithmetic_right(
     op: Arithmetic,
     x: &Operand,
     y: &Operand,
-) -> Result<Option<RightValue>, NoMemory>
+) -> Result<Piece<RightValue>, NoMemory>
     ensures { Answers result faults.old faults.new (arithmetic_right site.now.setting.now site.now.scene.now site.now.at op x.now y.now) }
 {
     let left = number_of(site, faults, x)?;
     let right = number_of(site, faults, y)?;
-    let (Some(a), Some(b)) = (left, right) else {
-        return Ok(None);
+    let (a, b) = match pair_of(left, right) {
+        Ok(pair) => pair,
+        Err(fault) => return Ok(Err(fault)),
     };
-    Ok(Some(calculated(op, a.operand, a.scalar, b.operand, b.scalar)))
+    Ok(Ok(calculated(op, a.operand, a.scalar, b.operand, b.scalar)))
 }
 
 /// An operator of two operands.
@@ -85,7 +86,7 @@ pub(crate) fn binary_right(
     x: &Operand,
     op: BinaryOp,
     y: &Operand,
-) -> Result<Option<RightValue>, NoMemory>
+) -> Result<Piece<RightValue>, NoMemory>
     requires knows { Knows site.now.h.now known.old }
     ensures answers { Answers result faults.old faults.new (binary_right site.now.h.now site.now.setting.now site.now.scene.now site.now.at x.now op y.now) }
     ensures knows { OnOk result (Knows site.now.h.now known.new) }
@@ -108,11 +109,12 @@ pub(crate) fn not_right(
     site: &Site,
     faults: &mut FaultList,
     x: &Operand,
-) -> Result<Option<RightValue>, NoMemory>
+) -> Result<Piece<RightValue>, NoMemory>
     ensures { Answers result faults.old faults.new (not_right site.now.setting.now site.now.scene.now site.now.at x.now) }
 {
-    let Some(value) = number_of(site, faults, x)? else {
-        return Ok(None);
+    let value = match number_of(site, faults, x)? {
+        Ok(value) => value,
+        Err(fault) => return Ok(Err(fault)),
     };
-    Ok(Some(truth_value(TypedRight::Not(value.operand))))
+    Ok(Ok(truth_value(TypedRight::Not(value.operand))))
 }

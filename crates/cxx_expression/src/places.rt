@@ -8,7 +8,7 @@ ghost use Rattle.cxx_expression.specs.Places.{member_in, member_of, checked_inde
 ghost use Rattle.cxx_expression.specs.invariants.Known.{Knows};
 
 use crate::copies::copy_field;
-use crate::faults::{FaultList, note, refuse};
+use crate::faults::{FaultList, Piece, note, refuse};
 use crate::known::Known;
 use crate::look_up::{Looked, looked_up, member_record, width_of_member};
 use crate::site::Site;
@@ -29,7 +29,7 @@ fn member_in(
     faults: &mut FaultList,
     s: Subobject,
     number: u32,
-) -> Result<Option<FoundMember>, NoMemory>
+) -> Result<Piece<FoundMember>, NoMemory>
     ensures { Answers result faults.old faults.new (member_in h.now name_at s number (class_of s)) }
 {
     // neither refusal is met for what `lookup` of cxx_lookup found: it is declared, in a subobject
@@ -39,7 +39,7 @@ fn member_in(
     let Some(member) = member_record(h, class, number) else {
         return refuse(faults, Rule::NoSuchMember, name_at);
     };
-    Ok(Some(FoundMember {
+    Ok(Ok(FoundMember {
         base: s,
         number,
         ty: copy_field(&member.ty),
@@ -55,7 +55,7 @@ fn member_of(
     faults: &mut FaultList,
     c: ClassId,
     x: &Spot,
-) -> Result<Option<FoundMember>, NoMemory>
+) -> Result<Piece<FoundMember>, NoMemory>
     requires knows { Knows site.now.h.now known.old }
     ensures answers { Answers result faults.old faults.new (member_of site.now.h.now site.now.at c x.now) }
     ensures knows { OnOk result (Knows site.now.h.now known.new) }
@@ -75,17 +75,17 @@ fn index_of(
     faults: &mut FaultList,
     count: Option<u32>,
     index: Option<(u64, u32)>,
-) -> Result<Option<u32>, NoMemory>
+) -> Result<Piece<u32>, NoMemory>
     ensures { Answers result faults.old faults.new (checked_index at count index) }
 {
     match (count, index) {
-        (None, None) => Ok(Some(0)),
+        (None, None) => Ok(Ok(0)),
         (Some(length), Some((number, place))) => {
             if number < length as u64 {
-                return Ok(Some(number as u32));
+                return Ok(Ok(number as u32));
             }
             note(faults, Rule::Index, place)?;
-            Ok(Some(0))
+            Ok(Ok(0))
         }
         (None, Some(_)) | (Some(_), None) => refuse(faults, Rule::TypeMismatch, at),
     }
@@ -97,11 +97,11 @@ fn object_of(
     at: u32,
     faults: &mut FaultList,
     ty: &FieldType<ClassId>,
-) -> Result<Option<ClassId>, NoMemory>
+) -> Result<Piece<ClassId>, NoMemory>
     ensures { Answers result faults.old faults.new (object_of at ty.now) }
 {
     match ty {
-        FieldType::Object(class) => Ok(Some(*class)),
+        FieldType::Object(class) => Ok(Ok(*class)),
         FieldType::Value(_) => refuse(faults, Rule::TypeMismatch, at),
     }
 }
@@ -114,18 +114,20 @@ fn step_of(
     faults: &mut FaultList,
     c: ClassId,
     part: &PlacePart,
-) -> Result<Option<PlaceStep>, NoMemory>
+) -> Result<Piece<PlaceStep>, NoMemory>
     requires knows { Knows site.now.h.now known.old }
     ensures answers { Answers result faults.old faults.new (step_of site.now.h.now site.now.at c part.now) }
     ensures knows { OnOk result (Knows site.now.h.now known.new) }
 {
-    let Some(found) = member_of(site, known, faults, c, &part.name)? else {
-        return Ok(None);
+    let found = match member_of(site, known, faults, c, &part.name)? {
+        Ok(found) => found,
+        Err(fault) => return Ok(Err(fault)),
     };
-    let Some(index) = index_of(site.at, faults, found.count, part.index)? else {
-        return Ok(None);
+    let index = match index_of(site.at, faults, found.count, part.index)? {
+        Ok(index) => index,
+        Err(fault) => return Ok(Err(fault)),
     };
-    Ok(Some(PlaceStep {
+    Ok(Ok(PlaceStep {
         base: found.base,
         member: found.number,
         index,
@@ -177,22 +179,24 @@ fn steps_of(
     faults: &mut FaultList,
     class: ClassId,
     parts: &[PlacePart],
-) -> Result<Option<Reached>, NoMemory>
+) -> Result<Piece<Reached>, NoMemory>
     requires knows { Knows site.now.h.now known.old }
     ensures answers { Answers result faults.old faults.new (steps_of site.now.h.now site.now.at (begun class) parts.now) }
     ensures knows { OnOk result (Knows site.now.h.now known.new) }
 {
     let mut reached = begun(known.alloc, class);
     for part in parts {
-        let Some(inside) = object_of(site.at, faults, &reached.ty)? else {
-            return Ok(None);
+        let inside = match object_of(site.at, faults, &reached.ty)? {
+            Ok(inside) => inside,
+            Err(fault) => return Ok(Err(fault)),
         };
-        let Some(step) = step_of(site, known, faults, inside, part)? else {
-            return Ok(None);
+        let step = match step_of(site, known, faults, inside, part)? {
+            Ok(step) => step,
+            Err(fault) => return Ok(Err(fault)),
         };
         reached = further(reached, inside, step)?;
     }
-    Ok(Some(reached))
+    Ok(Ok(reached))
 }
 
 /// The place that is reached, where it has a name.
@@ -224,23 +228,25 @@ fn place_of(
     known: &mut Known,
     faults: &mut FaultList,
     text: &PlaceText,
-) -> Result<Option<FieldPlace>, NoMemory>
+) -> Result<Piece<FieldPlace>, NoMemory>
     requires knows { Knows site.now.h.now known.old }
     ensures answers { Answers result faults.old faults.new (place_of site.now.h.now site.now.setting.now site.now.scene.now site.now.at text.now) }
     ensures knows { OnOk result (Knows site.now.h.now known.new) }
 {
-    let Some(pointer) = pointer_of(site, faults, &text.pointer)? else {
-        return Ok(None);
+    let pointer = match pointer_of(site, faults, &text.pointer)? {
+        Ok(pointer) => pointer,
+        Err(fault) => return Ok(Err(fault)),
     };
     let parts = text.parts.as_slice();
-    let Some(reached) = steps_of(site, known, faults, pointer.class, parts)? else {
-        return Ok(None);
+    let reached = match steps_of(site, known, faults, pointer.class, parts)? {
+        Ok(reached) => reached,
+        Err(fault) => return Ok(Err(fault)),
     };
     // the refusal is never met: tokens spell a name behind the arrow, by `PlaceReads` of cxx_syntax
     let Some(place) = with_last(pointer, reached) else {
         return refuse(faults, Rule::TypeMismatch, site.at);
     };
-    Ok(Some(place))
+    Ok(Ok(place))
 }
 
 /// A place of a number or a pointer; `at` is the place of the statement's first token. Faults: E9, E10, E19, E20, E22.
@@ -250,17 +256,18 @@ pub fn leaf_of(
     known: &mut Known,
     faults: &mut FaultList,
     text: &PlaceText,
-) -> Result<Option<LeafPlace>, NoMemory>
+) -> Result<Piece<LeafPlace>, NoMemory>
     requires knows { Knows site.now.h.now known.old }
     ensures answers { Answers result faults.old faults.new (leaf_of site.now.h.now site.now.setting.now site.now.scene.now site.now.at text.now) }
     ensures knows { OnOk result (Knows site.now.h.now known.new) }
 {
-    let Some(found) = place_of(site, known, faults, text)? else {
-        return Ok(None);
+    let found = match place_of(site, known, faults, text)? {
+        Ok(found) => found,
+        Err(fault) => return Ok(Err(fault)),
     };
     let FieldPlace { place, ty } = found;
     match ty {
-        FieldType::Value(ty) => Ok(Some(LeafPlace { place, ty })),
+        FieldType::Value(ty) => Ok(Ok(LeafPlace { place, ty })),
         FieldType::Object(_) => refuse(faults, Rule::TypeMismatch, site.at),
     }
 }
@@ -280,17 +287,18 @@ pub(crate) fn object_place_of(
     known: &mut Known,
     faults: &mut FaultList,
     text: &PlaceText,
-) -> Result<Option<ObjectPlace>, NoMemory>
+) -> Result<Piece<ObjectPlace>, NoMemory>
     requires knows { Knows site.now.h.now known.old }
     ensures answers { Answers result faults.old faults.new (object_place_of site.now.h.now site.now.setting.now site.now.scene.now site.now.at text.now) }
     ensures knows { OnOk result (Knows site.now.h.now known.new) }
 {
-    let Some(found) = place_of(site, known, faults, text)? else {
-        return Ok(None);
+    let found = match place_of(site, known, faults, text)? {
+        Ok(found) => found,
+        Err(fault) => return Ok(Err(fault)),
     };
     let FieldPlace { place, ty } = found;
     match ty {
-        FieldType::Object(class) => Ok(Some(ObjectPlace { place, class })),
+        FieldType::Object(class) => Ok(Ok(ObjectPlace { place, class })),
         FieldType::Value(_) => refuse(faults, Rule::TypeMismatch, site.at),
     }
 }

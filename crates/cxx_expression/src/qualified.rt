@@ -1,7 +1,7 @@
 //! Calls with a class before `::`.
 
 ghost use Rattle.std.specs.Prelude.{◌≡◌, OnOk};
-ghost use Rattle.cxx_expression.specs.Checked.{Answers, pair_of};
+ghost use Rattle.cxx_expression.specs.Checked.{Answers};
 ghost use Rattle.cxx_expression.specs.Calls.{named_function, receiver_of, found_parameters, qualified_value, qualified_call};
 ghost use Rattle.cxx_expression.specs.invariants.Known.{Knows};
 
@@ -9,7 +9,7 @@ use crate::arguments::arguments_of;
 use crate::calls::function_of;
 use crate::classes::class_of;
 use crate::conversions::path_to;
-use crate::faults::{FaultList, note};
+use crate::faults::{FaultList, Piece, note, pair_of};
 use crate::known::Known;
 use crate::site::Site;
 use crate::typed::{CallValue, FoundFunction, Receiver};
@@ -27,13 +27,14 @@ fn named_function(
     faults: &mut FaultList,
     k: ClassId,
     call: &CallText,
-) -> Result<Option<FoundFunction>, NoMemory>
+) -> Result<Piece<FoundFunction>, NoMemory>
     requires knows { Knows site.now.h.now known.old }
     ensures answers { Answers result faults.old faults.new (named_function site.now.h.now site.now.at k call.now) }
     ensures knows { OnOk result (Knows site.now.h.now known.new) }
 {
-    let Some(found) = function_of(site, known, faults, k, &call.name)? else {
-        return Ok(None);
+    let found = match function_of(site, known, faults, k, &call.name)? {
+        Ok(found) => found,
+        Err(fault) => return Ok(Err(fault)),
     };
     if found.is_pure {
         note(faults, Rule::Abstract, call.name.at)?;
@@ -41,7 +42,7 @@ fn named_function(
     if call.arguments.len() != found.parameters.len() {
         note(faults, Rule::TypeMismatch, site.at)?;
     }
-    Ok(Some(found))
+    Ok(Ok(found))
 }
 
 /// The pointer of a call, and a class as a base of its class.
@@ -52,37 +53,35 @@ fn receiver_of(
     faults: &mut FaultList,
     k: ClassId,
     pointer: &PointerText,
-) -> Result<Option<Receiver>, NoMemory>
+) -> Result<Piece<Receiver>, NoMemory>
     requires knows { Knows site.now.h.now known.old }
     ensures answers { Answers result faults.old faults.new (receiver_of site.now.h.now site.now.setting.now site.now.scene.now site.now.at k pointer.now) }
     ensures knows { OnOk result (Knows site.now.h.now known.new) }
 {
-    let Some(pointer) = pointer_of(site, faults, pointer)? else {
-        return Ok(None);
+    let pointer = match pointer_of(site, faults, pointer)? {
+        Ok(pointer) => pointer,
+        Err(fault) => return Ok(Err(fault)),
     };
-    let Some(path) = path_to(site, known, faults, pointer.class, k)? else {
-        return Ok(None);
+    let path = match path_to(site, known, faults, pointer.class, k)? {
+        Ok(path) => path,
+        Err(fault) => return Ok(Err(fault)),
     };
-    Ok(Some(Receiver { pointer, path }))
+    Ok(Ok(Receiver { pointer, path }))
 }
 
 /// The types of the parameters of a function.
-fn parameters_of(found: &Option<FoundFunction>) -> &[ValueType<ClassId>]
+fn parameters_of(found: &Piece<FoundFunction>) -> &[ValueType<ClassId>]
     ensures { result.now ≡ found_parameters found.now }
 {
     match found {
-        None => &[],
-        Some(found) => found.parameters.as_slice(),
+        Err(_) => &[],
+        Ok(found) => found.parameters.as_slice(),
     }
 }
 
 /// What a call that is not dispatched returns, and the call, where its receiver and its arguments are there.
-fn qualified_value(
-    found: FoundFunction,
-    receiver: Option<Receiver>,
-    arguments: Option<ArgumentList>,
-) -> CallValue
-    ensures { result ≡ qualified_value found (pair_of receiver arguments) }
+fn qualified_value(found: FoundFunction, passed: Piece<(Receiver, ArgumentList)>) -> CallValue
+    ensures { result ≡ qualified_value found passed }
 {
     let FoundFunction {
         base,
@@ -90,8 +89,9 @@ fn qualified_value(
         returns,
         ..
     } = found;
-    let call = match (receiver, arguments) {
-        (Some(receiver), Some(arguments)) => Some(TypedCall {
+    let call = match passed {
+        Err(fault) => Err(fault),
+        Ok((receiver, arguments)) => Ok(TypedCall {
             pointer: receiver.pointer.operand,
             class: receiver.pointer.class,
             qualifier: receiver.path,
@@ -100,7 +100,6 @@ fn qualified_value(
             is_dispatched: false,
             arguments,
         }),
-        _ => None,
     };
     CallValue { call, returns }
 }
@@ -113,21 +112,23 @@ pub(crate) fn qualified_call(
     faults: &mut FaultList,
     call: &CallText,
     x: &Spot,
-) -> Result<Option<CallValue>, NoMemory>
+) -> Result<Piece<CallValue>, NoMemory>
     requires knows { Knows site.now.h.now known.old }
     ensures answers { Answers result faults.old faults.new (qualified_call site.now.h.now site.now.setting.now site.now.scene.now site.now.at call.now x.now) }
     ensures knows { OnOk result (Knows site.now.h.now known.new) }
 {
-    let Some(k) = class_of(site.h, faults, x)? else {
-        return Ok(None);
+    let k = match class_of(site.h, faults, x)? {
+        Ok(k) => k,
+        Err(fault) => return Ok(Err(fault)),
     };
     let found = named_function(site, known, faults, k, call)?;
     let parameters = parameters_of(&found);
     let operands = call.arguments.as_slice();
     let receiver = receiver_of(site, known, faults, k, &call.pointer)?;
     let list = arguments_of(site, known, faults, parameters, operands)?;
-    let Some(found) = found else {
-        return Ok(None);
+    let found = match found {
+        Ok(found) => found,
+        Err(fault) => return Ok(Err(fault)),
     };
-    Ok(Some(qualified_value(found, receiver, list)))
+    Ok(Ok(qualified_value(found, pair_of(receiver, list))))
 }

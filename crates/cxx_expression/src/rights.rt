@@ -11,7 +11,7 @@ use crate::calls::call_of;
 use crate::casts::{cast_right, type_right};
 use crate::classes::class_of;
 use crate::conversions::conversion_of;
-use crate::faults::{FaultList, refuse};
+use crate::faults::{FaultList, Piece, refuse};
 use crate::known::Known;
 use crate::operators::{binary_right, not_right};
 use crate::places::{leaf_of, object_place_of};
@@ -26,18 +26,19 @@ use cxx_syntax::{CallText, Operand, PlaceText, Right, Spot};
 use foundation::NoMemory;
 
 /// What is known of a right side, where its type is.
-type Answer = Result<Option<RightValue>, NoMemory>;
+type Answer = Result<Piece<RightValue>, NoMemory>;
 
 /// An operand.
 #[tactic(auto, unfolding(crate::specs::Rights::operand_right))]
 fn operand_right(site: &Site, faults: &mut FaultList, operand: &Operand) -> Answer
     ensures { Answers result faults.old faults.new (operand_right site.now.setting.now site.now.scene.now site.now.at operand.now) }
 {
-    let Some(value) = operand_of(site, faults, operand)? else {
-        return Ok(None);
+    let value = match operand_of(site, faults, operand)? {
+        Ok(value) => value,
+        Err(fault) => return Ok(Err(fault)),
     };
-    Ok(Some(RightValue {
-        right: Some(TypedRight::Operand(value.operand)),
+    Ok(Ok(RightValue {
+        right: Ok(TypedRight::Operand(value.operand)),
         ty: value.ty,
         is_null: value.is_null,
     }))
@@ -50,11 +51,12 @@ fn place_right(site: &Site, known: &mut Known, faults: &mut FaultList, text: &Pl
     ensures answers { Answers result faults.old faults.new (place_right site.now.h.now site.now.setting.now site.now.scene.now site.now.at text.now) }
     ensures knows { OnOk result (Knows site.now.h.now known.new) }
 {
-    let Some(leaf) = leaf_of(site, known, faults, text)? else {
-        return Ok(None);
+    let leaf = match leaf_of(site, known, faults, text)? {
+        Ok(leaf) => leaf,
+        Err(fault) => return Ok(Err(fault)),
     };
-    Ok(Some(RightValue {
-        right: Some(TypedRight::Read(leaf.place)),
+    Ok(Ok(RightValue {
+        right: Ok(TypedRight::Read(leaf.place)),
         ty: leaf.ty,
         is_null: false,
     }))
@@ -67,23 +69,24 @@ fn address_right(site: &Site, known: &mut Known, faults: &mut FaultList, text: &
     ensures answers { Answers result faults.old faults.new (address_right site.now.h.now site.now.setting.now site.now.scene.now site.now.at text.now) }
     ensures knows { OnOk result (Knows site.now.h.now known.new) }
 {
-    let Some(object) = object_place_of(site, known, faults, text)? else {
-        return Ok(None);
+    let object = match object_place_of(site, known, faults, text)? {
+        Ok(object) => object,
+        Err(fault) => return Ok(Err(fault)),
     };
-    Ok(Some(RightValue {
-        right: Some(TypedRight::Address(object.place, object.class)),
+    Ok(Ok(RightValue {
+        right: Ok(TypedRight::Address(object.place, object.class)),
         ty: ValueType::Pointer(object.class),
         is_null: false,
     }))
 }
 
 /// A call, where it is there, with the type of its result.
-fn result_value(call: Option<TypedCall>, ty: ValueType<ClassId>) -> RightValue
+fn result_value(call: Piece<TypedCall>, ty: ValueType<ClassId>) -> RightValue
     ensures { result ≡ result_value call ty }
 {
     let right = match call {
-        None => None,
-        Some(call) => Some(TypedRight::Call(call)),
+        Err(fault) => Err(fault),
+        Ok(call) => Ok(TypedRight::Call(call)),
     };
     RightValue {
         right,
@@ -100,13 +103,14 @@ fn call_right(site: &Site, known: &mut Known, faults: &mut FaultList, text: &Cal
     ensures answers { Answers result faults.old faults.new (call_right site.now.h.now site.now.setting.now site.now.scene.now site.now.at text.now) }
     ensures knows { OnOk result (Knows site.now.h.now known.new) }
 {
-    let Some(value) = call_of(site, known, faults, text)? else {
-        return Ok(None);
+    let value = match call_of(site, known, faults, text)? {
+        Ok(value) => value,
+        Err(fault) => return Ok(Err(fault)),
     };
     let CallValue { call, returns } = value;
     match returns {
         ReturnType::Void => refuse(faults, Rule::TypeMismatch, site.at),
-        ReturnType::Value(ty) => Ok(Some(result_value(call, ty))),
+        ReturnType::Value(ty) => Ok(Ok(result_value(call, ty))),
     }
 }
 
@@ -129,14 +133,15 @@ fn new_right(h: &Hierarchy, o: &Overriders, faults: &mut FaultList, x: &Spot) ->
     requires made { AreOverriders h.now o.now }
     ensures { Answers result faults.old faults.new (new_right h.now x.now) }
 {
-    let Some(class) = class_of(h, faults, x)? else {
-        return Ok(None);
+    let class = match class_of(h, faults, x)? {
+        Ok(class) => class,
+        Err(fault) => return Ok(Err(fault)),
     };
     if is_abstract(h, o, class) {
         return refuse(faults, Rule::Abstract, x.at);
     }
-    Ok(Some(RightValue {
-        right: Some(TypedRight::New(class)),
+    Ok(Ok(RightValue {
+        right: Ok(TypedRight::New(class)),
         ty: ValueType::Pointer(class),
         is_null: false,
     }))
@@ -173,19 +178,20 @@ pub fn converted_value(
     faults: &mut FaultList,
     ty: &ValueType<ClassId>,
     value: RightValue,
-) -> Result<Option<Converted>, NoMemory>
+) -> Result<Piece<Converted>, NoMemory>
     requires knows { Knows site.now.h.now known.old }
     ensures answers { Answers result faults.old faults.new (converted_value site.now.h.now site.now.at ty.now value) }
     ensures knows { OnOk result (Knows site.now.h.now known.new) }
 {
-    let conversion = conversion_of(site, known, faults, &value.ty, value.is_null, ty)?;
-    let Some(conversion) = conversion else {
-        return Ok(None);
+    let conversion = match conversion_of(site, known, faults, &value.ty, value.is_null, ty)? {
+        Ok(conversion) => conversion,
+        Err(fault) => return Ok(Err(fault)),
     };
-    let Some(right) = value.right else {
-        return Ok(None);
+    let right = match value.right {
+        Ok(right) => right,
+        Err(fault) => return Ok(Err(fault)),
     };
-    Ok(Some(Converted { right, conversion }))
+    Ok(Ok(Converted { right, conversion }))
 }
 
 /// A right side that becomes a value of a type; `at` is the place of the statement's first token. Faults: those of the
@@ -197,14 +203,15 @@ pub fn converted_right(
     faults: &mut FaultList,
     ty: &ValueType<ClassId>,
     right: &Right,
-) -> Result<Option<Converted>, NoMemory>
+) -> Result<Piece<Converted>, NoMemory>
     requires made { AreOverriders site.now.h.now site.now.overriders.now }
     requires knows { Knows site.now.h.now known.old }
     ensures answers { Answers result faults.old faults.new (converted_right site.now.h.now site.now.setting.now site.now.scene.now site.now.at ty.now right.now) }
     ensures knows { OnOk result (Knows site.now.h.now known.new) }
 {
-    let Some(value) = right_of(site, known, faults, right)? else {
-        return Ok(None);
+    let value = match right_of(site, known, faults, right)? {
+        Ok(value) => value,
+        Err(fault) => return Ok(Err(fault)),
     };
     let converted = converted_value(site, known, faults, ty, value)?;
     Ok(converted)

@@ -1,5 +1,6 @@
 //! What the pieces of a statement are typed to, with their types.
 
+use crate::faults::Piece;
 use cxx_hierarchy::{ClassId, FieldType, ReturnType, Scalar, ValueType};
 use cxx_overrider::FunctionId;
 use cxx_program::{PassedList, TypeList, TypedCall, TypedOperand, TypedPlace, TypedRight};
@@ -100,18 +101,18 @@ pub(crate) struct Receiver {
     pub(crate) path: Option<Subobject>,
 }
 
-/// What the function of a call returns, and the call, where its receiver and its arguments are typed too.
+/// What the function of a call returns, and the call, or the fault that refuses its receiver or an argument.
 #[derive(Drop)]
 pub(crate) struct CallValue {
-    pub(crate) call: Option<TypedCall>,
+    pub(crate) call: Piece<TypedCall>,
     pub(crate) returns: ReturnType<ClassId>,
 }
 
-/// The type of a right side, whether it is a null pointer constant, and the right side, where all of it is typed. Only a call
-/// has its type from a part of it, the function.
+/// The type of a right side, whether it is a null pointer constant, and the right side, or the fault that refuses a part of
+/// it. Only a call has its type from a part of it, the function.
 #[derive(Drop)]
 pub struct RightValue {
-    pub right: Option<TypedRight>,
+    pub right: Piece<TypedRight>,
     pub ty: ValueType<ClassId>,
     pub is_null: bool,
 }

@@ -5,7 +5,7 @@ ghost use Rattle.cxx_expression.specs.Checked.{Answers};
 ghost use Rattle.cxx_expression.specs.Values.{variable_of, named_value, this_pointer_value, within_long, spelled, truth, constant_of, operand_of, pointer_value, as_pointer, as_number, pointer_of, number_operand};
 
 use crate::copies::copy_type;
-use crate::faults::{FaultList, refuse};
+use crate::faults::{FaultList, Piece, refuse};
 use crate::scene::last_of;
 use crate::site::Site;
 use crate::typed::{Number, Pointer, Value};
@@ -20,8 +20,8 @@ const LARGEST_INT: u64 = 2147483647;
 /// The largest number that a source has, which is the largest `long`.
 const LARGEST: u64 = 9223372036854775807;
 
-/// What an operand is typed to, where its names and types fit.
-type Answer<T> = Result<Option<T>, NoMemory>;
+/// What an operand is typed to, or the fault that refuses it.
+type Answer<T> = Result<Piece<T>, NoMemory>;
 
 /// The variable of a name, and its type. Faults: E22.
 #[tactic(auto, unfolding(crate::specs::Values::variable_of))]
@@ -29,14 +29,14 @@ pub fn variable_of(
     site: &Site,
     faults: &mut FaultList,
     x: &Spot,
-) -> Result<Option<(Variable, ValueType<ClassId>)>, NoMemory>
+) -> Result<Piece<(Variable, ValueType<ClassId>)>, NoMemory>
     ensures { Answers result faults.old faults.new (variable_of site.now.setting.now site.now.scene.now x.now) }
 {
     if let Some(entry) = last_of(site.scene.entries.as_slice(), x.name.as_slice()) {
-        return Ok(Some((Variable::Local(entry.number), copy_type(&entry.ty))));
+        return Ok(Ok((Variable::Local(entry.number), copy_type(&entry.ty))));
     }
     if let Some(entry) = last_of(site.setting.globals.as_slice(), x.name.as_slice()) {
-        return Ok(Some((Variable::Global(entry.number), copy_type(&entry.ty))));
+        return Ok(Ok((Variable::Global(entry.number), copy_type(&entry.ty))));
     }
     refuse(faults, Rule::UnknownName, x.at)
 }
@@ -46,10 +46,11 @@ pub fn variable_of(
 fn named_value(site: &Site, faults: &mut FaultList, x: &Spot) -> Answer<Value>
     ensures { Answers result faults.old faults.new (named_value site.now.setting.now site.now.scene.now x.now) }
 {
-    let Some((variable, ty)) = variable_of(site, faults, x)? else {
-        return Ok(None);
+    let (variable, ty) = match variable_of(site, faults, x)? {
+        Ok(variable) => variable,
+        Err(fault) => return Ok(Err(fault)),
     };
-    Ok(Some(Value {
+    Ok(Ok(Value {
         operand: TypedOperand::Variable(variable),
         ty,
         is_null: false,
@@ -63,7 +64,7 @@ fn this_of(at: u32, faults: &mut FaultList, class: Option<ClassId>) -> Answer<Va
     let Some(class) = class else {
         return refuse(faults, Rule::TypeMismatch, at);
     };
-    Ok(Some(Value {
+    Ok(Ok(Value {
         operand: TypedOperand::This,
         ty: ValueType::Pointer(class),
         is_null: false,
@@ -122,7 +123,7 @@ pub fn operand_of(site: &Site, faults: &mut FaultList, operand: &Operand) -> Ans
     match operand {
         Operand::Name(x) => named_value(site, faults, x),
         Operand::This(_) => this_of(site.at, faults, site.setting.this_class),
-        Operand::Constant(constant) => Ok(Some(constant_of(constant))),
+        Operand::Constant(constant) => Ok(Ok(constant_of(constant))),
     }
 }
 
@@ -142,7 +143,7 @@ fn as_pointer(at: u32, faults: &mut FaultList, value: &Value) -> Answer<Pointer>
     ensures { Answers result faults.old faults.new (as_pointer at value.now.operand value.now.ty) }
 {
     match &value.ty {
-        ValueType::Pointer(class) => Ok(Some(Pointer {
+        ValueType::Pointer(class) => Ok(Ok(Pointer {
             operand: value.operand,
             class: *class,
         })),
@@ -155,8 +156,9 @@ fn as_pointer(at: u32, faults: &mut FaultList, value: &Value) -> Answer<Pointer>
 pub fn pointer_of(site: &Site, faults: &mut FaultList, pointer: &PointerText) -> Answer<Pointer>
     ensures { Answers result faults.old faults.new (pointer_of site.now.setting.now site.now.scene.now site.now.at pointer.now) }
 {
-    let Some(value) = pointer_value(site, faults, pointer)? else {
-        return Ok(None);
+    let value = match pointer_value(site, faults, pointer)? {
+        Ok(value) => value,
+        Err(fault) => return Ok(Err(fault)),
     };
     as_pointer(site.at, faults, &value)
 }
@@ -166,7 +168,7 @@ fn as_number(at: u32, faults: &mut FaultList, value: &Value) -> Answer<Number>
     ensures { Answers result faults.old faults.new (as_number at value.now.operand value.now.ty) }
 {
     match &value.ty {
-        ValueType::Number(scalar) => Ok(Some(Number {
+        ValueType::Number(scalar) => Ok(Ok(Number {
             operand: value.operand,
             scalar: *scalar,
         })),
@@ -179,8 +181,9 @@ fn as_number(at: u32, faults: &mut FaultList, value: &Value) -> Answer<Number>
 pub fn number_of(site: &Site, faults: &mut FaultList, operand: &Operand) -> Answer<Number>
     ensures { Answers result faults.old faults.new (number_operand site.now.setting.now site.now.scene.now site.now.at operand.now) }
 {
-    let Some(value) = operand_of(site, faults, operand)? else {
-        return Ok(None);
+    let value = match operand_of(site, faults, operand)? {
+        Ok(value) => value,
+        Err(fault) => return Ok(Err(fault)),
     };
     as_number(site.at, faults, &value)
 }

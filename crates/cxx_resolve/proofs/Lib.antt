@@ -9,7 +9,6 @@ pub mod Counting
 pub mod ShorterParts
 pub mod Counted
 pub mod KindCases
-pub mod CompleteStatements
 pub mod Results
 pub mod SureWalks
 pub mod SomeProgram

@@ -1,9 +1,7 @@
 -- The statements of a body are typed, refused, or at a limit: want of memory is no answer.
-use Rattle.std.proofs.Common.{◌≡◌, ℕ, ◌+◌, ◌<◌, nat_le, Bool, true, false, if◌then◌else◌, Option, Some, None, IsSome, Result, Ok, Err, List, [], ◌∷◌, ◌++◌, map, length, ap, sym, ◌∙◌, refl, subst, arith}
+use Rattle.std.proofs.Common.{ℕ, ◌+◌, nat_le, Bool, true, false, if◌then◌else◌, Option, Some, None, Result, Ok, Err, List, [], ◌∷◌, map, sym, subst}
 use Rattle.cxx_hierarchy.specs.declared.records.ValueType.{ValueType}
 use Rattle.cxx_hierarchy.specs.declared.stop.Stop.{Stop}
-use Rattle.cxx_hierarchy.specs.declared.stop.Stop.TheVariants as stop
-use Rattle.cxx_hierarchy.specs.declared.stop.LimitNo.TheVariants.{L3}
 use Rattle.cxx_hierarchy.specs.NameTables.{Text}
 use Rattle.cxx_hierarchy.specs.Classes.{Classes}
 use Rattle.cxx_syntax.specs.declared.tree.Spot.{Spot}
@@ -21,17 +19,20 @@ use Rattle.cxx_expression.specs.declared.scene.Setting.{Setting}
 use Rattle.cxx_expression.specs.Checked.{Checked}
 use Rattle.cxx_expression.specs.Faults.{least, settled}
 use Rattle.cxx_expression.specs.Values.{number_operand}
-use Rattle.cxx_expression.specs.Laws.{IsComplete, PiecesAreComplete}
-use Rattle.cxx_expression.proofs.Complete.{answered}
 use Rattle.cxx_resolve.specs.declared.draft.Draft.{Draft}
+use Rattle.cxx_resolve.specs.Stops.{◌>>>◌}
 use Rattle.cxx_resolve.specs.Statements.{declare_of, assign_of, write_of, copy_of, call_statement, delete_of, returned_kind, print_of, print_type_of, print_view_of, dump_of}
-use Rattle.cxx_resolve.specs.Walks.{KindMeaning, Meaning, kind_step, statement_step, block_step, kind_meaning, statement_meaning, block_meaning, sizes, walk_all, next_of, plain, declaration, declare_walk, branch, loop, head, scoped, most_locals}
+use Rattle.cxx_resolve.specs.Walks.{KindMeaning, Meaning, kind_step, statement_step, block_step, kind_meaning, statement_meaning, block_meaning, walk_all, next_of, plain, declaration, declare_walk, branch, loop, head, scoped, most_locals}
 use Rattle.cxx_resolve.proofs.Walking.{layer_is}
 use Rattle.cxx_resolve.proofs.Never.{IsSure, sure_ok, sure_then}
-use Rattle.cxx_resolve.proofs.CompleteStatements.{c_declare, c_assign, c_write, c_copy, c_call_statement, c_delete, c_return, c_print, c_print_type, c_print_view, c_dump}
 
-pub sure_settled : {X : Type 0} (p : Checked X) → IsComplete p → IsSure (settled (least (p.faults [])) p.typed)
-sure_settled p c = (answered p c).not_neither
+pub sure_settled : {X : Type 0} (worst : Option Fault) (typed : Result X Fault) → IsSure (settled worst typed)
+sure_settled (Some f) typed e = absurd (cc)
+sure_settled None (Err f) e = absurd (cc)
+sure_settled None (Ok x) e = absurd (cc)
+
+sure_piece : {X Y : Type 0} (p : Checked X) (go : X → Y) → IsSure (settled (least (p.faults [])) p.typed >>> λ x. Ok (go x))
+sure_piece p go = sure_then (settled (least (p.faults [])) p.typed) _ (sure_settled (least (p.faults [])) p.typed) (λ x. sure_ok (go x))
 
 record IsSureKind (m : KindMeaning) : Type 0 where
   walks : (h : Classes) (e : Setting) (at line n next : ℕ) (d : Draft) → IsSure (m.walk h e at line n next d)
@@ -39,41 +40,40 @@ record IsSureKind (m : KindMeaning) : Type 0 where
 pub record IsSureMeaning (m : Meaning) : Type 0 where
   pub walks : (h : Classes) (e : Setting) (n next : ℕ) (d : Draft) → IsSure (m.walk h e n next d)
 
-sure_plain : (f : Classes → Setting → Scene → ℕ → Checked TypedKind) → ((h : Classes) (e : Setting) (s : Scene) (at : ℕ) → IsComplete (f h e s at)) → IsSureKind (plain f)
-sure_plain f c = record { walks = λ h e at line n next d. sure_then (settled (least ((f h e d.scene at).faults [])) (f h e d.scene at).typed) _ (sure_settled (f h e d.scene at) (c h e d.scene at)) (λ k. sure_ok _) }
+sure_plain : (f : Classes → Setting → Scene → ℕ → Checked TypedKind) → IsSureKind (plain f)
+sure_plain f = record { walks = λ h e at line n next d. sure_piece (f h e d.scene at) _ }
 
 pub sure_if : {A : Type 0} (t : Bool) (p q : Result A Stop) → IsSure p → IsSure q → IsSure (if t then p else q)
 sure_if true p q h k = h
 sure_if false p q h k = k
 
-sure_declare : (q : PiecesAreComplete) (h : Classes) (e : Setting) (at : ℕ) (ty : ValueType Text) (ty_at : ℕ) (x : Spot) (init : Option Right) (line next : ℕ) (d : Draft) → IsSure (declare_walk h e at ty ty_at x init line next d)
+sure_declare : (h : Classes) (e : Setting) (at : ℕ) (ty : ValueType Text) (ty_at : ℕ) (x : Spot) (init : Option Right) (line next : ℕ) (d : Draft) → IsSure (declare_walk h e at ty ty_at x init line next d)
 unfolding declare_walk
-sure_declare q h e at ty ty_at x init line next d =
-    let p = declare_of h e d.scene at ty ty_at x init in
-    sure_if (nat_le most_locals d.scene.declared) _ _ (λ i. absurd (cc)) (sure_then (settled (least (p.faults [])) p.typed) _ (sure_settled p (c_declare q h e d.scene at ty ty_at x init)) (λ r. sure_ok _))
+sure_declare h e at ty ty_at x init line next d =
+    sure_if (nat_le most_locals d.scene.declared) _ _ (λ i. absurd (cc)) (sure_piece (declare_of h e d.scene at ty ty_at x init) _)
 
-sure_declaration : (q : PiecesAreComplete) (ty : ValueType Text) (ty_at : ℕ) (x : Spot) (init : Option Right) → IsSureKind (declaration ty ty_at x init)
-sure_declaration q ty ty_at x init = record { walks = λ h e at line n next d. sure_declare q h e at ty ty_at x init line next d }
+sure_declaration : (ty : ValueType Text) (ty_at : ℕ) (x : Spot) (init : Option Right) → IsSureKind (declaration ty ty_at x init)
+sure_declaration ty ty_at x init = record { walks = λ h e at line n next d. sure_declare h e at ty ty_at x init line next d }
 
-sure_head : (q : PiecesAreComplete) (leads : TypedOperand → TypedKind) (e : Setting) (at : ℕ) (x : Operand) (line next : ℕ) (d : Draft) → IsSure (head leads e at x line next d)
+sure_head : (leads : TypedOperand → TypedKind) (e : Setting) (at : ℕ) (x : Operand) (line next : ℕ) (d : Draft) → IsSure (head leads e at x line next d)
 unfolding head
-sure_head q leads e at x line next d = let p = number_operand e d.scene at x in sure_then (settled (least (p.faults [])) p.typed) _ (sure_settled p (q.number e d.scene at x)) (λ v. sure_ok _)
+sure_head leads e at x line next d = sure_piece (number_operand e d.scene at x) _
 
 sure_scoped : (m : Meaning) → IsSureMeaning m → (h : Classes) (e : Setting) (n next : ℕ) (d : Draft) → IsSure (scoped m h e n next d)
 unfolding scoped
 sure_scoped m s h e n next d = sure_then (m.walk h e n next _) _ (s.walks h e n next _) (λ new. sure_ok _)
 
-sure_branch : (q : PiecesAreComplete) (x : Operand) (m : Meaning) → IsSureMeaning m → IsSureKind (branch x m None)
-sure_branch q x m s = record { walks = λ h e at line n next d. sure_then (head _ e at x line next d) _ (sure_head q _ e at x line next d) (λ new. sure_scoped m s h e (n + 1) next new) }
+sure_branch : (x : Operand) (m : Meaning) → IsSureMeaning m → IsSureKind (branch x m None)
+sure_branch x m s = record { walks = λ h e at line n next d. sure_then (head _ e at x line next d) _ (sure_head _ e at x line next d) (λ new. sure_scoped m s h e (n + 1) next new) }
 
-sure_branches : (q : PiecesAreComplete) (x : Operand) (m o : Meaning) → IsSureMeaning m → IsSureMeaning o → IsSureKind (branch x m (Some o))
-sure_branches q x m o s t = record {
+sure_branches : (x : Operand) (m o : Meaning) → IsSureMeaning m → IsSureMeaning o → IsSureKind (branch x m (Some o))
+sure_branches x m o s t = record {
   walks = λ h e at line n next d.
-      sure_then _ _ (sure_then (head _ e at x line next d) _ (sure_head q _ e at x line next d) (λ new. sure_scoped m s h e (n + 1) next new)) (λ new. sure_scoped o t h e (n + 1 + m.size) next new);
+      sure_then _ _ (sure_then (head _ e at x line next d) _ (sure_head _ e at x line next d) (λ new. sure_scoped m s h e (n + 1) next new)) (λ new. sure_scoped o t h e (n + 1 + m.size) next new);
 }
 
-sure_loop : (q : PiecesAreComplete) (x : Operand) (m : Meaning) → IsSureMeaning m → IsSureKind (loop x m)
-sure_loop q x m s = record { walks = λ h e at line n next d. sure_then (head _ e at x line next d) _ (sure_head q _ e at x line next d) (λ new. sure_scoped m s h e (n + 1) n new) }
+sure_loop : (x : Operand) (m : Meaning) → IsSureMeaning m → IsSureKind (loop x m)
+sure_loop x m s = record { walks = λ h e at line n next d. sure_then (head _ e at x line next d) _ (sure_head _ e at x line next d) (λ new. sure_scoped m s h e (n + 1) n new) }
 
 abbrev AllSure : List Meaning → Type 0
 AllSure [] = Unit {0}
@@ -88,22 +88,22 @@ all_sure : {C : Type 0} (k : C → Statement) → ((c : C) → IsSureMeaning (st
 all_sure k s [] = tt
 all_sure k s (c ∷ list) = (s c, all_sure k s list)
 
-kind_sure : (q : PiecesAreComplete) {A B C : Type 0} (f : A → StatementKind) (g : B → BodyTree) (k : C → Statement) → ((b : B) → IsSureMeaning (block_meaning (g b))) → (y : StatementKind-F A B C) →
+kind_sure : {A B C : Type 0} (f : A → StatementKind) (g : B → BodyTree) (k : C → Statement) → ((b : B) → IsSureMeaning (block_meaning (g b))) → (y : StatementKind-F A B C) →
     IsSureKind (kind_meaning (roll-StatementKind (map-StatementKind A B C StatementKind BodyTree Statement f g k y)))
-kind_sure q f g k s (layer.Declare ty at x i) = subst IsSureKind (sym (layer_is (layer.Declare ty at x i))) (sure_declaration q ty at x i)
-kind_sure q f g k s (layer.Assign x r) = subst IsSureKind (sym (layer_is (layer.Assign x r))) (sure_plain _ (λ h e v at. c_assign q h e v at x r))
-kind_sure q f g k s (layer.Write place x) = subst IsSureKind (sym (layer_is (layer.Write place x))) (sure_plain _ (λ h e v at. c_write q h e v at place x))
-kind_sure q f g k s (layer.Copy to source) = subst IsSureKind (sym (layer_is (layer.Copy to source))) (sure_plain _ (λ h e v at. c_copy q e v at to source))
-kind_sure q f g k s (layer.Call text) = subst IsSureKind (sym (layer_is (layer.Call text))) (sure_plain _ (λ h e v at. c_call_statement q h e v at text))
-kind_sure q f g k s (layer.Delete x) = subst IsSureKind (sym (layer_is (layer.Delete x))) (sure_plain _ (λ h e v at. c_delete q e v at x))
-kind_sure q f g k s (layer.If x b None) = subst IsSureKind (sym (layer_is (layer.If x (g b) None))) (sure_branch q x (block_meaning (g b)) (s b))
-kind_sure q f g k s (layer.If x b (Some c)) = subst IsSureKind (sym (layer_is (layer.If x (g b) (Some (g c))))) (sure_branches q x (block_meaning (g b)) (block_meaning (g c)) (s b) (s c))
-kind_sure q f g k s (layer.While x b) = subst IsSureKind (sym (layer_is (layer.While x (g b)))) (sure_loop q x (block_meaning (g b)) (s b))
-kind_sure q f g k s (layer.Return x) = subst IsSureKind (sym (layer_is (layer.Return x))) (sure_plain _ (λ h e v at. c_return q h e v at x))
-kind_sure q f g k s (layer.Print x) = subst IsSureKind (sym (layer_is (layer.Print x))) (sure_plain _ (λ h e v at. c_print q e v at x))
-kind_sure q f g k s (layer.PrintType x) = subst IsSureKind (sym (layer_is (layer.PrintType x))) (sure_plain _ (λ h e v at. c_print_type q h e v at x))
-kind_sure q f g k s (layer.PrintView x) = subst IsSureKind (sym (layer_is (layer.PrintView x))) (sure_plain _ (λ h e v at. c_print_view q h e v at x))
-kind_sure q f g k s (layer.Dump x) = subst IsSureKind (sym (layer_is (layer.Dump x))) (sure_plain _ (λ h e v at. c_dump q e v at x))
+kind_sure f g k s (layer.Declare ty at x i) = subst IsSureKind (sym (layer_is (layer.Declare ty at x i))) (sure_declaration ty at x i)
+kind_sure f g k s (layer.Assign x r) = subst IsSureKind (sym (layer_is (layer.Assign x r))) (sure_plain (λ h e v at. assign_of h e v at x r))
+kind_sure f g k s (layer.Write place x) = subst IsSureKind (sym (layer_is (layer.Write place x))) (sure_plain (λ h e v at. write_of h e v at place x))
+kind_sure f g k s (layer.Copy to source) = subst IsSureKind (sym (layer_is (layer.Copy to source))) (sure_plain (λ h e v at. copy_of e v at to source))
+kind_sure f g k s (layer.Call text) = subst IsSureKind (sym (layer_is (layer.Call text))) (sure_plain (λ h e v at. call_statement h e v at text))
+kind_sure f g k s (layer.Delete x) = subst IsSureKind (sym (layer_is (layer.Delete x))) (sure_plain (λ h e v at. delete_of e v at x))
+kind_sure f g k s (layer.If x b None) = subst IsSureKind (sym (layer_is (layer.If x (g b) None))) (sure_branch x (block_meaning (g b)) (s b))
+kind_sure f g k s (layer.If x b (Some c)) = subst IsSureKind (sym (layer_is (layer.If x (g b) (Some (g c))))) (sure_branches x (block_meaning (g b)) (block_meaning (g c)) (s b) (s c))
+kind_sure f g k s (layer.While x b) = subst IsSureKind (sym (layer_is (layer.While x (g b)))) (sure_loop x (block_meaning (g b)) (s b))
+kind_sure f g k s (layer.Return x) = subst IsSureKind (sym (layer_is (layer.Return x))) (sure_plain (λ h e v at. returned_kind h e v at x))
+kind_sure f g k s (layer.Print x) = subst IsSureKind (sym (layer_is (layer.Print x))) (sure_plain (λ h e v at. print_of e v at x))
+kind_sure f g k s (layer.PrintType x) = subst IsSureKind (sym (layer_is (layer.PrintType x))) (sure_plain (λ h e v at. print_type_of h e v at x))
+kind_sure f g k s (layer.PrintView x) = subst IsSureKind (sym (layer_is (layer.PrintView x))) (sure_plain (λ h e v at. print_view_of h e v at x))
+kind_sure f g k s (layer.Dump x) = subst IsSureKind (sym (layer_is (layer.Dump x))) (sure_plain (λ h e v at. dump_of e v at x))
 
 block_sure : {A B C : Type 0} (f : A → StatementKind) (g : B → BodyTree) (k : C → Statement) → ((c : C) → IsSureMeaning (statement_meaning (k c))) → (y : BodyTree-F A B C) →
     IsSureMeaning (block_meaning (roll-BodyTree (map-BodyTree A B C StatementKind BodyTree Statement f g k y)))
@@ -117,8 +117,8 @@ statement_sure {A = A} {B = B} {C = C} f g k s y =
     subst IsSureMeaning (sym (fold-roll-Statement KindMeaning Meaning Meaning kind_step block_step statement_step (map-Statement A B C StatementKind BodyTree Statement f g k y)))
     (record { walks = λ h e n next d. (s y.kind).walks h e y.at y.line n next d })
 
-pub blocks_are_sure : (q : PiecesAreComplete) (b : BodyTree) → IsSureMeaning (block_meaning b)
-blocks_are_sure q = ind-BodyTree (λ k. IsSureKind (kind_meaning k)) (λ b. IsSureMeaning (block_meaning b)) (λ s. IsSureMeaning (statement_meaning s))
-    (λ x y is. subst (λ z. IsSureKind (kind_meaning (roll-StatementKind z))) is (kind_sure q (λ e. e.0) (λ e. e.0) (λ e. e.0) (λ e. e.1) y))
+pub blocks_are_sure : (b : BodyTree) → IsSureMeaning (block_meaning b)
+blocks_are_sure = ind-BodyTree (λ k. IsSureKind (kind_meaning k)) (λ b. IsSureMeaning (block_meaning b)) (λ s. IsSureMeaning (statement_meaning s))
+    (λ x y is. subst (λ z. IsSureKind (kind_meaning (roll-StatementKind z))) is (kind_sure (λ e. e.0) (λ e. e.0) (λ e. e.0) (λ e. e.1) y))
     (λ x y is. subst (λ z. IsSureMeaning (block_meaning (roll-BodyTree z))) is (block_sure (λ e. e.0) (λ e. e.0) (λ e. e.0) (λ e. e.1) y))
     (λ x y is. subst (λ z. IsSureMeaning (statement_meaning (roll-Statement z))) is (statement_sure (λ e. e.0) (λ e. e.0) (λ e. e.0) (λ e. e.1) y))

@@ -1,5 +1,5 @@
 -- The equations of the walk.
-use Rattle.std.proofs.Common.{◌≡◌, ℕ, ◌+◌, Option, Some, None, List, [], ◌∷◌, map, ap, sym, ◌∙◌, refl}
+use Rattle.std.proofs.Common.{◌≡◌, ℕ, Option, Some, None, Result, Ok, Err, map, ap, sym, ◌∙◌, refl}
 use Rattle.cxx_hierarchy.specs.declared.records.ValueType.{ValueType}
 use Rattle.cxx_hierarchy.specs.NameTables.{Text}
 use Rattle.cxx_syntax.specs.declared.tree.Spot.{Spot}
@@ -73,12 +73,12 @@ print_view_is x = ap kind_meaning (sym (rolls-PrintView x)) ∙ layer_is (layer.
 pub dump_is : (x : PointerText) → kind_meaning (kind.Dump x) ≡ plain (λ h e s at. dump_of e s at x)
 dump_is x = ap kind_meaning (sym (rolls-Dump x)) ∙ layer_is (layer.Dump x)
 
-declared_here : (worst : Option Fault) (k : Option TypedKind) (s : Scene) (line next : ℕ) (d : Draft) → finished_scene worst (with_scenes s k) line next d ≡ finished worst k line next (in_scene s d)
+declared_here : (worst : Option Fault) (k : Result TypedKind Fault) (s : Scene) (line next : ℕ) (d : Draft) → finished_scene worst (with_scenes s k) line next d ≡ finished worst k line next (in_scene s d)
 declared_here (Some f) k s line next d = refl
-declared_here None None s line next d = refl
-declared_here None (Some k) s line next d = refl
+declared_here None (Err f) s line next d = refl
+declared_here None (Ok k) s line next d = refl
 
 -- a declaration that is put behind those so far, in the scene behind it
-pub declared_line : (worst : Option Fault) (k : Option TypedKind) (typed : Option (TypedKind × Scene)) (s : Scene) (line next : ℕ) (d : Draft) →
+pub declared_line : (worst : Option Fault) (k : Result TypedKind Fault) (typed : Result (TypedKind × Scene) Fault) (s : Scene) (line next : ℕ) (d : Draft) →
     typed ≡ with_scenes s k → finished_scene worst typed line next d ≡ finished worst k line next (in_scene s d)
-declared_line worst k typed s line next d e = ap (λ (t : Option (TypedKind × Scene)). finished_scene worst t line next d) e ∙ declared_here worst k s line next d
+declared_line worst k typed s line next d e = ap (λ (t : Result (TypedKind × Scene) Fault). finished_scene worst t line next d) e ∙ declared_here worst k s line next d

@@ -1,5 +1,5 @@
 -- Statements that take the result of a call.
-use Rattle.std.specs.Prelude.{◌≡◌, ℕ, Some, List}
+use Rattle.std.specs.Prelude.{◌≡◌, ℕ, Some, Ok, List}
 use Rattle.cxx_hierarchy.specs.declared.records.ClassId.{ClassId}
 use Rattle.cxx_hierarchy.specs.declared.records.ValueType.{ValueType}
 use Rattle.cxx_hierarchy.specs.declared.records.ReturnType.{ReturnType}
@@ -23,9 +23,9 @@ use Rattle.cxx_resolve.specs.Statements.{new_variable, declare_of, assign_of}
 pub record ResultsAreTaken : Type 0 where
   -- by a variable that is known
   pub assigned : (h : Classes) (e : Setting) (s : Scene) (at : ℕ) (x : Spot) (text : CallText) (before : List Fault) (v : Variable × ValueType ClassId) (returned : ReturnType ClassId) →
-      (variable_of e s x).typed ≡ Some v → result_known h e s at text ≡ Some returned →
+      (variable_of e s x).typed ≡ Ok v → result_known h e s at text ≡ Ok returned →
       (assign_of h e s at x (right.Call text)).faults before ≡ result_faults h at returned v.1 ((whole_call h e s at text).faults ((variable_of e s x).faults before))
   -- by a new variable, whose name is in scope
   pub declared : (h : Classes) (e : Setting) (s : Scene) (at : ℕ) (ty : ValueType Text) (ty_at : ℕ) (x : Spot) (text : CallText) (before : List Fault) (t : ValueType ClassId) (returned : ReturnType ClassId) →
-      (new_variable h s ty ty_at x).typed ≡ Some t → result_known h e (scene_with s x.name t) at text ≡ Some returned →
+      (new_variable h s ty ty_at x).typed ≡ Ok t → result_known h e (scene_with s x.name t) at text ≡ Ok returned →
       (declare_of h e s at ty ty_at x (Some (right.Call text))).faults before ≡ result_faults h at returned t ((whole_call h e (scene_with s x.name t) at text).faults ((new_variable h s ty ty_at x).faults before))

@@ -128,12 +128,12 @@ dump_of e s at x = do
   pure (typed.Dump p.operand p.class)
 
 -- a declaration is typed together with the scene behind it
-abbrev pub with_scenes : Scene → Option TypedKind → Option (TypedKind × Scene)
-with_scenes s None = None
-with_scenes s (Some k) = Some (k, s)
+abbrev pub with_scenes : Scene → Result TypedKind Fault → Result (TypedKind × Scene) Fault
+with_scenes s (Err f) = Err f
+with_scenes s (Ok k) = Ok (k, s)
 
 -- what code answers to a declaration, with the scene behind the call
-abbrev pub AnswersDeclaration : Result (Option TypedKind) NoMemory → Scene → List Fault → List Fault → Checked (TypedKind × Scene) → Type 0
+abbrev pub AnswersDeclaration : Result (Result TypedKind Fault) NoMemory → Scene → List Fault → List Fault → Checked (TypedKind × Scene) → Type 0
 AnswersDeclaration (Ok o) s old new p = (p.typed ≡ with_scenes s o) × (p.faults old ≡ new)
 AnswersDeclaration (Err e) s old new p = Unit {0}
 

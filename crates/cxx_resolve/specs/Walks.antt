@@ -49,7 +49,7 @@ abbrev pub pushed : TypedKind → ℕ → ℕ → Draft → Draft
 pushed kind line next d = record { scene = d.scene; statements = d.statements ++ (record { kind = kind; line = line; next = next }) ∷ [] }
 
 -- a statement that is put behind those so far, where nothing refuses it
-abbrev pub finished : Option Fault → Option TypedKind → ℕ → ℕ → Draft → Result Draft Stop
+abbrev pub finished : Option Fault → Result TypedKind Fault → ℕ → ℕ → Draft → Result Draft Stop
 finished worst typed line next d = settled worst typed >>> λ kind. Ok (pushed kind line next d)
 
 abbrev pub ended_statement : Checked TypedKind → ℕ → ℕ → Draft → Result Draft Stop
@@ -62,7 +62,7 @@ plain typed_by = record { size = 1; walk = λ h e at line n next d. ended_statem
 abbrev pub in_scene : Scene → Draft → Draft
 in_scene s d = record { scene = s; statements = d.statements }
 
-abbrev pub finished_scene : Option Fault → Option (TypedKind × Scene) → ℕ → ℕ → Draft → Result Draft Stop
+abbrev pub finished_scene : Option Fault → Result (TypedKind × Scene) Fault → ℕ → ℕ → Draft → Result Draft Stop
 finished_scene worst typed line next d = settled worst typed >>> λ r. Ok (pushed r.0 line next (in_scene r.1 d))
 
 abbrev pub ended_scene : Checked (TypedKind × Scene) → ℕ → ℕ → Draft → Result Draft Stop

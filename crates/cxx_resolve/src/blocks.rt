@@ -12,7 +12,7 @@ use crate::declarations::{NewVariable, declare_of};
 use crate::draft::Draft;
 use crate::sizes::{block_size, statement_size};
 use crate::statements::plain_of;
-use cxx_expression::{Fault, Known, Number, number_of, settle};
+use cxx_expression::{Fault, Known, Number, Piece, number_of, settle};
 use cxx_hierarchy::{LimitNo, Stop};
 use cxx_program::{TypedKind, TypedStatement};
 use cxx_syntax::{BodyTree, Operand, Statement, StatementKind};
@@ -32,7 +32,7 @@ fn push(draft: &mut Draft, kind: TypedKind, line: u32, next: usize) -> Result<()
 fn finish(
     draft: &mut Draft,
     faults: &[Fault],
-    typed: Option<TypedKind>,
+    typed: Piece<TypedKind>,
     line: u32,
     next: usize,
 ) -> Result<(), Stop>

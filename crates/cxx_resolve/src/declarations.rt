@@ -8,7 +8,7 @@ ghost use Rattle.cxx_expression.specs.invariants.Known.{Knows};
 ghost use Rattle.cxx_resolve.specs.Statements.{new_variable, first_value, declare_of, AnswersDeclaration};
 
 use crate::body_site::BodySite;
-use cxx_expression::{FaultList, Known, Scene, Site, converted_right, note, type_of};
+use cxx_expression::{FaultList, Known, Piece, Scene, Site, converted_right, note, type_of};
 use cxx_hierarchy::{ClassId, Hierarchy, Name, Rule, ValueType};
 use cxx_program::TypedKind;
 use cxx_syntax::{Right, Spot};
@@ -30,17 +30,18 @@ fn new_variable(
     scene: &Scene,
     faults: &mut FaultList,
     variable: &NewVariable,
-) -> Result<Option<ValueType<ClassId>>, NoMemory>
+) -> Result<Piece<ValueType<ClassId>>, NoMemory>
     ensures { Answers result faults.old faults.new (new_variable h.now scene.now variable.now.ty.now variable.now.ty_at variable.now.name.now) }
 {
     let name = variable.name;
-    let Some(ty) = type_of(h, faults, variable.ty, variable.ty_at)? else {
-        return Ok(None);
+    let ty = match type_of(h, faults, variable.ty, variable.ty_at)? {
+        Ok(ty) => ty,
+        Err(fault) => return Ok(Err(fault)),
     };
     if scene.is_taken(name.name.as_slice()) {
         note(faults, Rule::DuplicateMember, name.at)?;
     }
-    Ok(Some(ty))
+    Ok(Ok(ty))
 }
 
 /// The first value of a variable.
@@ -52,20 +53,20 @@ fn first_value(
     ty: &ValueType<ClassId>,
     number: usize,
     init: &Option<Right>,
-) -> Result<Option<TypedKind>, NoMemory>
+) -> Result<Piece<TypedKind>, NoMemory>
     requires made { AreOverriders site.now.h.now site.now.overriders.now }
     requires knows { Knows site.now.h.now known.old }
     ensures answers { Answers result faults.old faults.new (first_value site.now.h.now site.now.setting.now site.now.scene.now site.now.at ty.now number init.now) }
     ensures knows { OnOk result (Knows site.now.h.now known.new) }
 {
     let Some(right) = init else {
-        return Ok(Some(TypedKind::Declare(number, None)));
+        return Ok(Ok(TypedKind::Declare(number, None)));
     };
-    let value = converted_right(site, known, faults, ty, right)?;
-    let Some(value) = value else {
-        return Ok(None);
+    let value = match converted_right(site, known, faults, ty, right)? {
+        Ok(value) => value,
+        Err(fault) => return Ok(Err(fault)),
     };
-    Ok(Some(TypedKind::Declare(number, Some(value))))
+    Ok(Ok(TypedKind::Declare(number, Some(value))))
 }
 
 /// A declaration. Its name is in scope in its own right side.
@@ -77,15 +78,16 @@ pub(crate) fn declare_of(
     at: u32,
     faults: &mut FaultList,
     variable: &NewVariable,
-) -> Result<Option<TypedKind>, NoMemory>
+) -> Result<Piece<TypedKind>, NoMemory>
     requires made { AreOverriders body.now.h.now body.now.overriders.now }
     requires knows { Knows body.now.h.now known.old }
     requires few { scene.old.declared < most_locals }
     ensures declares { AnswersDeclaration result scene.new faults.old faults.new (declare_of body.now.h.now body.now.setting.now scene.old at variable.now.ty.now variable.now.ty_at variable.now.name.now variable.now.init.now) }
     ensures knows { OnOk result (Knows body.now.h.now known.new) }
 {
-    let Some(ty) = new_variable(body.h, scene, faults, variable)? else {
-        return Ok(None);
+    let ty = match new_variable(body.h, scene, faults, variable)? {
+        Ok(ty) => ty,
+        Err(fault) => return Ok(Err(fault)),
     };
     let number = scene.types.len();
     scene.declare(body.alloc, &variable.name.name, &ty)?;

@@ -10,7 +10,7 @@ ghost use Rattle.cxx_syntax.specs.Sources.{SourceReads};
 ghost use Rattle.cxx_resolve.specs.Programs.{program_of, HasFewStatements};
 ghost use Rattle.cxx_resolve.specs.Results.{ResultsAreTaken};
 
-use cxx_expression::{answered, results_are_asked};
+use cxx_expression::results_are_asked;
 
 /// Sources that say the same resolve to one answer.
 pub fn one_program()
@@ -20,9 +20,7 @@ pub fn one_program()
 /// Each source resolves to a program, or to a refusal or a limit: the rules leave no other case.
 pub fn some_program()
     ensures { (h : Classes) (source : SourceText) → program_of h source ≡ Err NoMemory → ⊥ }
-{
-    answered();
-}
+{}
 
 /// Each body of a source that tokens spell has fewer statements than there are tokens.
 pub fn statements_are_few()

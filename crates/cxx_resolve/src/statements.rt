@@ -7,17 +7,17 @@ ghost use Rattle.cxx_expression.specs.invariants.Known.{Knows};
 ghost use Rattle.cxx_resolve.specs.Statements.{assign_of, write_of, copy_of, call_statement, delete_of, value_return, returned_kind, print_of, print_type_of, print_view_of, dump_of, plain_of};
 
 use cxx_expression::{
-    FaultList, Known, Returns, Site, conversion_of, converted_operand, converted_value, fitted,
-    leaf_of, operand_of, place_width, pointer_of, polymorphic_pointer, refuse, right_of,
-    variable_of, whole_call,
+    FaultList, Known, Piece, Returns, Site, conversion_of, converted_operand, converted_value,
+    fitted, leaf_of, operand_of, pair_of, place_width, pointer_of, polymorphic_pointer, refuse,
+    right_of, variable_of, whole_call,
 };
 use cxx_hierarchy::{ClassId, Rule, ValueType};
 use cxx_program::{Argument, TypedKind};
 use cxx_syntax::{CallText, Operand, PlaceText, PointerText, Right, Spot, StatementKind};
 use foundation::NoMemory;
 
-/// What a statement is typed to, where its names and types fit.
-type Answer = Result<Option<TypedKind>, NoMemory>;
+/// What a statement is typed to, or the fault that refuses it.
+type Answer = Result<Piece<TypedKind>, NoMemory>;
 
 /// An assignment to a variable.
 #[tactic(auto, unfolding(crate::specs::Statements::assign_of))]
@@ -35,16 +35,15 @@ fn assign_of(
 {
     let variable = variable_of(site, faults, x)?;
     let value = right_of(site, known, faults, right)?;
-    let Some((variable, ty)) = variable else {
-        return Ok(None);
+    let ((variable, ty), value) = match pair_of(variable, value) {
+        Ok(pair) => pair,
+        Err(fault) => return Ok(Err(fault)),
     };
-    let Some(value) = value else {
-        return Ok(None);
+    let converted = match converted_value(site, known, faults, &ty, value)? {
+        Ok(converted) => converted,
+        Err(fault) => return Ok(Err(fault)),
     };
-    let Some(converted) = converted_value(site, known, faults, &ty, value)? else {
-        return Ok(None);
-    };
-    Ok(Some(TypedKind::Assign(variable, converted)))
+    Ok(Ok(TypedKind::Assign(variable, converted)))
 }
 
 /// A value that is written to a member: a bit-field keeps its low bits (ISO C++03 9.6).
@@ -62,16 +61,17 @@ fn write_of(
 {
     let leaf = leaf_of(site, known, faults, place)?;
     let value = operand_of(site, faults, operand)?;
-    let (Some(leaf), Some(value)) = (leaf, value) else {
-        return Ok(None);
+    let (leaf, value) = match pair_of(leaf, value) {
+        Ok(pair) => pair,
+        Err(fault) => return Ok(Err(fault)),
     };
-    let conversion = conversion_of(site, known, faults, &value.ty, value.is_null, &leaf.ty)?;
-    let Some(conversion) = conversion else {
-        return Ok(None);
+    let conversion = match conversion_of(site, known, faults, &value.ty, value.is_null, &leaf.ty)? {
+        Ok(conversion) => conversion,
+        Err(fault) => return Ok(Err(fault)),
     };
     let operand = value.operand;
     let conversion = fitted(place_width(site.h, &leaf.place), conversion);
-    Ok(Some(TypedKind::Write(
+    Ok(Ok(TypedKind::Write(
         leaf.place,
         Argument {
             operand,
@@ -87,13 +87,14 @@ fn copy_of(site: &Site, faults: &mut FaultList, to: &PointerText, source: &Point
 {
     let to = pointer_of(site, faults, to)?;
     let source = pointer_of(site, faults, source)?;
-    let (Some(to), Some(source)) = (to, source) else {
-        return Ok(None);
+    let (to, source) = match pair_of(to, source) {
+        Ok(pair) => pair,
+        Err(fault) => return Ok(Err(fault)),
     };
     if to.class.0 != source.class.0 {
         return refuse(faults, Rule::TypeMismatch, site.at);
     }
-    Ok(Some(TypedKind::Copy(to.operand, source.operand, to.class)))
+    Ok(Ok(TypedKind::Copy(to.operand, source.operand, to.class)))
 }
 
 /// A call whose result is not used.
@@ -104,10 +105,11 @@ fn call_statement(site: &Site, known: &mut Known, faults: &mut FaultList, text: 
     ensures answers { Answers result faults.old faults.new (call_statement site.now.h.now site.now.setting.now site.now.scene.now site.now.at text.now) }
     ensures knows { OnOk result (Knows site.now.h.now known.new) }
 {
-    let Some(call) = whole_call(site, known, faults, text)? else {
-        return Ok(None);
+    let call = match whole_call(site, known, faults, text)? {
+        Ok(call) => call,
+        Err(fault) => return Ok(Err(fault)),
     };
-    Ok(Some(TypedKind::Call(call)))
+    Ok(Ok(TypedKind::Call(call)))
 }
 
 /// A `delete`.
@@ -115,10 +117,11 @@ fn call_statement(site: &Site, known: &mut Known, faults: &mut FaultList, text: 
 fn delete_of(site: &Site, faults: &mut FaultList, pointer: &PointerText) -> Answer
     ensures { Answers result faults.old faults.new (delete_of site.now.setting.now site.now.scene.now site.now.at pointer.now) }
 {
-    let Some(pointer) = pointer_of(site, faults, pointer)? else {
-        return Ok(None);
+    let pointer = match pointer_of(site, faults, pointer)? {
+        Ok(pointer) => pointer,
+        Err(fault) => return Ok(Err(fault)),
     };
-    Ok(Some(TypedKind::Delete(pointer.operand, pointer.class)))
+    Ok(Ok(TypedKind::Delete(pointer.operand, pointer.class)))
 }
 
 /// A `return` of a value.
@@ -134,11 +137,11 @@ fn value_return(
     ensures answers { Answers result faults.old faults.new (value_return site.now.h.now site.now.setting.now site.now.scene.now site.now.at ty.now operand.now) }
     ensures knows { OnOk result (Knows site.now.h.now known.new) }
 {
-    let value = converted_operand(site, known, faults, ty, operand)?;
-    let Some(value) = value else {
-        return Ok(None);
+    let value = match converted_operand(site, known, faults, ty, operand)? {
+        Ok(value) => value,
+        Err(fault) => return Ok(Err(fault)),
     };
-    Ok(Some(TypedKind::Return(Some(value))))
+    Ok(Ok(TypedKind::Return(Some(value))))
 }
 
 /// A `return`.
@@ -149,7 +152,7 @@ fn return_of(site: &Site, known: &mut Known, faults: &mut FaultList, x: &Option<
     ensures knows { OnOk result (Knows site.now.h.now known.new) }
 {
     match (&site.setting.returns, x) {
-        (Returns::Nothing, None) => Ok(Some(TypedKind::Return(None))),
+        (Returns::Nothing, None) => Ok(Ok(TypedKind::Return(None))),
         (Returns::Value(ty), Some(operand)) => { value_return(site, known, faults, ty, operand) }
         (Returns::Nowhere, _) | (Returns::Nothing, Some(_)) | (Returns::Value(_), None) => {
             refuse(faults, Rule::TypeMismatch, site.at)
@@ -162,10 +165,11 @@ fn return_of(site: &Site, known: &mut Known, faults: &mut FaultList, x: &Option<
 fn print_of(site: &Site, faults: &mut FaultList, operand: &Operand) -> Answer
     ensures { Answers result faults.old faults.new (print_of site.now.setting.now site.now.scene.now site.now.at operand.now) }
 {
-    let Some(value) = operand_of(site, faults, operand)? else {
-        return Ok(None);
+    let value = match operand_of(site, faults, operand)? {
+        Ok(value) => value,
+        Err(fault) => return Ok(Err(fault)),
     };
-    Ok(Some(TypedKind::Print(value.operand)))
+    Ok(Ok(TypedKind::Print(value.operand)))
 }
 
 /// A `print` of a class's name.
@@ -175,10 +179,11 @@ fn print_type_of(site: &Site, known: &mut Known, faults: &mut FaultList, x: &Poi
     ensures answers { Answers result faults.old faults.new (print_type_of site.now.h.now site.now.setting.now site.now.scene.now site.now.at x.now) }
     ensures knows { OnOk result (Knows site.now.h.now known.new) }
 {
-    let Some(pointer) = polymorphic_pointer(site, known, faults, x)? else {
-        return Ok(None);
+    let pointer = match polymorphic_pointer(site, known, faults, x)? {
+        Ok(pointer) => pointer,
+        Err(fault) => return Ok(Err(fault)),
     };
-    Ok(Some(TypedKind::PrintType(pointer.operand, pointer.class)))
+    Ok(Ok(TypedKind::PrintType(pointer.operand, pointer.class)))
 }
 
 /// A `print` of the place of a whole object.
@@ -188,10 +193,11 @@ fn print_view_of(site: &Site, known: &mut Known, faults: &mut FaultList, x: &Poi
     ensures answers { Answers result faults.old faults.new (print_view_of site.now.h.now site.now.setting.now site.now.scene.now site.now.at x.now) }
     ensures knows { OnOk result (Knows site.now.h.now known.new) }
 {
-    let Some(pointer) = polymorphic_pointer(site, known, faults, x)? else {
-        return Ok(None);
+    let pointer = match polymorphic_pointer(site, known, faults, x)? {
+        Ok(pointer) => pointer,
+        Err(fault) => return Ok(Err(fault)),
     };
-    Ok(Some(TypedKind::PrintView(pointer.operand, pointer.class)))
+    Ok(Ok(TypedKind::PrintView(pointer.operand, pointer.class)))
 }
 
 /// A `dump`.
@@ -199,10 +205,11 @@ fn print_view_of(site: &Site, known: &mut Known, faults: &mut FaultList, x: &Poi
 fn dump_of(site: &Site, faults: &mut FaultList, pointer: &PointerText) -> Answer
     ensures { Answers result faults.old faults.new (dump_of site.now.setting.now site.now.scene.now site.now.at pointer.now) }
 {
-    let Some(pointer) = pointer_of(site, faults, pointer)? else {
-        return Ok(None);
+    let pointer = match pointer_of(site, faults, pointer)? {
+        Ok(pointer) => pointer,
+        Err(fault) => return Ok(Err(fault)),
     };
-    Ok(Some(TypedKind::Dump(pointer.operand, pointer.class)))
+    Ok(Ok(TypedKind::Dump(pointer.operand, pointer.class)))
 }
 
 /// A statement that declares nothing and has no block in it.

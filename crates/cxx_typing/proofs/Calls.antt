@@ -1,5 +1,5 @@
 -- Calls are of the function that is found, with its arguments.
-use Rattle.std.proofs.Common.{◌≡◌, ℕ, ◌+◌, ◌≤◌, ◌<◌, Bool, true, false, Option, Some, None, List, [], ◌∷◌, inr, refl, sym, ◌∙◌, ap, subst, arith, length, drop, get_or}
+use Rattle.std.proofs.Common.{◌≡◌, ℕ, ◌+◌, ◌≤◌, ◌<◌, Bool, true, false, Option, Some, None, Result, Ok, List, [], ◌∷◌, inr, refl, sym, ◌∙◌, ap, subst, arith, length, drop, get_or}
 use Rattle.std.specs.Prelude.{nat_eq, if◌then◌else◌, slice_get}
 use Rattle.std.specs.List.{AllZip}
 use Rattle.std.proofs.lemmas.Bool.{eqb-true}
@@ -59,24 +59,24 @@ record IsFunction (h : Classes) (c : ClassId) (f : FoundFunction) : Type 0 where
   same_pure : function.is_pure ≡ f.is_pure
 
 as_found_typed : (h : Classes) (c d : ClassId) (name_at : ℕ) (s : Subobject) (n : ℕ) → IsSubobject h c s → class_of_subobject s ≡ Some d → (o : Option (Function ClassId)) → slice_get (functions_of h d) n ≡ o → (f : FoundFunction) →
-    (as_found name_at s (function_at d n) o).typed ≡ Some f → IsFunction h c f
+    (as_found name_at s (function_at d n) o).typed ≡ Ok f → IsFunction h c f
 as_found_typed h c d name_at s n valid of None there f t = absurd (cc)
 as_found_typed h c d name_at s n valid of (Some m) there f t =
     let same : found_function s (function_at d n) m ≡ f = cc in
     subst (IsFunction h c) same (record { valid = valid; of_class = of; function = m; declared = there; parameters = refl; returns = refl; same_pure = refl })
 
-function_in_typed : (h : Classes) (c : ClassId) (name_at : ℕ) (s : Subobject) (n : ℕ) → IsSubobject h c s → (o : Option ClassId) → class_of_subobject s ≡ o → (f : FoundFunction) → (function_in h name_at s n o).typed ≡ Some f → IsFunction h c f
+function_in_typed : (h : Classes) (c : ClassId) (name_at : ℕ) (s : Subobject) (n : ℕ) → IsSubobject h c s → (o : Option ClassId) → class_of_subobject s ≡ o → (f : FoundFunction) → (function_in h name_at s n o).typed ≡ Ok f → IsFunction h c f
 unfolding function_in function_record
 function_in_typed h c name_at s n valid None of f t = absurd (cc)
 function_in_typed h c name_at s n valid (Some d) of f t = as_found_typed h c d name_at s n valid of (slice_get (functions_of h d) n) refl f t
 
-as_function_typed : (h : Classes) → IsHierarchy h → (at name_at : ℕ) (c : ClassId) (name : Text) (l : Looked) → looked_up h c name ≡ l → (f : FoundFunction) → (as_function h at name_at l).typed ≡ Some f → IsFunction h c f
+as_function_typed : (h : Classes) → IsHierarchy h → (at name_at : ℕ) (c : ClassId) (name : Text) (l : Looked) → looked_up h c name ≡ l → (f : FoundFunction) → (as_function h at name_at l).typed ≡ Ok f → IsFunction h c f
 as_function_typed h keeps at name_at c name looked.Missing is f t = absurd (cc)
 as_function_typed h keeps at name_at c name looked.Ambiguous is f t = absurd (cc)
 as_function_typed h keeps at name_at c name (looked.Member s n) is f t = absurd (cc)
 as_function_typed h keeps at name_at c name (looked.Function s n) is f t = function_in_typed h c name_at s n (looked_place h keeps c name s n (inr is)) (class_of_subobject s) refl f t
 
-function_typed : (h : Classes) → IsHierarchy h → (at : ℕ) (c : ClassId) (x : Spot) (f : FoundFunction) → (function_of h at c x).typed ≡ Some f → IsFunction h c f
+function_typed : (h : Classes) → IsHierarchy h → (at : ℕ) (c : ClassId) (x : Spot) (f : FoundFunction) → (function_of h at c x).typed ≡ Ok f → IsFunction h c f
 unfolding function_of
 function_typed h keeps at c x f t = as_function_typed h keeps at x.at c x.name (looked_up h c x.name) refl f t
 
@@ -127,7 +127,7 @@ counted_clean at n f g i =
 -- arguments
 
 argument_typed : (h : Classes) → IsHierarchy h → (e : Setting) (s : Scene) (k : Scope) → IsSetting e k → IsScene s k → (at : ℕ) (ty : ValueType ClassId) (x : Operand) (a : Argument) (o : Option (ValueType ClassId)) → o ≡ Some ty →
-    (argument_of h e s at o x).typed ≡ Some a → IsArgument h k a ty
+    (argument_of h e s at o x).typed ≡ Ok a → IsArgument h k a ty
 unfolding argument_of
 argument_typed h keeps e s k f g at ty x a None is t = absurd (cc)
 argument_typed h keeps e s k f g at ty x a (Some u) is t = let same : u ≡ ty = cc in subst (IsArgument h k a) same (converted_typed h keeps e s k f g at u x a t)
@@ -142,7 +142,7 @@ argument_more h k parameters n a rest list below first are same =
     (subst (AllZip (IsArgument h k) (a ∷ rest)) (sym (drop_more parameters n no_type below)) (first (get_or parameters n no_type) (slice_get-get_or parameters n no_type below), are))
 
 arguments_typed : (h : Classes) → IsHierarchy h → (e : Setting) (s : Scene) (k : Scope) → IsSetting e k → IsScene s k → (at : ℕ) (parameters : List (ValueType ClassId)) (n : ℕ) (xs : List Operand) → n + length xs ≡ length parameters →
-    (list : List Argument) → (arguments_of h e s at parameters n xs).typed ≡ Some list → AllZip (IsArgument h k) list (drop n parameters)
+    (list : List Argument) → (arguments_of h e s at parameters n xs).typed ≡ Ok list → AllZip (IsArgument h k) list (drop n parameters)
 unfolding arguments_of
 arguments_typed h keeps e s k f g at parameters n [] count list t =
     let same : [] ≡ list = cc in
@@ -161,14 +161,14 @@ arguments_typed h keeps e s k f g at parameters n (x ∷ xs) count list t =
 -- all of the call is typed, and it is one of a function that returns this
 pub record IsCallValue (h : Classes) (k : Scope) (v : CallValue) : Type 0 where
   pub call : TypedCall
-  pub there : v.call ≡ Some call
+  pub there : v.call ≡ Ok call
   pub function : Function ClassId
   pub called : IsCall h k call function
   pub returns : function.ret ≡ v.returns
 
 -- the arguments of a function, of which there are as many as parameters
 all_arguments : (h : Classes) → IsHierarchy h → (e : Setting) (s : Scene) (k : Scope) → IsSetting e k → IsScene s k → (at : ℕ) (c : ClassId) (f : FoundFunction) (is : IsFunction h c f) (xs : List Operand) → length xs ≡ length f.parameters →
-    (list : List Argument) → (arguments_of h e s at f.parameters 0 xs).typed ≡ Some list → AllZip (IsArgument h k) list (parameter_types is.function)
+    (list : List Argument) → (arguments_of h e s at f.parameters 0 xs).typed ≡ Ok list → AllZip (IsArgument h k) list (parameter_types is.function)
 all_arguments h keeps e s k i g at c f is xs count list t =
     let begins : 0 + length xs ≡ length f.parameters = omega (arith, count) in
     subst (AllZip (IsArgument h k) list) is.parameters (arguments_typed h keeps e s k i g at f.parameters 0 xs begins list t)
@@ -190,7 +190,7 @@ target_typed q h keeps e s k f g at call t i =
     let last = o.2.typed in
     target_is h k (length call.arguments) p.0 r.0 o.0 t (pointer_typed e s k f g at call.pointer p.0 p.1.typed) (function_typed h keeps at p.0.class call.name r.0 r.1.typed) (counted_clean at (length call.arguments) r.0 o.0 o.1) (cc)
 
-dispatched_call : (h : Classes) → PureAreVirtual h → (k : Scope) (n : ℕ) (t : Target) (is : IsTarget h k n t) (list : List Argument) → AllZip (IsArgument h k) list (parameter_types is.found.function) → IsCallValue h k (plain_value t (is_virtual h t.found.function) (Some list))
+dispatched_call : (h : Classes) → PureAreVirtual h → (k : Scope) (n : ℕ) (t : Target) (is : IsTarget h k n t) (list : List Argument) → AllZip (IsArgument h k) list (parameter_types is.found.function) → IsCallValue h k (plain_value t (is_virtual h t.found.function) (Ok list))
 dispatched_call h v k n t is list are = record {
   call = dispatched t (is_virtual h t.found.function) list;
   there = refl;
@@ -210,19 +210,19 @@ dispatched_call h v k n t is list are = record {
 }
 
 plain_is : (h : Classes) → IsHierarchy h → PureAreVirtual h → (e : Setting) (s : Scene) (k : Scope) → IsSetting e k → IsScene s k → (at : ℕ) (xs : List Operand) (t : Target) (list : List Argument) (v : CallValue) → IsTarget h k (length xs) t →
-    (arguments_of h e s at t.found.parameters 0 xs).typed ≡ Some list → plain_value t (is_virtual h t.found.function) (Some list) ≡ v → IsCallValue h k v
+    (arguments_of h e s at t.found.parameters 0 xs).typed ≡ Ok list → plain_value t (is_virtual h t.found.function) (Ok list) ≡ v → IsCallValue h k v
 plain_is h keeps virtual e s k f g at xs t list v is made same =
     subst (IsCallValue h k) same (dispatched_call h virtual k (length xs) t is list (all_arguments h keeps e s k f g at t.pointer.class t.found is.found xs is.count list made))
 
 plain_typed : PiecesAreComplete → (h : Classes) → IsHierarchy h → PureAreVirtual h → (e : Setting) (s : Scene) (k : Scope) → IsSetting e k → IsScene s k → (at : ℕ) (call : CallText) (v : CallValue) → IsClean (plain_call h e s at call) v → IsCallValue h k v
 unfolding plain_call
 plain_typed q h keeps virtual e s k f g at call v i =
-    let grows = λ (o : Option Target). arguments_grow q h e s at (target_parameters o) 0 call.arguments in
+    let grows = λ (o : Result Target Fault). arguments_grow q h e s at (target_parameters o) 0 call.arguments in
     let r = clean_both (beside (target_of h e s at call) (λ t. arguments_of h e s at (target_parameters t) 0 call.arguments)) _ v (complete_beside _ _ (target_grows q h e s at call) grows) (λ r. complete_pure _) i in
     let p = clean_beside (target_of h e s at call) (λ t. arguments_of h e s at (target_parameters t) 0 call.arguments) r.0 (target_grows q h e s at call) grows r.1 in
     let last = r.2.typed in
-    let there : r.0.1 ≡ Some p.1.0 = p.1.1 in
-    let same : plain_value r.0.0 (is_virtual h r.0.0.found.function) (Some p.1.0) ≡ v = cc in
+    let there : r.0.1 ≡ Ok p.1.0 = p.1.1 in
+    let same : plain_value r.0.0 (is_virtual h r.0.0.found.function) (Ok p.1.0) ≡ v = cc in
     plain_is h keeps virtual e s k f g at call.arguments r.0.0 p.1.0 v (target_typed q h keeps e s k f g at call r.0.0 p.0) p.1.2.typed same
 
 -- the function of a qualified call is not pure
@@ -245,7 +245,7 @@ record IsReceiver (h : Classes) (k : Scope) (c : ClassId) (r : Receiver) : Type 
   has : HasType k r.pointer.operand (type.Pointer r.pointer.class)
   way : IsWay h r.pointer.class r.path c
 
-receiver_typed : (h : Classes) → IsHierarchy h → (e : Setting) (s : Scene) (k : Scope) → IsSetting e k → IsScene s k → (at : ℕ) (c : ClassId) (x : PointerText) (r : Receiver) → (receiver_of h e s at c x).typed ≡ Some r → IsReceiver h k c r
+receiver_typed : (h : Classes) → IsHierarchy h → (e : Setting) (s : Scene) (k : Scope) → IsSetting e k → IsScene s k → (at : ℕ) (c : ClassId) (x : PointerText) (r : Receiver) → (receiver_of h e s at c x).typed ≡ Ok r → IsReceiver h k c r
 unfolding receiver_of
 receiver_typed h keeps e s k f g at c x r t =
     let p = then_both (pointer_of e s at x).typed _ r t in
@@ -253,7 +253,7 @@ receiver_typed h keeps e s k f g at c x r t =
     let same : receiver p.0 o.0 ≡ r = let last = o.2 in cc in
     subst (IsReceiver h k c) same (record { has = pointer_typed e s k f g at x p.0 p.1; way = way_typed h keeps at p.0.class c o.0 o.1 })
 
-qualified_is : (h : Classes) (k : Scope) (c : ClassId) (n : ℕ) (r : Receiver) (f : FoundFunction) → IsReceiver h k c r → (is : IsNamed h c n f) → (list : List Argument) → AllZip (IsArgument h k) list (parameter_types is.found.function) → IsCallValue h k (qualified_value f (Some (r, list)))
+qualified_is : (h : Classes) (k : Scope) (c : ClassId) (n : ℕ) (r : Receiver) (f : FoundFunction) → IsReceiver h k c r → (is : IsNamed h c n f) → (list : List Argument) → AllZip (IsArgument h k) list (parameter_types is.found.function) → IsCallValue h k (qualified_value f (Ok (r, list)))
 qualified_is h k c n r f receives is list are = record {
   call = qualified f (r, list);
   there = refl;
@@ -273,24 +273,24 @@ qualified_is h k c n r f receives is list are = record {
 }
 
 qualified_by : (h : Classes) → IsHierarchy h → (e : Setting) (s : Scene) (k : Scope) → IsSetting e k → IsScene s k → (at : ℕ) (c : ClassId) (xs : List Operand) (r : Receiver) (u : FoundFunction) (list : List Argument) (v : CallValue) → IsReceiver h k c r →
-    IsNamed h c (length xs) u → (arguments_of h e s at u.parameters 0 xs).typed ≡ Some list → qualified_value u (Some (r, list)) ≡ v → IsCallValue h k v
+    IsNamed h c (length xs) u → (arguments_of h e s at u.parameters 0 xs).typed ≡ Ok list → qualified_value u (Ok (r, list)) ≡ v → IsCallValue h k v
 qualified_by h keeps e s k f g at c xs r u list v receives is made same =
     subst (IsCallValue h k) same (qualified_is h k c (length xs) r u receives is list (all_arguments h keeps e s k f g at c u is.found xs is.count list made))
 
 qualified_typed : PiecesAreComplete → (h : Classes) → IsHierarchy h → (e : Setting) (s : Scene) (k : Scope) → IsSetting e k → IsScene s k → (at : ℕ) (call : CallText) (x : Spot) (v : CallValue) → IsClean (qualified_call h e s at call x) v → IsCallValue h k v
 unfolding qualified_call
 qualified_typed q h keeps e s k f g at call x v i =
-    let passed = λ (c : ClassId) (o : Option FoundFunction). both (receiver_of h e s at c call.pointer) (arguments_of h e s at (found_parameters o) 0 call.arguments) in
-    let grow = λ (c : ClassId) (o : Option FoundFunction). complete_both (receiver_of h e s at c call.pointer) (arguments_of h e s at (found_parameters o) 0 call.arguments) (receiver_grows q h e s at c call.pointer) (arguments_grow q h e s at (found_parameters o) 0 call.arguments) in
+    let passed = λ (c : ClassId) (o : Result FoundFunction Fault). both (receiver_of h e s at c call.pointer) (arguments_of h e s at (found_parameters o) 0 call.arguments) in
+    let grow = λ (c : ClassId) (o : Result FoundFunction Fault). complete_both (receiver_of h e s at c call.pointer) (arguments_of h e s at (found_parameters o) 0 call.arguments) (receiver_grows q h e s at c call.pointer) (arguments_grow q h e s at (found_parameters o) 0 call.arguments) in
     let all_grow = λ (c : ClassId). complete_beside (named_function h at c call) (passed c) (c_named h at c call) (grow c) in
     let c = clean_both (class_of_spot h x) _ v (q.class_of h x) (λ c. complete_bind _ _ (all_grow c) (λ r. complete_pure _)) i in
     let r = clean_both (beside (named_function h at c.0 call) (passed c.0)) _ v (all_grow c.0) (λ r. complete_pure _) c.2 in
     let b = clean_beside (named_function h at c.0 call) (passed c.0) r.0 (c_named h at c.0 call) (grow c.0) r.1 in
-    let list = arguments_of h e s at (found_parameters (Some r.0.0)) 0 call.arguments in
-    let p = clean_pair (receiver_of h e s at c.0 call.pointer) list b.1.0 (receiver_grows q h e s at c.0 call.pointer) (arguments_grow q h e s at (found_parameters (Some r.0.0)) 0 call.arguments) b.1.2 in
+    let list = arguments_of h e s at (found_parameters (Ok r.0.0)) 0 call.arguments in
+    let p = clean_pair (receiver_of h e s at c.0 call.pointer) list b.1.0 (receiver_grows q h e s at c.0 call.pointer) (arguments_grow q h e s at (found_parameters (Ok r.0.0)) 0 call.arguments) b.1.2 in
     let last = r.2.typed in
-    let there : r.0.1 ≡ Some b.1.0 = b.1.1 in
-    let same : qualified_value r.0.0 (Some b.1.0) ≡ v = cc in
+    let there : r.0.1 ≡ Ok b.1.0 = b.1.1 in
+    let same : qualified_value r.0.0 (Ok b.1.0) ≡ v = cc in
     qualified_by h keeps e s k f g at c.0 call.arguments b.1.0.0 r.0.0 b.1.0.1 v (receiver_typed h keeps e s k f g at c.0 call.pointer b.1.0.0 p.0.typed) (named_typed h keeps at c.0 call r.0.0 b.0) p.1.typed same
 
 call_by_typed : PiecesAreComplete → (h : Classes) → IsHierarchy h → PureAreVirtual h → (e : Setting) (s : Scene) (k : Scope) → IsSetting e k → IsScene s k → (at : ℕ) (call : CallText) (o : Option Spot) (v : CallValue) → IsClean (call_by h e s at call o) v → IsCallValue h k v
@@ -311,7 +311,7 @@ unfolding whole_call
 whole_call_typed q h keeps virtual e s k f g at x call i =
     let v = clean_rest (call_of h e s at x) (λ v. kept v.call) call (complete_first (call_of h e s at x) _ (c_call h e s at x)) (λ v b. omega arith) i in
     let is = call_typed q h keeps virtual e s k f g at x v.0 v.1 in
-    let there : v.0.call ≡ Some is.call = is.there in
-    let last : v.0.call ≡ Some call = v.2.typed in
+    let there : v.0.call ≡ Ok is.call = is.there in
+    let last : v.0.call ≡ Ok call = v.2.typed in
     let same : is.call ≡ call = cc in
     subst (IsWholeCall h k) same (record { function = is.function; called = is.called })

@@ -1,5 +1,5 @@
 -- Casts lead from the class of the pointer to the target.
-use Rattle.std.proofs.Common.{◌≡◌, ℕ, ◌<◌, Bool, true, false, Option, Some, None, refl, sym, ap, subst, length}
+use Rattle.std.proofs.Common.{◌≡◌, ℕ, ◌<◌, Bool, true, false, Option, Some, None, Ok, refl, sym, ap, subst, length}
 use Rattle.std.specs.Prelude.{nat_eq, if◌then◌else◌, slice_get}
 use Rattle.std.proofs.lemmas.Bool.{eqb-true}
 use Rattle.std.proofs.lemmas.List.{length-map}
@@ -57,15 +57,15 @@ class_found h name c e = place_listed (class_names h) name c.0 (numbered (place_
 pub class_known : (h : Classes) (name : Text) (c : ClassId) → find_class h name ≡ Some c → c.0 < length h
 class_known h name c e = subst (λ (n : ℕ). c.0 < n) (length-map h (λ (class : Class). class.name)) (slice_get_within (class_names h) c.0 name (class_found h name c e))
 
-as_class_typed : (at : ℕ) (o : Option ClassId) (c : ClassId) → (as_class at o).typed ≡ Some c → o ≡ Some c
+as_class_typed : (at : ℕ) (o : Option ClassId) (c : ClassId) → (as_class at o).typed ≡ Ok c → o ≡ Some c
 as_class_typed at None c t = absurd (cc)
-as_class_typed at (Some d) c t = t
+as_class_typed at (Some d) c t = let same : d ≡ c = cc in ap Some same
 
-pub named_class_typed : (h : Classes) (name : Text) (at : ℕ) (c : ClassId) → (class_named h name at).typed ≡ Some c → c.0 < length h
+pub named_class_typed : (h : Classes) (name : Text) (at : ℕ) (c : ClassId) → (class_named h name at).typed ≡ Ok c → c.0 < length h
 unfolding class_named
 named_class_typed h name at c t = class_known h name c (as_class_typed at (find_class h name) c t)
 
-pub class_typed : (h : Classes) (x : Spot) (c : ClassId) → (class_of_spot h x).typed ≡ Some c → c.0 < length h
+pub class_typed : (h : Classes) (x : Spot) (c : ClassId) → (class_of_spot h x).typed ≡ Ok c → c.0 < length h
 unfolding class_of_spot
 class_typed h x c t = named_class_typed h x.name x.at c t
 
@@ -87,11 +87,11 @@ polymorphic h c e =
 
 -- casts
 
-down_typed : (h : Classes) (at : ℕ) (c d : ClassId) (s : Subobject) (root : Root) → s.root ≡ root → d.0 < length h → IsProperBase h d s c → (x : TypedCast) → (down_to at d s root).typed ≡ Some x → Casts h c x d
+down_typed : (h : Classes) (at : ℕ) (c d : ClassId) (s : Subobject) (root : Root) → s.root ≡ root → d.0 < length h → IsProperBase h d s c → (x : TypedCast) → (down_to at d s root).typed ≡ Ok x → Casts h c x d
 down_typed h at c d s Whole is known base x t = let same : cast.Down d s ≡ x = cc in subst (λ (y : TypedCast). Casts h c y d) same (cast_down c d s base is known)
 down_typed h at c d s (Shared v) is known base x t = absurd (cc)
 
-static_by : (h : Classes) → IsHierarchy h → (at : ℕ) (c d : ClassId) → (c ≡ d → ⊥) → d.0 < length h → (a b : Based) → base_up h c d ≡ a → base_up h d c ≡ b → (x : TypedCast) → (up_or_down at d a b).typed ≡ Some x → Casts h c x d
+static_by : (h : Classes) → IsHierarchy h → (at : ℕ) (c d : ClassId) → (c ≡ d → ⊥) → d.0 < length h → (a b : Based) → base_up h c d ≡ a → base_up h d c ≡ b → (x : TypedCast) → (up_or_down at d a b).typed ≡ Ok x → Casts h c x d
 static_by h keeps at c d apart known (based.Base s) b up down x t = let same : cast.Up s ≡ x = cc in subst (λ (y : TypedCast). Casts h c y d) same (cast_up c d s (proper_base h keeps c d s apart up))
 static_by h keeps at c d apart known based.TwoBases b up down x t = absurd (cc)
 static_by h keeps at c d apart known based.NotBase based.NotBase up down x t = absurd (cc)
@@ -101,40 +101,40 @@ static_by h keeps at c d apart known based.NotBase (based.Base s) up down x t = 
 same_cast : (h : Classes) (c d : ClassId) → nat_eq c.0 d.0 ≡ true → (x : TypedCast) → cast.Same ≡ x → Casts h c x d
 same_cast h c d is x same = subst (λ (y : TypedCast). Casts h c y d) same (subst (λ (e : ClassId). Casts h c cast.Same e) (same_id c d (eqb-true c.0 d.0 is)) (cast_same c))
 
-static_if : (h : Classes) → IsHierarchy h → (at : ℕ) (c d : ClassId) → d.0 < length h → (one : Bool) → nat_eq c.0 d.0 ≡ one → (x : TypedCast) → (if one then pure cast.Same else up_or_down at d (base_up h c d) (base_up h d c)).typed ≡ Some x → Casts h c x d
+static_if : (h : Classes) → IsHierarchy h → (at : ℕ) (c d : ClassId) → d.0 < length h → (one : Bool) → nat_eq c.0 d.0 ≡ one → (x : TypedCast) → (if one then pure cast.Same else up_or_down at d (base_up h c d) (base_up h d c)).typed ≡ Ok x → Casts h c x d
 static_if h keeps at c d known true is x t = same_cast h c d is x (cc)
 static_if h keeps at c d known false is x t = static_by h keeps at c d (apart_by c d is) known (base_up h c d) (base_up h d c) refl refl x t
 
-static_typed : (h : Classes) → IsHierarchy h → (at : ℕ) (c d : ClassId) → d.0 < length h → (x : TypedCast) → (static_cast h at c d).typed ≡ Some x → Casts h c x d
+static_typed : (h : Classes) → IsHierarchy h → (at : ℕ) (c d : ClassId) → d.0 < length h → (x : TypedCast) → (static_cast h at c d).typed ≡ Ok x → Casts h c x d
 unfolding static_cast
 static_typed h keeps at c d known x t = static_if h keeps at c d known (nat_eq c.0 d.0) refl x t
 
-polymorphic_by : {X : Type 0} (at : ℕ) (flag : Bool) (x y : X) → (if_polymorphic at flag x).typed ≡ Some y → (flag ≡ true) × (x ≡ y)
+polymorphic_by : {X : Type 0} (at : ℕ) (flag : Bool) (x y : X) → (if_polymorphic at flag x).typed ≡ Ok y → (flag ≡ true) × (x ≡ y)
 polymorphic_by at true x y t = (refl, cc)
 polymorphic_by at false x y t = absurd (cc)
 
-dynamic_by : (h : Classes) → IsHierarchy h → (at : ℕ) (c d : ClassId) → (c ≡ d → ⊥) → d.0 < length h → (a : Based) → base_up h c d ≡ a → (x : TypedCast) → (up_or_dynamic h at c d a).typed ≡ Some x → Casts h c x d
+dynamic_by : (h : Classes) → IsHierarchy h → (at : ℕ) (c d : ClassId) → (c ≡ d → ⊥) → d.0 < length h → (a : Based) → base_up h c d ≡ a → (x : TypedCast) → (up_or_dynamic h at c d a).typed ≡ Ok x → Casts h c x d
 dynamic_by h keeps at c d apart known (based.Base s) up x t = let same : cast.Up s ≡ x = cc in subst (λ (y : TypedCast). Casts h c y d) same (cast_up c d s (proper_base h keeps c d s apart up))
 dynamic_by h keeps at c d apart known based.TwoBases up x t = absurd (cc)
 dynamic_by h keeps at c d apart known based.NotBase up x t =
     let p = polymorphic_by at (is_polymorphic h c) (cast.Dynamic d) x t in
     subst (λ (y : TypedCast). Casts h c y d) p.1 (cast_dynamic c d (polymorphic h c p.0) known)
 
-dynamic_if : (h : Classes) → IsHierarchy h → (at : ℕ) (c d : ClassId) → d.0 < length h → (one : Bool) → nat_eq c.0 d.0 ≡ one → (x : TypedCast) → (if one then pure cast.Same else up_or_dynamic h at c d (base_up h c d)).typed ≡ Some x → Casts h c x d
+dynamic_if : (h : Classes) → IsHierarchy h → (at : ℕ) (c d : ClassId) → d.0 < length h → (one : Bool) → nat_eq c.0 d.0 ≡ one → (x : TypedCast) → (if one then pure cast.Same else up_or_dynamic h at c d (base_up h c d)).typed ≡ Ok x → Casts h c x d
 dynamic_if h keeps at c d known true is x t = same_cast h c d is x (cc)
 dynamic_if h keeps at c d known false is x t = dynamic_by h keeps at c d (apart_by c d is) known (base_up h c d) refl x t
 
-dynamic_typed : (h : Classes) → IsHierarchy h → (at : ℕ) (c d : ClassId) → d.0 < length h → (x : TypedCast) → (dynamic_cast h at c d).typed ≡ Some x → Casts h c x d
+dynamic_typed : (h : Classes) → IsHierarchy h → (at : ℕ) (c d : ClassId) → d.0 < length h → (x : TypedCast) → (dynamic_cast h at c d).typed ≡ Ok x → Casts h c x d
 unfolding dynamic_cast
 dynamic_typed h keeps at c d known x t = dynamic_if h keeps at c d known (nat_eq c.0 d.0) refl x t
 
-cast_typed : (h : Classes) → IsHierarchy h → (at : ℕ) (by : CastKind) (c d : ClassId) → d.0 < length h → (x : TypedCast) → (cast_of h at by c d).typed ≡ Some x → Casts h c x d
+cast_typed : (h : Classes) → IsHierarchy h → (at : ℕ) (by : CastKind) (c d : ClassId) → d.0 < length h → (x : TypedCast) → (cast_of h at by c d).typed ≡ Ok x → Casts h c x d
 unfolding cast_of
 cast_typed h keeps at kind.Static c d known x t = static_typed h keeps at c d known x t
 cast_typed h keeps at kind.Plain c d known x t = static_typed h keeps at c d known x t
 cast_typed h keeps at kind.Dynamic c d known x t = dynamic_typed h keeps at c d known x t
 
-pub cast_right_typed : (h : Classes) → IsHierarchy h → (e : Setting) (s : Scene) (k : Scope) → IsSetting e k → IsScene s k → (at : ℕ) (text : CastText) (r : RightValue) → (cast_right h e s at text).typed ≡ Some r → IsRight h k r
+pub cast_right_typed : (h : Classes) → IsHierarchy h → (e : Setting) (s : Scene) (k : Scope) → IsSetting e k → IsScene s k → (at : ℕ) (text : CastText) (r : RightValue) → (cast_right h e s at text).typed ≡ Ok r → IsRight h k r
 unfolding cast_right
 cast_right_typed h keeps e s k f g at text r t =
     let p = then_both _ _ r t in
@@ -149,14 +149,14 @@ pub record IsPolymorphicPointer (h : Classes) (k : Scope) (p : Pointer) : Type 0
   pub has : HasType k p.operand (type.Pointer p.class)
   pub class : IsPolymorphic h p.class
 
-pub polymorphic_typed : (h : Classes) (e : Setting) (s : Scene) (k : Scope) → IsSetting e k → IsScene s k → (at : ℕ) (x : PointerText) (p : Pointer) → (polymorphic_pointer h e s at x).typed ≡ Some p → IsPolymorphicPointer h k p
+pub polymorphic_typed : (h : Classes) (e : Setting) (s : Scene) (k : Scope) → IsSetting e k → IsScene s k → (at : ℕ) (x : PointerText) (p : Pointer) → (polymorphic_pointer h e s at x).typed ≡ Ok p → IsPolymorphicPointer h k p
 unfolding polymorphic_pointer
 polymorphic_typed h e s k f g at x p t =
     let r = then_both (pointer_of e s at x).typed _ p t in
     let q = polymorphic_by at (is_polymorphic h r.0.class) r.0 p r.2 in
     subst (IsPolymorphicPointer h k) q.1 (record { has = pointer_typed e s k f g at x r.0 r.1; class = polymorphic h r.0.class q.0 })
 
-pub type_test_typed : (h : Classes) (e : Setting) (s : Scene) (k : Scope) → IsSetting e k → IsScene s k → (at : ℕ) (x : PointerText) (name : Spot) (r : RightValue) → (type_right h e s at x name).typed ≡ Some r → IsRight h k r
+pub type_test_typed : (h : Classes) (e : Setting) (s : Scene) (k : Scope) → IsSetting e k → IsScene s k → (at : ℕ) (x : PointerText) (name : Spot) (r : RightValue) → (type_right h e s at x name).typed ≡ Ok r → IsRight h k r
 unfolding type_right
 type_test_typed h e s k f g at x name r t =
     let p = then_both _ _ r t in

@@ -1,6 +1,5 @@
 -- Right sides have the types that they are typed to.
-use Rattle.std.proofs.Common.{◌≡◌, ◌⊎◌, ℕ, ◌<◌, Bool, true, false, Option, Some, inl, inr, refl, sym, ◌∙◌, ap, subst, length}
-use Rattle.std.specs.Prelude.{option_map}
+use Rattle.std.proofs.Common.{◌≡◌, ◌⊎◌, ℕ, ◌<◌, Bool, true, false, Result, Ok, inl, inr, refl, sym, ◌∙◌, ap, subst, length}
 use Rattle.cxx_hierarchy.specs.declared.records.ClassId.{ClassId}
 use Rattle.cxx_hierarchy.specs.declared.records.ValueType.{ValueType}
 use Rattle.cxx_hierarchy.specs.declared.records.ValueType.TheVariants as type
@@ -23,9 +22,11 @@ use Rattle.cxx_program.specs.declared.statement.TypedRight.{TypedRight}
 use Rattle.cxx_program.specs.declared.statement.TypedRight.TheVariants as typed
 use Rattle.cxx_program.specs.declared.statement.Converted.{Converted}
 use Rattle.cxx_program.specs.Typed.{Scope, an_operand, a_read, an_address, a_result, an_object, Converts, IsCall, IsConverted, a_right, a_null_right}
+use Rattle.cxx_expression.specs.declared.faults.Fault.{Fault}
 use Rattle.cxx_expression.specs.declared.scene.Scene.{Scene}
 use Rattle.cxx_expression.specs.declared.scene.Setting.{Setting}
 use Rattle.cxx_expression.specs.declared.typed.RightValue.{RightValue}
+use Rattle.cxx_expression.specs.Checked.{where_typed}
 use Rattle.cxx_expression.specs.Laws.{PiecesAreComplete}
 use Rattle.cxx_expression.specs.Values.{operand_of, class_of_spot, conversion_of}
 use Rattle.cxx_expression.specs.Places.{leaf_of, object_place_of}
@@ -43,7 +44,7 @@ use Rattle.cxx_typing.proofs.Operators.{IsRight, right_is, binary_typed, not_typ
 use Rattle.cxx_typing.proofs.Casts.{class_typed, cast_right_typed, type_test_typed}
 use Rattle.cxx_typing.proofs.Calls.{call_typed}
 
-operand_right_typed : (h : Classes) (e : Setting) (s : Scene) (k : Scope) → IsSetting e k → IsScene s k → (at : ℕ) (x : Operand) (r : RightValue) → (operand_right e s at x).typed ≡ Some r → IsRight h k r
+operand_right_typed : (h : Classes) (e : Setting) (s : Scene) (k : Scope) → IsSetting e k → IsScene s k → (at : ℕ) (x : Operand) (r : RightValue) → (operand_right e s at x).typed ≡ Ok r → IsRight h k r
 unfolding operand_right
 operand_right_typed h e s k f g at x r t =
     let v = then_both (operand_of e s at x).typed _ r t in
@@ -51,14 +52,14 @@ operand_right_typed h e s k f g at x r t =
     let same : right_value (typed.Operand v.0.operand) v.0.ty v.0.is_null ≡ r = let last = v.2 in cc in
     subst (IsRight h k) same (record { right = typed.Operand v.0.operand; whole = refl; has = an_operand v.0.operand v.0.ty is.has; null = λ n. ap typed.Operand (is.null n) })
 
-place_right_typed : (h : Classes) → IsHierarchy h → (e : Setting) (s : Scene) (k : Scope) → IsSetting e k → IsScene s k → (at : ℕ) (x : PlaceText) (r : RightValue) → (place_right h e s at x).typed ≡ Some r → IsRight h k r
+place_right_typed : (h : Classes) → IsHierarchy h → (e : Setting) (s : Scene) (k : Scope) → IsSetting e k → IsScene s k → (at : ℕ) (x : PlaceText) (r : RightValue) → (place_right h e s at x).typed ≡ Ok r → IsRight h k r
 unfolding place_right
 place_right_typed h keeps e s k f g at x r t =
     let v = then_both (leaf_of h e s at x).typed _ r t in
     let same : right_value (typed.Read v.0.place) v.0.ty false ≡ r = let last = v.2 in cc in
     right_is h k (typed.Read v.0.place) (right_value (typed.Read v.0.place) v.0.ty false) r same refl refl (a_read v.0.place v.0.ty (leaf_typed h keeps e s k f g at x v.0 v.1))
 
-address_typed : (h : Classes) → IsHierarchy h → (e : Setting) (s : Scene) (k : Scope) → IsSetting e k → IsScene s k → (at : ℕ) (x : PlaceText) (r : RightValue) → (address_right h e s at x).typed ≡ Some r → IsRight h k r
+address_typed : (h : Classes) → IsHierarchy h → (e : Setting) (s : Scene) (k : Scope) → IsSetting e k → IsScene s k → (at : ℕ) (x : PlaceText) (r : RightValue) → (address_right h e s at x).typed ≡ Ok r → IsRight h k r
 unfolding address_right
 address_typed h keeps e s k f g at x r t =
     let v = then_both (object_place_of h e s at x).typed _ r t in
@@ -66,11 +67,11 @@ address_typed h keeps e s k f g at x r t =
     let same : result ≡ r = let last = v.2 in cc in
     right_is h k (typed.Address v.0.place v.0.class) result r same refl refl (an_address v.0.place v.0.class (object_place_typed h keeps e s k f g at x v.0 v.1))
 
-result_typed : (h : Classes) (k : Scope) (at : ℕ) (o : Option TypedCall) (call : TypedCall) (f : Function ClassId) (ty : ReturnType ClassId) → o ≡ Some call → IsCall h k call f → f.ret ≡ ty → (r : RightValue) → (as_result at o ty).typed ≡ Some r → IsRight h k r
+result_typed : (h : Classes) (k : Scope) (at : ℕ) (o : Result TypedCall Fault) (call : TypedCall) (f : Function ClassId) (ty : ReturnType ClassId) → o ≡ Ok call → IsCall h k call f → f.ret ≡ ty → (r : RightValue) → (as_result at o ty).typed ≡ Ok r → IsRight h k r
 result_typed h k at o call f returns.Void there is ret r t = absurd (cc)
 result_typed h k at o call f (returns.Value ty) there is ret r t =
     let same : result_value o ty ≡ r = cc in
-    right_is h k (typed.Call call) (result_value o ty) r same refl (ap (option_map typed.Call) there) (a_result call f ty is ret)
+    right_is h k (typed.Call call) (result_value o ty) r same refl (ap (where_typed typed.Call) there) (a_result call f ty is ret)
 
 call_right_typed : PiecesAreComplete → (h : Classes) → IsHierarchy h → PureAreVirtual h → (e : Setting) (s : Scene) (k : Scope) → IsSetting e k → IsScene s k → (at : ℕ) (x : CallText) (r : RightValue) → IsClean (call_right h e s at x) r → IsRight h k r
 unfolding call_right
@@ -79,13 +80,13 @@ call_right_typed q h keeps virtual e s k f g at x r i =
     let is = call_typed q h keeps virtual e s k f g at x v.0 v.1 in
     result_typed h k at v.0.call is.call is.function v.0.returns is.there is.called is.returns r v.2.typed
 
-made_typed : (h : Classes) (k : Scope) (at : ℕ) (abstract : Bool) (c : ClassId) → c.0 < length h → (r : RightValue) → (made at abstract c).typed ≡ Some r → IsRight h k r
+made_typed : (h : Classes) (k : Scope) (at : ℕ) (abstract : Bool) (c : ClassId) → c.0 < length h → (r : RightValue) → (made at abstract c).typed ≡ Ok r → IsRight h k r
 made_typed h k at true c known r t = absurd (cc)
 made_typed h k at false c known r t =
     let same : right_value (typed.New c) (type.Pointer c) false ≡ r = cc in
     right_is h k (typed.New c) (right_value (typed.New c) (type.Pointer c) false) r same refl refl (an_object c known)
 
-new_typed : (h : Classes) (k : Scope) (x : Spot) (r : RightValue) → (new_right h x).typed ≡ Some r → IsRight h k r
+new_typed : (h : Classes) (k : Scope) (x : Spot) (r : RightValue) → (new_right h x).typed ≡ Ok r → IsRight h k r
 unfolding new_right
 new_typed h k x r t =
     let c = then_both (class_of_spot h x).typed _ r t in
@@ -110,7 +111,7 @@ converted_by h k r u by i (inr n) =
     (subst (λ (x : Converted). IsConverted h k x (type.Pointer n.class)) (ap (λ (x : TypedRight). converted x conversion.Null) (sym (i.null n.null)) ∙ ap (converted i.right) (sym n.by_is)) (a_null_right n.class))
 
 -- a right side of which all is typed, with its conversion
-pub value_typed : (h : Classes) → IsHierarchy h → (k : Scope) (at : ℕ) (u : ValueType ClassId) (r : RightValue) (c : Converted) → IsRight h k r → (converted_value h at u r).typed ≡ Some c → IsConverted h k c u
+pub value_typed : (h : Classes) → IsHierarchy h → (k : Scope) (at : ℕ) (u : ValueType ClassId) (r : RightValue) (c : Converted) → IsRight h k r → (converted_value h at u r).typed ≡ Ok c → IsConverted h k c u
 unfolding converted_value
 value_typed h keeps k at u r c i t =
     let y = then_both (conversion_of h at r.ty r.is_null u).typed _ c t in

@@ -1,5 +1,5 @@
 -- Statements are typed.
-use Rattle.std.proofs.Common.{◌≡◌, ℕ, Bool, true, false, Option, Some, None, refl, sym, ◌∙◌, ap, subst, length, arith}
+use Rattle.std.proofs.Common.{◌≡◌, ℕ, Bool, true, false, Option, Some, None, Ok, refl, sym, ◌∙◌, ap, subst, length, arith}
 use Rattle.std.specs.Prelude.{nat_eq, if◌then◌else◌, slice_get}
 use Rattle.std.proofs.lemmas.Bool.{eqb-true}
 use Rattle.cxx_hierarchy.specs.declared.records.ClassId.{ClassId}
@@ -55,7 +55,7 @@ kind_is h k a b same is = subst (IsTyped h k) same is
 
 -- declarations
 
-pub type_typed : (h : Classes) (ty : ValueType Text) (at : ℕ) (u : ValueType ClassId) → (type_of h ty at).typed ≡ Some u → IsKnown h u
+pub type_typed : (h : Classes) (ty : ValueType Text) (at : ℕ) (u : ValueType ClassId) → (type_of h ty at).typed ≡ Ok u → IsKnown h u
 unfolding type_of
 type_typed h (type.Number n) at u t = let same : type.Number n ≡ u = cc in subst (IsKnown h) same tt
 type_typed h (type.Pointer name) at u t =
@@ -63,11 +63,11 @@ type_typed h (type.Pointer name) at u t =
     let same : type.Pointer c.0 ≡ u = let last = c.2 in cc in
     subst (IsKnown h) same (named_class_typed h name at c.0 c.1)
 
-either : (t : Bool) (at : ℕ) (u v : ValueType ClassId) → (if t then warn rule.DuplicateMember at u else pure u).typed ≡ Some v → u ≡ v
+either : (t : Bool) (at : ℕ) (u v : ValueType ClassId) → (if t then warn rule.DuplicateMember at u else pure u).typed ≡ Ok v → u ≡ v
 either true at u v e = cc
 either false at u v e = cc
 
-new_typed : (h : Classes) (s : Scene) (ty : ValueType Text) (at : ℕ) (x : Spot) (u : ValueType ClassId) → (new_variable h s ty at x).typed ≡ Some u → IsKnown h u
+new_typed : (h : Classes) (s : Scene) (ty : ValueType Text) (at : ℕ) (x : Spot) (u : ValueType ClassId) → (new_variable h s ty at x).typed ≡ Ok u → IsKnown h u
 unfolding new_variable
 new_typed h s ty at x u t =
     let r = then_both (type_of h ty at).typed _ u t in
@@ -122,7 +122,7 @@ assign_typed q h keeps virtual e s k f g at x r kind i =
     kind_is h k (typed.Assign p.0.0.0 c.0) kind (cc)
     (assigns p.0.0.0 c.0 p.0.0.1 (variable_typed e s k f g x p.0.0 b.0.typed) (value_typed h keeps k at p.0.0.1 p.0.1 c.0 (right_typed q h keeps virtual e s k f g at r p.0.1 b.1) c.1))
 
-write_typed : (h : Classes) → IsHierarchy h → (e : Setting) (s : Scene) (k : Scope) → IsSetting e k → IsScene s k → (at : ℕ) (place : PlaceText) (x : Operand) (kind : TypedKind) → (write_of h e s at place x).typed ≡ Some kind → IsTyped h k kind
+write_typed : (h : Classes) → IsHierarchy h → (e : Setting) (s : Scene) (k : Scope) → IsSetting e k → IsScene s k → (at : ℕ) (place : PlaceText) (x : Operand) (kind : TypedKind) → (write_of h e s at place x).typed ≡ Ok kind → IsTyped h k kind
 unfolding write_of
 write_typed h keeps e s k f g at place x kind t =
     let p = then_both _ _ kind t in
@@ -138,13 +138,13 @@ write_typed h keeps e s k f g at place x kind t =
     (λ n wide. conversion_number h at p.0.1.ty p.0.1.is_null p.0.0.ty (place_number h keeps k p.0.0.place p.0.0.ty leads n wide) c.0 c.1)))
 
 same_if : (h : Classes) (k : Scope) (p : Pointer × Pointer) (t : Bool) (at : ℕ) → nat_eq p.0.class.0 p.1.class.0 ≡ t → HasType k p.0.operand (type.Pointer p.0.class) → HasType k p.1.operand (type.Pointer p.1.class) → (kind : TypedKind) →
-    (if t then pure (typed.Copy p.0.operand p.1.operand p.0.class) else fail rule.TypeMismatch at).typed ≡ Some kind → IsTyped h k kind
+    (if t then pure (typed.Copy p.0.operand p.1.operand p.0.class) else fail rule.TypeMismatch at).typed ≡ Ok kind → IsTyped h k kind
 same_if h k p true at is a b kind t =
     let one : p.1.class ≡ p.0.class = sym (same_id p.0.class p.1.class (eqb-true p.0.class.0 p.1.class.0 is)) in
     kind_is h k (typed.Copy p.0.operand p.1.operand p.0.class) kind (cc) (copies p.0.operand p.1.operand p.0.class a (subst (λ (c : ClassId). HasType k p.1.operand (type.Pointer c)) one b))
 same_if h k p false at is a b kind t = absurd (cc)
 
-copy_typed : (h : Classes) (e : Setting) (s : Scene) (k : Scope) → IsSetting e k → IsScene s k → (at : ℕ) (to source : PointerText) (kind : TypedKind) → (copy_of e s at to source).typed ≡ Some kind → IsTyped h k kind
+copy_typed : (h : Classes) (e : Setting) (s : Scene) (k : Scope) → IsSetting e k → IsScene s k → (at : ℕ) (to source : PointerText) (kind : TypedKind) → (copy_of e s at to source).typed ≡ Ok kind → IsTyped h k kind
 unfolding copy_of
 copy_typed h e s k f g at to source kind t =
     let p = then_both _ _ kind t in
@@ -159,7 +159,7 @@ call_statement_typed q h keeps virtual e s k f g at x kind i =
     let last = v.2.typed in
     kind_is h k (typed.Call v.0) kind (cc) (calls v.0 is.function is.called)
 
-delete_typed : (h : Classes) (e : Setting) (s : Scene) (k : Scope) → IsSetting e k → IsScene s k → (at : ℕ) (x : PointerText) (kind : TypedKind) → (delete_of e s at x).typed ≡ Some kind → IsTyped h k kind
+delete_typed : (h : Classes) (e : Setting) (s : Scene) (k : Scope) → IsSetting e k → IsScene s k → (at : ℕ) (x : PointerText) (kind : TypedKind) → (delete_of e s at x).typed ≡ Ok kind → IsTyped h k kind
 unfolding delete_of
 delete_typed h e s k f g at x kind t =
     let p = then_both (pointer_of e s at x).typed _ kind t in
@@ -167,32 +167,32 @@ delete_typed h e s k f g at x kind t =
     kind_is h k (typed.Delete p.0.operand p.0.class) kind (cc) (deletes p.0.operand p.0.class (pointer_typed e s k f g at x p.0 p.1))
 
 value_return_typed : (h : Classes) → IsHierarchy h → (e : Setting) (s : Scene) (k : Scope) → IsSetting e k → IsScene s k → (at : ℕ) (u : ValueType ClassId) → wanted e.returns ≡ Some (ValueReturn u) → (x : Operand) (kind : TypedKind) →
-    (value_return h e s at u x).typed ≡ Some kind → IsTyped h k kind
+    (value_return h e s at u x).typed ≡ Ok kind → IsTyped h k kind
 unfolding value_return
 value_return_typed h keeps e s k f g at u wants x kind t =
     let a = then_both (converted_operand h e s at u x).typed _ kind t in
     let last = a.2 in
     kind_is h k (typed.Return (Some a.0)) kind (cc) (returns_value a.0 u (f.returns ∙ wants) (converted_typed h keeps e s k f g at u x a.0 a.1))
 
-return_by : (h : Classes) → IsHierarchy h → (e : Setting) (s : Scene) (k : Scope) → IsSetting e k → IsScene s k → (at : ℕ) (ret : Returns) → e.returns ≡ ret → (x : Option Operand) (kind : TypedKind) → (typed_return h e s at ret x).typed ≡ Some kind → IsTyped h k kind
+return_by : (h : Classes) → IsHierarchy h → (e : Setting) (s : Scene) (k : Scope) → IsSetting e k → IsScene s k → (at : ℕ) (ret : Returns) → e.returns ≡ ret → (x : Option Operand) (kind : TypedKind) → (typed_return h e s at ret x).typed ≡ Ok kind → IsTyped h k kind
 return_by h keeps e s k f g at returns.Nowhere is x kind t = absurd (cc)
 return_by h keeps e s k f g at returns.Nothing is None kind t = kind_is h k (typed.Return None) kind (cc) (returns_nothing (f.returns ∙ ap wanted is))
 return_by h keeps e s k f g at returns.Nothing is (Some x) kind t = absurd (cc)
 return_by h keeps e s k f g at (returns.Value u) is None kind t = absurd (cc)
 return_by h keeps e s k f g at (returns.Value u) is (Some x) kind t = value_return_typed h keeps e s k f g at u (ap wanted is) x kind t
 
-return_typed : (h : Classes) → IsHierarchy h → (e : Setting) (s : Scene) (k : Scope) → IsSetting e k → IsScene s k → (at : ℕ) (x : Option Operand) (kind : TypedKind) → (returned_kind h e s at x).typed ≡ Some kind → IsTyped h k kind
+return_typed : (h : Classes) → IsHierarchy h → (e : Setting) (s : Scene) (k : Scope) → IsSetting e k → IsScene s k → (at : ℕ) (x : Option Operand) (kind : TypedKind) → (returned_kind h e s at x).typed ≡ Ok kind → IsTyped h k kind
 unfolding returned_kind
 return_typed h keeps e s k f g at x kind t = return_by h keeps e s k f g at e.returns refl x kind t
 
-print_typed : (h : Classes) (e : Setting) (s : Scene) (k : Scope) → IsSetting e k → IsScene s k → (at : ℕ) (x : Operand) (kind : TypedKind) → (print_of e s at x).typed ≡ Some kind → IsTyped h k kind
+print_typed : (h : Classes) (e : Setting) (s : Scene) (k : Scope) → IsSetting e k → IsScene s k → (at : ℕ) (x : Operand) (kind : TypedKind) → (print_of e s at x).typed ≡ Ok kind → IsTyped h k kind
 unfolding print_of
 print_typed h e s k f g at x kind t =
     let v = then_both (operand_of e s at x).typed _ kind t in
     let last = v.2 in
     kind_is h k (typed.Print v.0.operand) kind (cc) (prints v.0.operand v.0.ty (operand_typed e s k f g at x v.0 v.1).has)
 
-print_type_typed : (h : Classes) (e : Setting) (s : Scene) (k : Scope) → IsSetting e k → IsScene s k → (at : ℕ) (x : PointerText) (kind : TypedKind) → (print_type_of h e s at x).typed ≡ Some kind → IsTyped h k kind
+print_type_typed : (h : Classes) (e : Setting) (s : Scene) (k : Scope) → IsSetting e k → IsScene s k → (at : ℕ) (x : PointerText) (kind : TypedKind) → (print_type_of h e s at x).typed ≡ Ok kind → IsTyped h k kind
 unfolding print_type_of
 print_type_typed h e s k f g at x kind t =
     let p = then_both (polymorphic_pointer h e s at x).typed _ kind t in
@@ -200,7 +200,7 @@ print_type_typed h e s k f g at x kind t =
     let last = p.2 in
     kind_is h k (typed.PrintType p.0.operand p.0.class) kind (cc) (prints_type p.0.operand p.0.class is.has is.class)
 
-print_view_typed : (h : Classes) (e : Setting) (s : Scene) (k : Scope) → IsSetting e k → IsScene s k → (at : ℕ) (x : PointerText) (kind : TypedKind) → (print_view_of h e s at x).typed ≡ Some kind → IsTyped h k kind
+print_view_typed : (h : Classes) (e : Setting) (s : Scene) (k : Scope) → IsSetting e k → IsScene s k → (at : ℕ) (x : PointerText) (kind : TypedKind) → (print_view_of h e s at x).typed ≡ Ok kind → IsTyped h k kind
 unfolding print_view_of
 print_view_typed h e s k f g at x kind t =
     let p = then_both (polymorphic_pointer h e s at x).typed _ kind t in
@@ -208,7 +208,7 @@ print_view_typed h e s k f g at x kind t =
     let last = p.2 in
     kind_is h k (typed.PrintView p.0.operand p.0.class) kind (cc) (prints_view p.0.operand p.0.class is.has is.class)
 
-dump_typed : (h : Classes) (e : Setting) (s : Scene) (k : Scope) → IsSetting e k → IsScene s k → (at : ℕ) (x : PointerText) (kind : TypedKind) → (dump_of e s at x).typed ≡ Some kind → IsTyped h k kind
+dump_typed : (h : Classes) (e : Setting) (s : Scene) (k : Scope) → IsSetting e k → IsScene s k → (at : ℕ) (x : PointerText) (kind : TypedKind) → (dump_of e s at x).typed ≡ Ok kind → IsTyped h k kind
 unfolding dump_of
 dump_typed h e s k f g at x kind t =
     let p = then_both (pointer_of e s at x).typed _ kind t in

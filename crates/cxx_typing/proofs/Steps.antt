@@ -1,37 +1,37 @@
 -- A piece that rests on others is typed where each of them is.
-use Rattle.std.proofs.Common.{◌≡◌, ◌⊎◌, ◌≤◌, Bool, true, false, Option, Some, None, IsSome, Ok, List, [], ◌∷◌, length, inl, inr, refl, sym, ◌∙◌, ap, subst, arith}
+use Rattle.std.proofs.Common.{◌≡◌, ◌⊎◌, ◌≤◌, Bool, true, false, Result, Ok, Err, IsOk, List, [], ◌∷◌, length, inl, inr, refl, sym, ◌∙◌, ap, subst, arith}
 use Rattle.std.specs.Prelude.{if◌then◌else◌}
 use Rattle.cxx_expression.specs.declared.faults.Fault.{Fault}
-use Rattle.cxx_expression.specs.Checked.{Checked, then_typed, then_faults, ◌>>=◌, pair_of, both, with_option, beside}
+use Rattle.cxx_expression.specs.Checked.{Checked, then_typed, then_faults, ◌>>=◌, pair_of, both, with_outcome, beside}
 use Rattle.cxx_expression.specs.Faults.{least, settled}
 use Rattle.cxx_resolve.specs.Settled.{settle}
 use Rattle.cxx_expression.specs.Laws.{IsComplete}
 
 -- the first piece is typed, and the second that rests on it
-pub then_both : {X Y : Type 0} (o : Option X) (next : X → Checked Y) (y : Y) → then_typed o next ≡ Some y → (x : X) × (o ≡ Some x) × ((next x).typed ≡ Some y)
-then_both None next y e = absurd (cc)
-then_both (Some x) next y e = (x, refl, e)
+pub then_both : {X Y : Type 0} (o : Result X Fault) (next : X → Checked Y) (y : Y) → then_typed o next ≡ Ok y → (x : X) × (o ≡ Ok x) × ((next x).typed ≡ Ok y)
+then_both (Err f) next y e = absurd (cc)
+then_both (Ok x) next y e = (x, refl, e)
 
 -- two pieces of which none rests on the other
-pub pair_both : {X Y : Type 0} (o : Option X) (q : Option Y) (r : X × Y) → pair_of o q ≡ Some r → (o ≡ Some r.0) × (q ≡ Some r.1)
-pair_both None q r e = absurd (cc)
-pair_both (Some x) None r e = absurd (cc)
-pair_both {X = X} {Y = Y} (Some x) (Some y) r e = let f : (x, y) ≡ r = cc in (ap (λ (p : X × Y). Some p.0) f, ap (λ (p : X × Y). Some p.1) f)
+pub pair_both : {X Y : Type 0} (o : Result X Fault) (q : Result Y Fault) (r : X × Y) → pair_of o q ≡ Ok r → (o ≡ Ok r.0) × (q ≡ Ok r.1)
+pair_both (Err f) q r e = absurd (cc)
+pair_both (Ok x) (Err f) r e = absurd (cc)
+pair_both {X = X} {Y = Y} (Ok x) (Ok y) r e = let f : (x, y) ≡ r = cc in (ap (λ (p : X × Y). Ok p.0) f, ap (λ (p : X × Y). Ok p.1) f)
 
-pub choice : {X : Type 0} (t : Bool) (p q : Checked X) (x : X) → (if t then p else q).typed ≡ Some x → ((t ≡ true) × (p.typed ≡ Some x)) ⊎ ((t ≡ false) × (q.typed ≡ Some x))
+pub choice : {X : Type 0} (t : Bool) (p q : Checked X) (x : X) → (if t then p else q).typed ≡ Ok x → ((t ≡ true) × (p.typed ≡ Ok x)) ⊎ ((t ≡ false) × (q.typed ≡ Ok x))
 choice true p q x e = inl (refl, e)
 choice false p q x e = inr (refl, e)
 
 -- the piece is typed, and adds no fault to those before it
 pub record IsClean {X : Type 0} (p : Checked X) (x : X) : Type 0 where
-  pub typed : p.typed ≡ Some x
+  pub typed : p.typed ≡ Ok x
   pub before : List Fault
   pub none : length (p.faults before) ≤ length before
 
-clean_first : {X Y : Type 0} (o : Option X) (next : X → Checked Y) (y : Y) (old new : List Fault) → ((x : X) (b : List Fault) → length b ≤ length ((next x).faults b)) → length old ≤ length new →
-    then_typed o next ≡ Some y → length (then_faults o next new) ≤ length old → (x : X) × (o ≡ Some x) × IsClean (next x) y × (length new ≤ length old)
-clean_first None next y old new c grows e few = absurd (cc)
-clean_first (Some x) next y old new c grows e few =
+clean_first : {X Y : Type 0} (o : Result X Fault) (next : X → Checked Y) (y : Y) (old new : List Fault) → ((x : X) (b : List Fault) → length b ≤ length ((next x).faults b)) → length old ≤ length new →
+    then_typed o next ≡ Ok y → length (then_faults o next new) ≤ length old → (x : X) × (o ≡ Ok x) × IsClean (next x) y × (length new ≤ length old)
+clean_first (Err f) next y old new c grows e few = absurd (cc)
+clean_first (Ok x) next y old new c grows e few =
     let more = c x new in
     let fewer : length ((next x).faults new) ≤ length new = omega arith in
     (x, refl, record { typed = e; before = new; none = fewer }, omega arith)
@@ -58,17 +58,17 @@ clean_pair p q r h g i =
     let second : length (q.faults (p.faults i.before)) ≤ length (p.faults i.before) = omega arith in
     (record { typed = b.0; before = i.before; none = first }, record { typed = b.1; before = p.faults i.before; none = second })
 
-with_first : {X Y : Type 0} (o : Option X) (q : Option Y) (r : X × Option Y) → with_option o q ≡ Some r → (o ≡ Some r.0) × (q ≡ r.1)
-with_first None q r e = absurd (cc)
-with_first {X = X} {Y = Y} (Some x) q r e = let f : (x, q) ≡ r = cc in (ap (λ (p : X × Option Y). Some p.0) f, ap (λ (p : X × Option Y). p.1) f)
+with_first : {X Y : Type 0} (o : Result X Fault) (q : Result Y Fault) (r : X × Result Y Fault) → with_outcome o q ≡ Ok r → (o ≡ Ok r.0) × (q ≡ r.1)
+with_first (Err f) q r e = absurd (cc)
+with_first {X = X} {Y = Y} (Ok x) q r e = let f : (x, q) ≡ r = cc in (ap (λ (p : X × Result Y Fault). Ok p.0) f, ap (λ (p : X × Result Y Fault). p.1) f)
 
-some_there : {Y : Type 0} (o : Option Y) → ((IsSome o → ⊥) → ⊥) → (y : Y) × (o ≡ Some y)
-some_there {Y = Y} None n = absurd (n (λ (some : IsSome {T = Y} None). cc))
-some_there (Some y) n = (y, refl)
+typed_there : {Y : Type 0} (o : Result Y Fault) → ((IsOk o → ⊥) → ⊥) → (y : Y) × (o ≡ Ok y)
+typed_there {Y = Y} (Err f) n = absurd (n (λ (is : IsOk {T = Y} (Err f)). cc))
+typed_there (Ok y) n = (y, refl)
 
 -- the second piece looks at the first; where neither has a fault, both are typed
-pub clean_beside : {X Y : Type 0} (p : Checked X) (next : Option X → Checked Y) (r : X × Option Y) → IsComplete p → ((o : Option X) → IsComplete (next o)) → IsClean (beside p next) r →
-    IsClean p r.0 × ((y : Y) × (r.1 ≡ Some y) × IsClean (next (Some r.0)) y)
+pub clean_beside : {X Y : Type 0} (p : Checked X) (next : Result X Fault → Checked Y) (r : X × Result Y Fault) → IsComplete p → ((o : Result X Fault) → IsComplete (next o)) → IsClean (beside p next) r →
+    IsClean p r.0 × ((y : Y) × (r.1 ≡ Ok y) × IsClean (next (Ok r.0)) y)
 clean_beside {X = X} {Y = Y} p next r h c i =
     let b = with_first p.typed (next p.typed).typed r i.typed in
     let more = h.grows i.before in
@@ -76,14 +76,14 @@ clean_beside {X = X} {Y = Y} p next r h c i =
     let few = i.none in
     let first : length (p.faults i.before) ≤ length i.before = omega arith in
     let second : length ((next p.typed).faults (p.faults i.before)) ≤ length (p.faults i.before) = omega arith in
-    let t = some_there (next p.typed).typed (λ n. let lost = (c p.typed).typed (p.faults i.before) n in omega arith) in (
+    let t = typed_there (next p.typed).typed (λ n. let lost = (c p.typed).typed (p.faults i.before) n in omega arith) in (
       record { typed = b.0; before = i.before; none = first },
-      (t.0, sym b.1 ∙ t.1, subst (λ (o : Option X). IsClean (next o) t.0) b.0 (record { typed = t.1; before = p.faults i.before; none = second })),
+      (t.0, sym b.1 ∙ t.1, subst (λ (o : Result X Fault). IsClean (next o) t.0) b.0 (record { typed = t.1; before = p.faults i.before; none = second })),
     )
 
-clean_by : {X : Type 0} (fs : List Fault) (o : Option X) (x : X) → settled (least fs) o ≡ Ok x → (o ≡ Some x) × (fs ≡ [])
-clean_by [] None x e = absurd (cc)
-clean_by [] (Some y) x e = (cc, refl)
+clean_by : {X : Type 0} (fs : List Fault) (o : Result X Fault) (x : X) → settled (least fs) o ≡ Ok x → (o ≡ Ok x) × (fs ≡ [])
+clean_by [] (Err f) x e = absurd (cc)
+clean_by [] (Ok y) x e = (cc, refl)
 clean_by (f ∷ fs) o x e = absurd (cc)
 
 -- a piece that comes to a value is typed to it without a fault

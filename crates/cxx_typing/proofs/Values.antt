@@ -1,5 +1,5 @@
 -- Operands, pointers and conversions have the types that they are typed to.
-use Rattle.std.proofs.Common.{◌≡◌, ◌⊎◌, ℕ, ◌≤◌, Bool, true, false, Option, Some, None, inl, inr, refl, sym, ◌∙◌, ap, subst, arith}
+use Rattle.std.proofs.Common.{◌≡◌, ◌⊎◌, ℕ, ◌≤◌, Bool, true, false, Option, Some, None, Ok, inl, inr, refl, sym, ◌∙◌, ap, subst, arith}
 use Rattle.std.specs.Prelude.{nat_eq, nat_le, if◌then◌else◌, ℤ, pos, neg_ℤ, not, ◌&&◌}
 use Rattle.std.proofs.lemmas.Int.{ints}
 use Rattle.std.proofs.lemmas.Bool.{eqb-true, eq-eqb, leb-true, leb-false}
@@ -50,19 +50,19 @@ use Rattle.cxx_typing.proofs.Scopes.{named_entry}
 
 -- variables
 
-global_typed : (e : Setting) (k : Scope) → IsSetting e k → (at : ℕ) (name : Text) (o : Option Entry) → innermost_entry e.globals name ≡ o → (v : Variable × ValueType ClassId) → (named_global at o).typed ≡ Some v → variable_type k v.0 ≡ Some v.1
+global_typed : (e : Setting) (k : Scope) → IsSetting e k → (at : ℕ) (name : Text) (o : Option Entry) → innermost_entry e.globals name ≡ o → (v : Variable × ValueType ClassId) → (named_global at o).typed ≡ Ok v → variable_type k v.0 ≡ Some v.1
 global_typed e k f at name None is v t = absurd (cc)
 global_typed e k f at name (Some x) is v t =
     let same : (Global x.number, x.ty) ≡ v = cc in
     subst (λ (u : Variable × ValueType ClassId). variable_type k u.0 ≡ Some u.1) same (f.globals x (named_entry e.globals name x is))
 
-local_typed : (e : Setting) (s : Scene) (k : Scope) → IsSetting e k → IsScene s k → (x : Spot) (o : Option Entry) → innermost_entry s.entries x.name ≡ o → (v : Variable × ValueType ClassId) → (local_of e x o).typed ≡ Some v → variable_type k v.0 ≡ Some v.1
+local_typed : (e : Setting) (s : Scene) (k : Scope) → IsSetting e k → IsScene s k → (x : Spot) (o : Option Entry) → innermost_entry s.entries x.name ≡ o → (v : Variable × ValueType ClassId) → (local_of e x o).typed ≡ Ok v → variable_type k v.0 ≡ Some v.1
 local_typed e s k f g x None is v t = global_typed e k f x.at x.name (innermost_entry e.globals x.name) refl v t
 local_typed e s k f g x (Some y) is v t =
     let same : (Local y.number, y.ty) ≡ v = cc in
     subst (λ (u : Variable × ValueType ClassId). variable_type k u.0 ≡ Some u.1) same (g.locals y (named_entry s.entries x.name y is))
 
-pub variable_typed : (e : Setting) (s : Scene) (k : Scope) → IsSetting e k → IsScene s k → (x : Spot) (v : Variable × ValueType ClassId) → (variable_of e s x).typed ≡ Some v → variable_type k v.0 ≡ Some v.1
+pub variable_typed : (e : Setting) (s : Scene) (k : Scope) → IsSetting e k → IsScene s k → (x : Spot) (v : Variable × ValueType ClassId) → (variable_of e s x).typed ≡ Ok v → variable_type k v.0 ≡ Some v.1
 unfolding variable_of
 variable_typed e s k f g x v t = local_typed e s k f g x (innermost_entry s.entries x.name) refl v t
 
@@ -76,14 +76,14 @@ pub record IsValue (k : Scope) (v : Value) : Type 0 where
 valued : (k : Scope) (v w : Value) → IsValue k v → v ≡ w → IsValue k w
 valued k v w i e = subst (IsValue k) e i
 
-named_typed : (e : Setting) (s : Scene) (k : Scope) → IsSetting e k → IsScene s k → (x : Spot) (v : Value) → (named_value e s x).typed ≡ Some v → IsValue k v
+named_typed : (e : Setting) (s : Scene) (k : Scope) → IsSetting e k → IsScene s k → (x : Spot) (v : Value) → (named_value e s x).typed ≡ Ok v → IsValue k v
 unfolding named_value
 named_typed e s k f g x v t =
     let r = then_both (variable_of e s x).typed _ v t in
     let same : value (typed.Variable r.0.0) r.0.1 false ≡ v = let q = r.2 in cc in
     valued k _ v (record { has = of_variable r.0.0 r.0.1 (variable_typed e s k f g x r.0 r.1); null = λ n. absurd (cc) }) same
 
-this_typed : (e : Setting) (k : Scope) → IsSetting e k → (at : ℕ) (o : Option ClassId) → e.this_class ≡ o → (v : Value) → (this_pointer_value at o).typed ≡ Some v → IsValue k v
+this_typed : (e : Setting) (k : Scope) → IsSetting e k → (at : ℕ) (o : Option ClassId) → e.this_class ≡ o → (v : Value) → (this_pointer_value at o).typed ≡ Ok v → IsValue k v
 this_typed e k f at None is v t = absurd (cc)
 this_typed e k f at (Some c) is v t =
     let same : value typed.This (type.Pointer c) false ≡ v = cc in
@@ -148,34 +148,34 @@ constant_typed k (constant.Number negative n at) = record {
 }
 constant_typed k (constant.Truth b at) = record { has = of_number (truth b) scalar.Bool (truth_range b); null = λ n. absurd (cc) }
 
-pub operand_typed : (e : Setting) (s : Scene) (k : Scope) → IsSetting e k → IsScene s k → (at : ℕ) (x : Operand) (v : Value) → (operand_of e s at x).typed ≡ Some v → IsValue k v
+pub operand_typed : (e : Setting) (s : Scene) (k : Scope) → IsSetting e k → IsScene s k → (at : ℕ) (x : Operand) (v : Value) → (operand_of e s at x).typed ≡ Ok v → IsValue k v
 unfolding operand_of
 operand_typed e s k f g at (operand.Name x) v t = named_typed e s k f g x v t
 operand_typed e s k f g at (operand.This place) v t = this_typed e k f at e.this_class refl v t
 operand_typed e s k f g at (operand.Constant c) v t = let same : constant_of c ≡ v = cc in valued k _ v (constant_typed k c) same
 
-pointer_value_typed : (e : Setting) (s : Scene) (k : Scope) → IsSetting e k → IsScene s k → (at : ℕ) (x : PointerText) (v : Value) → (pointer_value e s at x).typed ≡ Some v → IsValue k v
+pointer_value_typed : (e : Setting) (s : Scene) (k : Scope) → IsSetting e k → IsScene s k → (at : ℕ) (x : PointerText) (v : Value) → (pointer_value e s at x).typed ≡ Ok v → IsValue k v
 unfolding pointer_value
 pointer_value_typed e s k f g at (pointer.Name x) v t = named_typed e s k f g x v t
 pointer_value_typed e s k f g at (pointer.This place) v t = this_typed e k f at e.this_class refl v t
 
-as_pointer_typed : (k : Scope) (at : ℕ) (x : TypedOperand) (ty : ValueType ClassId) → HasType k x ty → (p : Pointer) → (as_pointer at x ty).typed ≡ Some p → HasType k p.operand (type.Pointer p.class)
+as_pointer_typed : (k : Scope) (at : ℕ) (x : TypedOperand) (ty : ValueType ClassId) → HasType k x ty → (p : Pointer) → (as_pointer at x ty).typed ≡ Ok p → HasType k p.operand (type.Pointer p.class)
 as_pointer_typed k at x (type.Number n) has p t = absurd (cc)
 as_pointer_typed k at x (type.Pointer c) has p t =
     let same : record { operand = x; class = c } ≡ p = cc in subst (λ (q : Pointer). HasType k q.operand (type.Pointer q.class)) same has
 
-pub pointer_typed : (e : Setting) (s : Scene) (k : Scope) → IsSetting e k → IsScene s k → (at : ℕ) (x : PointerText) (p : Pointer) → (pointer_of e s at x).typed ≡ Some p → HasType k p.operand (type.Pointer p.class)
+pub pointer_typed : (e : Setting) (s : Scene) (k : Scope) → IsSetting e k → IsScene s k → (at : ℕ) (x : PointerText) (p : Pointer) → (pointer_of e s at x).typed ≡ Ok p → HasType k p.operand (type.Pointer p.class)
 unfolding pointer_of
 pointer_typed e s k f g at x p t =
     let r = then_both (pointer_value e s at x).typed _ p t in
     as_pointer_typed k at r.0.operand r.0.ty (pointer_value_typed e s k f g at x r.0 r.1).has p r.2
 
-as_number_typed : (k : Scope) (at : ℕ) (x : TypedOperand) (ty : ValueType ClassId) → HasType k x ty → (p : Number) → (as_number at x ty).typed ≡ Some p → HasType k p.operand (type.Number p.scalar)
+as_number_typed : (k : Scope) (at : ℕ) (x : TypedOperand) (ty : ValueType ClassId) → HasType k x ty → (p : Number) → (as_number at x ty).typed ≡ Ok p → HasType k p.operand (type.Number p.scalar)
 as_number_typed k at x (type.Pointer c) has p t = absurd (cc)
 as_number_typed k at x (type.Number n) has p t =
     let same : record { operand = x; scalar = n } ≡ p = cc in subst (λ (q : Number). HasType k q.operand (type.Number q.scalar)) same has
 
-pub number_typed : (e : Setting) (s : Scene) (k : Scope) → IsSetting e k → IsScene s k → (at : ℕ) (x : Operand) (p : Number) → (number_operand e s at x).typed ≡ Some p → HasType k p.operand (type.Number p.scalar)
+pub number_typed : (e : Setting) (s : Scene) (k : Scope) → IsSetting e k → IsScene s k → (at : ℕ) (x : Operand) (p : Number) → (number_operand e s at x).typed ≡ Ok p → HasType k p.operand (type.Number p.scalar)
 unfolding number_operand
 number_typed e s k f g at x p t =
     let r = then_both (operand_of e s at x).typed _ p t in
@@ -204,16 +204,16 @@ proper_base h keeps c d s apart e =
     let i = found_base h c d (base_by h c d) (base_is h keeps c d) s e in
     record { valid = i.valid; class = i.class; proper = different c d s apart i.class }
 
-way_by : (h : Classes) → IsHierarchy h → (at : ℕ) (c d : ClassId) (b : Based) → (c ≡ d → ⊥) → base_up h c d ≡ b → (o : Option Subobject) → (as_base at b).typed ≡ Some o → IsWay h c o d
+way_by : (h : Classes) → IsHierarchy h → (at : ℕ) (c d : ClassId) (b : Based) → (c ≡ d → ⊥) → base_up h c d ≡ b → (o : Option Subobject) → (as_base at b).typed ≡ Ok o → IsWay h c o d
 way_by h keeps at c d based.NotBase apart is o t = absurd (cc)
 way_by h keeps at c d based.TwoBases apart is o t = absurd (cc)
 way_by h keeps at c d (based.Base s) apart is o t = let same : Some s ≡ o = cc in subst (λ (p : Option Subobject). IsWay h c p d) same (proper_base h keeps c d s apart is)
 
-way_if : (h : Classes) → IsHierarchy h → (at : ℕ) (c d : ClassId) (same : Bool) → nat_eq c.0 d.0 ≡ same → (o : Option Subobject) → (if same then pure None else as_base at (base_up h c d)).typed ≡ Some o → IsWay h c o d
+way_if : (h : Classes) → IsHierarchy h → (at : ℕ) (c d : ClassId) (same : Bool) → nat_eq c.0 d.0 ≡ same → (o : Option Subobject) → (if same then pure None else as_base at (base_up h c d)).typed ≡ Ok o → IsWay h c o d
 way_if h keeps at c d true is o t = let none : None ≡ o = cc in subst (λ (p : Option Subobject). IsWay h c p d) none (same_id c d (eqb-true c.0 d.0 is))
 way_if h keeps at c d false is o t = way_by h keeps at c d (base_up h c d) (apart_by c d is) refl o t
 
-pub way_typed : (h : Classes) → IsHierarchy h → (at : ℕ) (c d : ClassId) (o : Option Subobject) → (path_to h at c d).typed ≡ Some o → IsWay h c o d
+pub way_typed : (h : Classes) → IsHierarchy h → (at : ℕ) (c d : ClassId) (o : Option Subobject) → (path_to h at c d).typed ≡ Ok o → IsWay h c o d
 unfolding path_to
 way_typed h keeps at c d o t = way_if h keeps at c d (nat_eq c.0 d.0) refl o t
 
@@ -223,7 +223,7 @@ way_converts : (h : Classes) (c d : ClassId) (o : Option Subobject) → IsWay h 
 way_converts h c d None is = subst (λ (x : ClassId). Converts h (type.Pointer c) conversion.Same (type.Pointer x)) is (to_same (type.Pointer c))
 way_converts h c d (Some i) is = to_base c d i is
 
-class_converts : (h : Classes) → IsHierarchy h → (at : ℕ) (c d : ClassId) (by : Conversion) → (class_conversion h at c d).typed ≡ Some by → Converts h (type.Pointer c) by (type.Pointer d)
+class_converts : (h : Classes) → IsHierarchy h → (at : ℕ) (c d : ClassId) (by : Conversion) → (class_conversion h at c d).typed ≡ Ok by → Converts h (type.Pointer c) by (type.Pointer d)
 unfolding class_conversion
 class_converts h keeps at c d by t =
     let r = then_both (path_to h at c d).typed _ by t in
@@ -237,7 +237,7 @@ pub record BecomesNull (is_null : Bool) (by : Conversion) (u : ValueType ClassId
   pub by_is : by ≡ conversion.Null
   pub to : u ≡ type.Pointer class
 
-pub conversion_typed : (h : Classes) → IsHierarchy h → (at : ℕ) (ty : ValueType ClassId) (is_null : Bool) (u : ValueType ClassId) (by : Conversion) → (conversion_of h at ty is_null u).typed ≡ Some by →
+pub conversion_typed : (h : Classes) → IsHierarchy h → (at : ℕ) (ty : ValueType ClassId) (is_null : Bool) (u : ValueType ClassId) (by : Conversion) → (conversion_of h at ty is_null u).typed ≡ Ok by →
     Converts h ty by u ⊎ BecomesNull is_null by u
 unfolding conversion_of
 conversion_typed h keeps at (type.Number s) is_null (type.Number u) by t = let same : conversion.Number u ≡ by = cc in inl (subst (λ (x : Conversion). Converts h (type.Number s) x (type.Number u)) same (to_number s u))
@@ -252,7 +252,7 @@ argument_by h k v u by i (inr n) =
     subst (λ (ty : ValueType ClassId). IsArgument h k (argument v.operand by) ty) (sym n.to)
     (subst (λ (a : Argument). IsArgument h k a (type.Pointer n.class)) (ap (λ (x : TypedOperand). argument x conversion.Null) (sym (i.null n.null)) ∙ ap (argument v.operand) (sym n.by_is)) (a_null n.class))
 
-pub converted_typed : (h : Classes) → IsHierarchy h → (e : Setting) (s : Scene) (k : Scope) → IsSetting e k → IsScene s k → (at : ℕ) (u : ValueType ClassId) (x : Operand) (a : Argument) → (converted_operand h e s at u x).typed ≡ Some a → IsArgument h k a u
+pub converted_typed : (h : Classes) → IsHierarchy h → (e : Setting) (s : Scene) (k : Scope) → IsSetting e k → IsScene s k → (at : ℕ) (u : ValueType ClassId) (x : Operand) (a : Argument) → (converted_operand h e s at u x).typed ≡ Ok a → IsArgument h k a u
 unfolding converted_operand
 converted_typed h keeps e s k f g at u x a t =
     let r = then_both (operand_of e s at x).typed _ a t in

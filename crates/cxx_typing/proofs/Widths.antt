@@ -1,5 +1,5 @@
 -- What goes into a bit-field is a number of its type.
-use Rattle.std.proofs.Common.{◌≡◌, ℕ, Bool, Option, Some, None, refl, sym, ◌∙◌, ap, subst}
+use Rattle.std.proofs.Common.{◌≡◌, ℕ, Bool, Option, Some, None, Ok, refl, sym, ◌∙◌, ap, subst}
 use Rattle.std.specs.Prelude.{slice_get}
 use Rattle.foundation.proofs.Places.{contains_at}
 use Rattle.cxx_hierarchy.specs.declared.records.ClassId.{ClassId}
@@ -55,13 +55,13 @@ pub record BecomesNumber (ty : ValueType ClassId) (by : Conversion) (u : ValueTy
   pub by_is : by ≡ conversion.Number to
   pub to_is : u ≡ type.Number to
 
-converted_number : (h : Classes) (at : ℕ) (ty : ValueType ClassId) (is_null : Bool) (t : Scalar) (by : Conversion) → (conversion_of h at ty is_null (type.Number t)).typed ≡ Some by → BecomesNumber ty by (type.Number t)
+converted_number : (h : Classes) (at : ℕ) (ty : ValueType ClassId) (is_null : Bool) (t : Scalar) (by : Conversion) → (conversion_of h at ty is_null (type.Number t)).typed ≡ Ok by → BecomesNumber ty by (type.Number t)
 unfolding conversion_of
 converted_number h at (type.Number s) is_null t by e = record { from = s; to = t; from_is = refl; by_is = cc; to_is = refl }
 converted_number h at (type.Pointer c) is_null t by e = absurd (cc)
 
 -- what becomes a number is one
-pub conversion_number : (h : Classes) (at : ℕ) (ty : ValueType ClassId) (is_null : Bool) (u : ValueType ClassId) → IsNumber u → (by : Conversion) → (conversion_of h at ty is_null u).typed ≡ Some by → BecomesNumber ty by u
+pub conversion_number : (h : Classes) (at : ℕ) (ty : ValueType ClassId) (is_null : Bool) (u : ValueType ClassId) → IsNumber u → (by : Conversion) → (conversion_of h at ty is_null u).typed ≡ Ok by → BecomesNumber ty by u
 conversion_number h at ty is_null u number by e =
     subst (BecomesNumber ty by) (sym number.is) (converted_number h at ty is_null number.scalar by (ap (λ (x : ValueType ClassId). (conversion_of h at ty is_null x).typed) (sym number.is) ∙ e))
 

@@ -67,7 +67,7 @@ plain_adds f = record {
       subst (AddsTo 1 d) same (adds_pushed d d.scene r.0 line next (omega arith));
 }
 
-declared_types : (h : Classes) (e : Setting) (s : Scene) (at : ℕ) (ty : ValueType Text) (ty_at : ℕ) (x : Spot) (init : Option Right) (r : TypedKind × Scene) → (declare_of h e s at ty ty_at x init).typed ≡ Some r → length r.1.types ≤ length s.types + 1
+declared_types : (h : Classes) (e : Setting) (s : Scene) (at : ℕ) (ty : ValueType Text) (ty_at : ℕ) (x : Spot) (init : Option Right) (r : TypedKind × Scene) → (declare_of h e s at ty ty_at x init).typed ≡ Ok r → length r.1.types ≤ length s.types + 1
 unfolding declare_of
 declared_types h e s at ty ty_at x init r t =
     let u = then_both (new_variable h s ty ty_at x).typed _ r t in
