@@ -1,17 +1,21 @@
 -- The views of a class, one by one.
-use Rattle.std.proofs.Common.{◌≡◌, ℕ, suc, ◌+◌, arith, ◌<◌, Some, List, map, length, get_or, ap, subst, sym, ◌∙◌}
+use Rattle.std.proofs.Common.{◌≡◌, ℕ, suc, ◌+◌, arith, ◌<◌, true, Some, List, map, length, get_or, ap, subst, sym, ◌∙◌}
 use Rattle.std.specs.Prelude.{slice_get}
 use Rattle.std.proofs.lemmas.Option.{slice_get-get_or}
 use Rattle.cxx_hierarchy.specs.declared.records.ClassId.{ClassId}
 use Rattle.cxx_hierarchy.specs.Classes.{Classes}
 use Rattle.cxx_hierarchy.specs.Hierarchies.{IsHierarchy}
 use Rattle.cxx_subobject.specs.declared.Subobject.{Subobject}
-use Rattle.cxx_subobject.specs.Subobjects.{IsSubobject, class_of}
+use Rattle.cxx_subobject.specs.Subobjects.{IsSubobject, class_of, same_subobject}
+use Rattle.cxx_subobject.proofs.TreeLemmas.{subobject_same}
 use Rattle.abi_primary.specs.Kinds.{IsDynamic}
 use Rattle.abi_sound.specs.Places.{Places}
 use Rattle.abi_slots.specs.declared.words.Group.{Group}
 use Rattle.abi_slots.specs.declared.words.GroupName.{GroupName}
 use Rattle.abi_slots.specs.Groups.{GoAlong, IsGroup}
+use Rattle.abi_slots.proofs.Chains.{same_some}
+use Rattle.abi_vtable.specs.declared.view.ViewParts.{ViewParts}
+use Rattle.abi_vtable.specs.invariants.Kept.{IsViewOf}
 use Rattle.abi_tables.specs.Counts.{group_views}
 use Rattle.abi_tables.specs.Tables.{group_name, IsNamed, group_names, names_to, AreGroups}
 use Rattle.abi_tables.specs.invariants.Growing.{GrowsByEach}
@@ -42,3 +46,15 @@ class_more h l n old new along grows = let e : suc n ≡ n + 1 = omega arith in 
 
 pub class_all : (h : Classes) (l : Places) (n : ℕ) (groups : List Group) → n ≡ length h → GoAlong (IsNamed h l) (names_to h n) groups → AreGroups h l groups
 class_all h l n groups e along = subst (λ m. GoAlong (IsNamed h l) (names_to h m) groups) e along
+
+-- a view that is kept
+
+pub same_group_name : (a b : GroupName) → a.complete ≡ b.complete → a.view ≡ b.view → a ≡ b
+same_group_name a b complete view = ap (λ (c : ClassId). group_name c a.view) complete ∙ ap (λ (s : Subobject). group_name b.complete s) view
+
+pub is_view_of : (views : List ViewParts) (n : ℕ) (name : GroupName) (x : ViewParts) → n < length views → slice_get views n ≡ Some x → x.complete.0 ≡ name.complete.0 → same_subobject x.at name.view ≡ true → IsViewOf views n name
+is_view_of views n name x within there complete at = record {
+  within = within;
+  complete = λ y also. let one : x ≡ y = same_some x y (sym there ∙ also) in subst (λ (v : ViewParts). v.complete ≡ name.complete) one (ap (λ (k : ℕ). record { 0 = k }) complete);
+  at = λ y also. let one : x ≡ y = same_some x y (sym there ∙ also) in subst (λ (v : ViewParts). v.at ≡ name.view) one (subobject_same x.at name.view at);
+}

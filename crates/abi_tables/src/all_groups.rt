@@ -36,7 +36,7 @@ pub fn build_tables<L: SoundLayout>(
     check_words(alloc, h, layout, slots)?;
     let mut groups = Sequence::new(alloc);
     for n in 0..h.len() {
-        push_groups(alloc, h, o, layout, slots, ClassId(n), &mut groups)?;
+        push_groups(alloc, h, o, layout, slots, ClassId(n), &[], &mut groups)?;
     }
     Ok(groups)
 }

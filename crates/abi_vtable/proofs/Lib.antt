@@ -1,6 +1,8 @@
 pub mod OneGroup
 pub mod Lists
 pub mod Parts
+pub mod Kept
+pub mod NearBases
 pub mod Marks
 pub mod HeadNumbers
 pub mod Over

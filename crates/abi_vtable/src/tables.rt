@@ -205,6 +205,44 @@ fn tables_of<L: SoundLayout>(
     Ok(tables)
 }
 
+/// The group of a view whose parts are there: the tables of its heads, in their order.
+///
+/// Errors: want of memory.
+pub fn group_of_view<L: SoundLayout>(
+    alloc: Global,
+    h: &Hierarchy,
+    o: &Overriders,
+    layout: &L,
+    slots: &Slots,
+    x: &ViewParts,
+) -> Result<Group, NoMemory>
+    requires layout { L.lays_out layout.now h.now }
+    requires overriders { AreOverriders h.now o.now }
+    requires slots { AreSlots h.now (places_of h.now (L.rows layout.now)) slots.now }
+    requires view { IsViewParts h.now (places_of h.now (L.rows layout.now)) x.now }
+    ensures complete { IfOk result (λ group. group.name.complete ≡ x.now.complete) }
+    ensures view { IfOk result (λ group. group.name.view ≡ x.now.at) }
+    ensures group { IfOk result (IsGroup h.now (places_of h.now (L.rows layout.now))) }
+{
+    h.keeps();
+    let numbers = heads_of(alloc, x)?;
+    let site = TableSite {
+        alloc,
+        h,
+        overriders: o,
+        layout,
+        slots,
+    };
+    let tables = tables_of(&site, x, numbers.as_slice())?;
+    Ok(Group {
+        name: GroupName {
+            complete: x.complete,
+            view: subobject_below(alloc, &x.at, &[])?,
+        },
+        tables,
+    })
+}
+
 /// The group of a view: the tables of its heads, in their order. The view may be the whole object or any dynamic subobject of it.
 ///
 /// Errors: want of memory.
@@ -225,22 +263,7 @@ pub fn group<L: SoundLayout>(
     ensures name { IfOk result (λ group. group.name ≡ name.now) }
     ensures group { IfOk result (IsGroup h.now (places_of h.now (L.rows layout.now))) }
 {
-    h.keeps();
     let x = view_parts(alloc, h, layout, name)?;
-    let numbers = heads_of(alloc, &x)?;
-    let site = TableSite {
-        alloc,
-        h,
-        overriders: o,
-        layout,
-        slots,
-    };
-    let tables = tables_of(&site, &x, numbers.as_slice())?;
-    Ok(Group {
-        name: GroupName {
-            complete: name.complete,
-            view: subobject_below(alloc, &name.view, &[])?,
-        },
-        tables,
-    })
+    let made = group_of_view(alloc, h, o, layout, slots, &x)?;
+    Ok(made)
 }

@@ -1,6 +1,6 @@
 //! The subobjects of a view: where they lie, and the next of each one's chain.
 
-ghost use Rattle.std.specs.Prelude.{◌≡◌, ◌<◌, ◌≤◌, ◌++◌, ◌∷◌, [], ◌&&◌, nat_eq, take, ℕ, List, Option, IfOk, MatchOption, Some, length, slice_get, slice_index_or};
+ghost use Rattle.std.specs.Prelude.{◌≡◌, ◌<◌, ◌≤◌, ◌++◌, ◌∷◌, [], ◌&&◌, nat_eq, take, ℕ, List, Option, IfOk, OnOk, MatchOption, Some, length, slice_get, slice_index_or};
 ghost use Rattle.cxx_hierarchy.specs.Limits.{most_classes};
 ghost use Rattle.cxx_hierarchy.specs.declared.records.ClassId.{ClassId};
 ghost use Rattle.cxx_subobject.specs.declared.Subobject.{Subobject};
@@ -11,11 +11,13 @@ ghost use Rattle.abi_sound.specs.Places.{Places, places_of};
 ghost use Rattle.abi_sound.specs.Chains.{is_subobject_in};
 ghost use Rattle.abi_slots.specs.Views.{IsView, next};
 ghost use Rattle.abi_vtable.specs.invariants.Parts.{NumbersSubobject, AreNexts, IsViewPart, AreParts, AreStarts, IsViewParts, view_of_parts};
+ghost use Rattle.abi_vtable.specs.invariants.Kept.{IsKeptView};
+ghost use Rattle.abi_vtable.specs.invariants.Near.{begins_with_base};
 
 use abi_primary::{Primary, is_dynamic};
 use abi_slots::GroupName;
 use abi_sound::SoundLayout;
-use cxx_hierarchy::{ClassId, Hierarchy};
+use cxx_hierarchy::{Base, ClassId, Hierarchy};
 use cxx_subobject::{
     Subobject, SubobjectList, class_of, is_same, is_same_root, join, list_subobjects, shared_base,
     subobject_below,
@@ -50,6 +52,9 @@ pub struct ViewParts {
     pub parts: PartList,
     pub starts: NumberList,
 }
+
+/// Views that are kept, so that none is made twice.
+pub type ViewList = Sequence<ViewParts>;
 
 /// The number of a subobject in a list, from a number on.
 fn number_from(list: &[Subobject], target: &Subobject, from: usize) -> Option<usize>
@@ -149,6 +154,16 @@ fn number_below(list: &[Subobject], s: &Subobject, b: ClassId, near: usize) -> O
     }
 }
 
+/// Whether the first of these bases is of a class and not virtual.
+fn begins_with_base(bases: &[Base<ClassId>], b: ClassId) -> bool
+    ensures { result ≡ begins_with_base bases.now b }
+{
+    match bases {
+        [] => false,
+        [base, ..] => !base.is_virtual && base.class.0 == b.0,
+    }
+}
+
 /// The class of a subobject.
 fn class_at(s: &Subobject) -> ClassId
     requires { (d : ClassId) × (class_of s.now ≡ Some d) }
@@ -179,7 +194,7 @@ fn is_holder<L: SoundLayout>(
 }
 
 /// The number of the next of the chain of a subobject, which stands at a number of the list. A direct primary base stands behind
-/// it, and most often next to it.
+/// it, and next to it where it is the first base of the class.
 ///
 /// Errors: want of memory.
 fn next_of<L: SoundLayout>(
@@ -195,6 +210,8 @@ fn next_of<L: SoundLayout>(
     requires view { IsView h.now (view_of_parts x.now) }
     requires list { list.now ≡ preorder h.now x.now.class }
     requires valid { IsSubobject h.now x.now.class s.now }
+    requires there { slice_get list.now number ≡ Some s.now }
+    requires within { number < length list.now }
     ensures { IfOk result (λ n. NumbersSubobject list.now n (next (places_of h.now (L.rows layout.now)) (view_of_parts x.now) s.now)) }
 {
     h.keeps();
@@ -202,8 +219,10 @@ fn next_of<L: SoundLayout>(
     match layout.layout(class).primary {
         Primary::None => Ok(None),
         Primary::Direct(b) => {
-            // A first base stands next to the subobject.
-            Ok(number_below(list, s, b, number.saturating_add(1)))
+            if begins_with_base(h.class(class).bases.as_slice(), b) {
+                return Ok(Some(number + 1));
+            }
+            Ok(number_below(list, s, b, number))
         }
         Primary::Virtual(v) => {
             let seen = join(alloc, h, x.complete, &x.at, s)?;
@@ -348,4 +367,35 @@ pub fn view_parts<L: SoundLayout>(
     x.parts = parts_of(alloc, h, layout, &x, list)?;
     x.starts = starts_of(alloc, class, x.parts.as_slice())?;
     Ok(x)
+}
+
+/// The view of a number.
+pub fn view_at(views: &[ViewParts], number: usize) -> &ViewParts
+    requires { number < length views.now }
+    ensures { slice_get views.now number ≡ Some result.now }
+{
+    &views[number]
+}
+
+/// Makes the view of a group, and puts it behind others. It has the number that is told.
+///
+/// Errors: want of memory.
+pub fn keep_view<L: SoundLayout>(
+    alloc: Global,
+    h: &Hierarchy,
+    layout: &L,
+    name: &GroupName,
+    views: &mut ViewList,
+) -> Result<usize, NoMemory>
+    requires layout { L.lays_out layout.now h.now }
+    requires complete { name.now.complete.0 < length h.now }
+    requires view { IsSubobject h.now name.now.complete name.now.view }
+    requires dynamic { (d : ClassId) → class_of name.now.view ≡ Some d → IsDynamic h.now d }
+    ensures number { IfOk result (λ n. n ≡ length views.old) }
+    ensures kept { OnOk result (IsKeptView h.now (places_of h.now (L.rows layout.now)) name.now views.old views.new) }
+{
+    let x = view_parts(alloc, h, layout, name)?;
+    let number = views.len();
+    views.push(x)?;
+    Ok(number)
 }

@@ -25,4 +25,4 @@ pub mod vtt_list;
 
 pub use crate::laws::{each_found, first_run, sub_vtts, vtt_in_image};
 pub use crate::view_list::views;
-pub use crate::vtt_list::vtt;
+pub use crate::vtt_list::{vtt, vtt_with_views};

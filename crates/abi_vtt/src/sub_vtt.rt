@@ -9,6 +9,7 @@ ghost use Rattle.cxx_subobject.specs.Subobjects.{IsSubobject, class_of};
 ghost use Rattle.cxx_subobject.specs.Preorder.{preorder};
 ghost use Rattle.abi_sound.specs.Places.{Places, places_of};
 ghost use Rattle.abi_vtable.specs.invariants.Parts.{IsViewParts, view_of_parts};
+ghost use Rattle.abi_vtable.specs.invariants.Kept.{GrowsByViews};
 ghost use Rattle.abi_vtt.specs.Vtts.{item, words_of_bases, sub_items};
 ghost use Rattle.abi_vtt.specs.invariants.Marks.{AreVirtualMarks};
 ghost use Rattle.abi_vtt.specs.invariants.Served.{HasNote, AreServing};
@@ -19,7 +20,7 @@ use crate::served::tables_of;
 use crate::view_list::is_built;
 use abi_slots::{GroupName, VttList, VttWord};
 use abi_sound::SoundLayout;
-use abi_vtable::view::{ViewParts, view_parts};
+use abi_vtable::view::{ViewList, ViewParts, keep_view, view_at};
 use cxx_hierarchy::{ClassId, Hierarchy};
 use cxx_subobject::{Subobject, subobject_below};
 use foundation::NoMemory;
@@ -92,7 +93,7 @@ fn push_base_words<L: SoundLayout>(
 }
 
 /// Puts the words of the sub-VTT of a view of class `d` behind others: for its own table, the sub-VTTs of its bases, and the
-/// words for its base subobjects.
+/// words for its base subobjects. The views are put behind others likewise, so that the groups are filled from them.
 ///
 /// Errors: want of memory.
 pub(crate) fn push_sub_vtt<L: SoundLayout>(
@@ -102,6 +103,7 @@ pub(crate) fn push_sub_vtt<L: SoundLayout>(
     marks: &[bool],
     name: &GroupName,
     d: ClassId,
+    views: &mut ViewList,
     words: &mut VttList,
 ) -> Result<(), NoMemory>
     requires layout { L.lays_out layout.now h.now }
@@ -110,21 +112,24 @@ pub(crate) fn push_sub_vtt<L: SoundLayout>(
     requires view { IsSubobject h.now name.now.complete name.now.view }
     requires class { class_of name.now.view ≡ Some d }
     requires has_base { (v : ClassId) × HasVirtualBase h.now d v }
-    ensures { OnOk result ((n : ℕ) → d.0 < n → GrowsByVttWords h.now (places_of h.now (L.rows layout.now)) name.now.complete (sub_items h.now (places_of h.now (L.rows layout.now)) n name.now.view d) words.old words.new) }
+    ensures words { OnOk result ((n : ℕ) → d.0 < n → GrowsByVttWords h.now (places_of h.now (L.rows layout.now)) name.now.complete (sub_items h.now (places_of h.now (L.rows layout.now)) n name.now.view d) words.old words.new) }
+    ensures views { OnOk result (GrowsByViews h.now (places_of h.now (L.rows layout.now)) views.old views.new) }
 {
     h.keeps();
-    let x = view_parts(alloc, h, layout, name)?;
-    let tables = tables_of(alloc, h, layout, &x)?;
-    push_word(alloc, &x, &tables, 0, words)?;
+    let number = keep_view(alloc, h, layout, name, views)?;
+    let x = view_at(views.as_slice(), number);
+    let tables = tables_of(alloc, h, layout, x)?;
+    push_word(alloc, x, &tables, 0, words)?;
     for base in h.class(d).bases.as_slice() {
         if is_built(marks, base) {
             let inner = GroupName {
                 complete: name.complete,
                 view: subobject_below(alloc, &name.view, &[base.class])?,
             };
-            push_sub_vtt(alloc, h, layout, marks, &inner, base.class, words)?;
+            push_sub_vtt(alloc, h, layout, marks, &inner, base.class, views, words)?;
         }
     }
-    push_base_words(alloc, h, layout, marks, &x, &tables, words)?;
+    let itself = view_at(views.as_slice(), number);
+    push_base_words(alloc, h, layout, marks, itself, &tables, words)?;
     Ok(())
 }

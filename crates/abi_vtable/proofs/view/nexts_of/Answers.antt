@@ -1,4 +1,5 @@
-use Rattle.std.proofs.Common.{arith}
+use Rattle.std.proofs.Common.{◌≡◌, length, ap, ◌∙◌, arith, rules}
+use Rattle.std.specs.Prelude.{slice_get}
 use Rattle.foundation.proofs.Places.{get_read}
 use Rattle.abi_sound.specs.Places.{places_of}
 use Rattle.abi_vtable.specs.invariants.Parts.{view_of_parts}
@@ -16,3 +17,16 @@ loop-s-preserved g c = next_more (places_of c.args.h.now (g.L.SoundLayout.rows c
 
 pub returns : goal.returns
 returns g c = nexts_all (places_of c.args.h.now (g.L.SoundLayout.rows c.args.layout.now)) (view_of_parts c.args.x.now) c.args.list.now c.loop-s.s-index c.loop-s.nexts.items (let e = c.loop-s-test.false in omega arith) c.loop-s.invariant
+
+pub next_of-requires-clause-there : goal.next_of-requires-clause-there
+next_of-requires-clause-there g c =
+    let size : c.len.result ≡ length c.loop-s.nexts.items = search rules in
+    let count : c.len.result ≡ c.loop-s.s-index = size ∙ c.loop-s.invariant.size in
+    ap (slice_get c.args.list.now) count ∙ get_read c.args.list.now c.loop-s.s-index c.s-item.result c.loop-s-test.true c.s-item.is
+
+pub next_of-requires-clause-within : goal.next_of-requires-clause-within
+next_of-requires-clause-within g c =
+    let size : c.len.result ≡ length c.loop-s.nexts.items = search rules in
+    let count : c.len.result ≡ c.loop-s.s-index = size ∙ c.loop-s.invariant.size in
+    let small = c.loop-s-test.true in
+    omega arith
