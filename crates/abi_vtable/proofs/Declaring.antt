@@ -30,7 +30,7 @@ use Rattle.abi_slots.proofs.Listings.{entries_is}
 use Rattle.abi_slots.proofs.Lists.{Item, item_cases, item_any, from_filter, from_flat, from_map, found_passes, none_found}
 use Rattle.abi_slots.proofs.Names.{key_is}
 use Rattle.abi_slots.proofs.Owns.{own_class}
-use Rattle.abi_vtable.specs.declared.view.Part.{Part}
+use Rattle.abi_vtable.specs.declared.view.ViewPart.{ViewPart}
 use Rattle.abi_vtable.specs.declared.words.Declarer.{Declarer}
 use Rattle.abi_vtable.specs.invariants.Parts.{NumbersSubobject, nothing, number}
 use Rattle.abi_vtable.specs.invariants.Words.{AreAlong, IsDeclaredBy, at_part}
@@ -228,7 +228,7 @@ declared_none h l x k n u d o are of_u is none = ⊎_elim
     (λ e. e.1)
     (are.each 0 u d refl of_u)
 
-pub declared_here : (h : Classes) (l : Places) (x : View) (parts : List Part) (k : EntryKey) (o : Option Subobject) (u : Subobject) (i : ℕ) (part : Part) (f : FunctionId) → o ≡ Some u → slice_get parts i ≡ Some part → part.at ≡ u → IsDeclared h l k u part.class f → IsDeclaredBy h l x parts k o (Some (record { part = i; function = f }))
+pub declared_here : (h : Classes) (l : Places) (x : View) (parts : List ViewPart) (k : EntryKey) (o : Option Subobject) (u : Subobject) (i : ℕ) (part : ViewPart) (f : FunctionId) → o ≡ Some u → slice_get parts i ≡ Some part → part.at ≡ u → IsDeclared h l k u part.class f → IsDeclaredBy h l x parts k o (Some (record { part = i; function = f }))
 declared_here h l x parts k o u i part f e there same is =
     let found : Declarer = record { part = i; function = f } in
     let at : IsDeclaredBy h l x parts k (Some part.at) (Some found) = at_part found part there is.class (contains_item (own h part.class) f is.item) is.named in

@@ -28,7 +28,7 @@ use Rattle.abi_slots.proofs.Chains.{same_some}
 use Rattle.abi_slots.proofs.Lists.{Item}
 use Rattle.abi_slots.proofs.Owns.{own_virtual}
 use Rattle.abi_slots.proofs.Settings.{setting_of}
-use Rattle.abi_vtable.specs.declared.view.Part.{Part}
+use Rattle.abi_vtable.specs.declared.view.ViewPart.{ViewPart}
 use Rattle.abi_vtable.specs.declared.view.ViewParts.{ViewParts}
 use Rattle.abi_vtable.specs.declared.words.Declarer.{Declarer}
 use Rattle.abi_vtable.specs.invariants.Parts.{NumbersSubobject, number, IsViewPart, at_of, IsViewParts, view_of_parts}
@@ -47,25 +47,25 @@ start_number h l v view n lt =
     subst (λ o. NumbersSubobject (preorder h v.class) (Some n) o) (sym r.1) (number n r.0 r.1)
 
 -- what declares an entry
-pub record IsFound (h : Classes) (parts : List Part) (k : EntryKey) (o : Option Subobject) (found : Declarer) : Type 0 where
-  pub part : Part
+pub record IsFound (h : Classes) (parts : List ViewPart) (k : EntryKey) (o : Option Subobject) (found : Declarer) : Type 0 where
+  pub part : ViewPart
   pub there : slice_get parts found.part ≡ Some part
   pub is : o ≡ Some part.at
   pub class : found.function.class ≡ part.class
   pub item : Item (own h part.class) found.function
   pub named : same_name h found.function k.function ≡ true
 
-pub found_of : (h : Classes) (l : Places) (x : View) (parts : List Part) (k : EntryKey) (o : Option Subobject) (r : Option Declarer) (found : Declarer) → r ≡ Some found → IsDeclaredBy h l x parts k o r → IsFound h parts k o found
+pub found_of : (h : Classes) (l : Places) (x : View) (parts : List ViewPart) (k : EntryKey) (o : Option Subobject) (r : Option Declarer) (found : Declarer) → r ≡ Some found → IsDeclaredBy h l x parts k o r → IsFound h parts k o found
 found_of h l x parts k _ _ found e nowhere = cc
 found_of h l x parts k _ _ found e (at_part f part there class own_f named) =
     subst (λ a. IsFound h parts k (Some part.at) a) (same_some f found e) (record { part = part; there = there; is = refl; class = class; item = item_contains (own h part.class) f.function own_f; named = named })
 
-pub none_of : (h : Classes) (l : Places) (x : View) (parts : List Part) (k : EntryKey) (o : Option Subobject) (r : Option Declarer) → r ≡ None → IsDeclaredBy h l x parts k o r → o ≡ None
+pub none_of : (h : Classes) (l : Places) (x : View) (parts : List ViewPart) (k : EntryKey) (o : Option Subobject) (r : Option Declarer) → r ≡ None → IsDeclaredBy h l x parts k o r → o ≡ None
 none_of h l x parts k _ _ e nowhere = refl
 none_of h l x parts k _ _ e (at_part f part there class own_f named) = cc
 
-pub found_within : (h : Classes) (parts items : List Part) (k : EntryKey) (o : Option Subobject) (found : Declarer) → items ≡ parts → IsFound h parts k o found → found.part < length items
-found_within h parts items k o found same is = subst (λ (xs : List Part). found.part < length xs) (sym same) (slice_get_within parts found.part is.part is.there)
+pub found_within : (h : Classes) (parts items : List ViewPart) (k : EntryKey) (o : Option Subobject) (found : Declarer) → items ≡ parts → IsFound h parts k o found → found.part < length items
+found_within h parts items k o found same is = subst (λ (xs : List ViewPart). found.part < length xs) (sym same) (slice_get_within parts found.part is.part is.there)
 
 -- what a search from a number on tells of the one that it found
 pub found_from : (h : Classes) (l : Places) (v : ViewParts) → IsViewParts h l v → (k : EntryKey) (n : ℕ) → n < length v.parts → (r : Option Declarer) (found : Declarer) → r ≡ Some found →
@@ -73,7 +73,7 @@ pub found_from : (h : Classes) (l : Places) (v : ViewParts) → IsViewParts h l 
 found_from h l v view k n within r found is told = found_of h l (view_of_parts v) v.parts k (first_from h l v k n) r found is (told (start_number h l v view n within))
 
 -- the part that declares the entry, and its function
-pub record Declares (h : Classes) (l : Places) (v : ViewParts) (k : EntryKey) (o : Option Subobject) (part : Part) (f : FunctionId) : Type 0 where
+pub record Declares (h : Classes) (l : Places) (v : ViewParts) (k : EntryKey) (o : Option Subobject) (part : ViewPart) (f : FunctionId) : Type 0 where
   pub of : IsViewPart h l (view_of_parts v) (preorder h v.class) part
   pub is : o ≡ Some part.at
   pub class : class_of part.at ≡ Some f.class
@@ -81,7 +81,7 @@ pub record Declares (h : Classes) (l : Places) (v : ViewParts) (k : EntryKey) (o
   pub named : same_name h f k.function ≡ true
   pub vcall : HasVcall h l k.function part.at.root
 
-pub declares : (h : Classes) (rows : List ClassLayout) → IsHierarchy h → IsSoundLayout h rows → (v : ViewParts) → IsViewParts h (places_of h rows) v → (items : List Part) (k : EntryKey) (o : Option Subobject) (found : Declarer) (part : Part) →
+pub declares : (h : Classes) (rows : List ClassLayout) → IsHierarchy h → IsSoundLayout h rows → (v : ViewParts) → IsViewParts h (places_of h rows) v → (items : List ViewPart) (k : EntryKey) (o : Option Subobject) (found : Declarer) (part : ViewPart) →
     items ≡ v.parts → part ≡ get_or items found.part part → IsFound h v.parts k o found → Declares h (places_of h rows) v k o part found.function
 declares h rows keeps sound v view items k o found part same is f =
     let l = places_of h rows in
@@ -102,7 +102,7 @@ declares h rows keeps sound v view items k o found part same is f =
 
 -- the same of the part that is read for the one that a search from a number on found
 pub declared_from : (h : Classes) (rows : List ClassLayout) → IsHierarchy h → IsSoundLayout h rows → (v : ViewParts) → IsViewParts h (places_of h rows) v → (k : EntryKey) (n : ℕ) → n < length v.parts → (r : Option Declarer) (found : Declarer) → r ≡ Some found →
-    (NumbersSubobject (preorder h v.class) (Some n) (slice_get (preorder h v.class) n) → IsDeclaredBy h (places_of h rows) (view_of_parts v) v.parts k (first_from h (places_of h rows) v k n) r) → (items : List Part) (part : Part) → items ≡ v.parts → part ≡ get_or items found.part part →
+    (NumbersSubobject (preorder h v.class) (Some n) (slice_get (preorder h v.class) n) → IsDeclaredBy h (places_of h rows) (view_of_parts v) v.parts k (first_from h (places_of h rows) v k n) r) → (items : List ViewPart) (part : ViewPart) → items ≡ v.parts → part ≡ get_or items found.part part →
     Declares h (places_of h rows) v k (first_from h (places_of h rows) v k n) part found.function
 declared_from h rows keeps sound v view k n within r found is told items part same read =
     let l = places_of h rows in
@@ -121,14 +121,14 @@ from_part h l v k n t r at e = ap (first_in (declares_at h l k) (next l (view_of
 pub unused_word : (h : Classes) (l : Places) (v : ViewParts) (k : EntryKey) (n : ℕ) (t : Subobject) → slice_get (preorder h v.class) n ≡ Some t → first_from h l v k n ≡ None → IsEntryWord h l (view_of_parts v) t k Unused
 unused_word h l v k n t at e = nothing (from_part h l v k n t None at e)
 
-pub pure_word : (h : Classes) (l : Places) (v : ViewParts) (k : EntryKey) (n : ℕ) (t at_sub : Subobject) (part : Part) (f g : FunctionId) → slice_get (preorder h v.class) n ≡ Some t →
+pub pure_word : (h : Classes) (l : Places) (v : ViewParts) (k : EntryKey) (n : ℕ) (t at_sub : Subobject) (part : ViewPart) (f g : FunctionId) → slice_get (preorder h v.class) n ≡ Some t →
     Declares h l v k (first_from h l v k n) part f → IsFinalOverrider h v.class part.at f (overrider at_sub g) → is_pure h g ≡ true → IsEntryWord h l (view_of_parts v) t k (Pure g)
 pure_word h l v k n t at_sub part f g at d final pure =
     let x = view_of_parts v in
     run_word h l x t k part.at (overrider at_sub g) (Pure g) (from_part h l v k n t (Some part.at) at d.is) (other_name h v.class part.at f k.function (overrider at_sub g) d.named final)
     (sym (ap (λ b. if b then Pure g else Code g k.kind (this_adjust l x.complete (seen x part.at) (seen x at_sub) (vcall_for h l k.function part.at at_sub)) (return_for h l g k.function)) pure))
 
-pub code_runs : (h : Classes) → IsHierarchy h → (l : Places) (v : ViewParts) (k : EntryKey) (n : ℕ) (t at_sub : Subobject) (part to : Part) (f g : FunctionId) (w : EntryWord) → slice_get (preorder h v.class) n ≡ Some t →
+pub code_runs : (h : Classes) → IsHierarchy h → (l : Places) (v : ViewParts) (k : EntryKey) (n : ℕ) (t at_sub : Subobject) (part to : ViewPart) (f g : FunctionId) (w : EntryWord) → slice_get (preorder h v.class) n ≡ Some t →
     Declares h l v k (first_from h l v k n) part f → IsFinalOverrider h v.class part.at f (overrider at_sub g) →
     IsViewPart h l (view_of_parts v) (preorder h v.class) to → to.class ≡ g.class → IsInside h to.at part.at → w ≡ code_word h l (view_of_parts v) k part.at (overrider to.at g) → IsEntryWord h l (view_of_parts v) t k w
 code_runs h keeps l v k n t at_sub part to f g w at d final of class inside is =

@@ -32,7 +32,7 @@ use Rattle.abi_slots.proofs.Chains.{Setting, same_some, known}
 use Rattle.abi_slots.proofs.Lists.{Item, any_item}
 use Rattle.abi_slots.proofs.Names.{name_is, name_back}
 use Rattle.abi_vtable.specs.declared.returns.KnownReturn.{KnownReturn}
-use Rattle.abi_vtable.specs.declared.view.Part.{Part}
+use Rattle.abi_vtable.specs.declared.view.ViewPart.{ViewPart}
 use Rattle.abi_vtable.specs.declared.view.ViewParts.{ViewParts}
 use Rattle.abi_vtable.specs.invariants.Parts.{IsViewPart, at_of, AreParts, AreStarts, IsViewParts, IsSomeView}
 use Rattle.abi_vtable.specs.invariants.Returns.{AreKnown}
@@ -48,12 +48,12 @@ pub some_view : (h : Classes) (l : Places) (v : ViewParts) → IsViewParts h l v
 some_view h l v view = record { places = l; view = view }
 
 -- the part at a number of the preorder
-pub part_listed : (h : Classes) (l : Places) (x : View) (parts : List Part) → AreParts h l x parts → (n : ℕ) (s : Subobject) → slice_get (preorder h x.class) n ≡ Some s → (part : Part) × (slice_get parts n ≡ Some part) × (part.at ≡ s)
+pub part_listed : (h : Classes) (l : Places) (x : View) (parts : List ViewPart) → AreParts h l x parts → (n : ℕ) (s : Subobject) → slice_get (preorder h x.class) n ≡ Some s → (part : ViewPart) × (slice_get parts n ≡ Some part) × (part.at ≡ s)
 part_listed h l x parts are n s e = get_mapped at_of parts n s (ap (λ xs. slice_get xs n) are.subobjects ∙ e)
 
 -- no part so far
 
-pub none_over : (h : Classes) (starts : List ℕ) (items parts : List Part) (s : Subobject) (d : ClassId) (n : ℕ) → items ≡ parts → AreStarts starts parts → n ≡ get_or starts d.0 0 → AreNotOver h items s d n
+pub none_over : (h : Classes) (starts : List ℕ) (items parts : List ViewPart) (s : Subobject) (d : ClassId) (n : ℕ) → items ≡ parts → AreStarts starts parts → n ≡ get_or starts d.0 0 → AreNotOver h items s d n
 none_over h starts items parts s d n same are is = record {
   each = λ k part lt there class inside.
       let low = are.each k part (ap (λ xs. slice_get xs k) (sym same) ∙ there) in
@@ -61,14 +61,14 @@ none_over h starts items parts s d n same are is = record {
       omega arith;
 }
 
-pub one_not_over : (h : Classes) (parts : List Part) (s : Subobject) (d : ClassId) (i : ℕ) (part : Part) → i < length parts → part ≡ get_or parts i part → (part.class ≡ d → IsInside h part.at s → ⊥) → AreNotOver h parts s d i → AreNotOver h parts s d (i + 1)
+pub one_not_over : (h : Classes) (parts : List ViewPart) (s : Subobject) (d : ClassId) (i : ℕ) (part : ViewPart) → i < length parts → part ≡ get_or parts i part → (part.class ≡ d → IsInside h part.at s → ⊥) → AreNotOver h parts s d i → AreNotOver h parts s d (i + 1)
 one_not_over h parts s d i part lt is none so = record {
   each = λ k q less. below_more (λ k. slice_get parts k ≡ Some q → q.class ≡ d → IsInside h q.at s → ⊥) i (λ j small. so.each j q small)
-      (λ there. let same : part ≡ q = same_some part q (sym (get_read parts i part lt is) ∙ there) in subst (λ (a : Part). a.class ≡ d → IsInside h a.at s → ⊥) same none) k less;
+      (λ there. let same : part ≡ q = same_some part q (sym (get_read parts i part lt is) ∙ there) in subst (λ (a : ViewPart). a.class ≡ d → IsInside h a.at s → ⊥) same none) k less;
 }
 
 -- each class has such a part where it has such a subobject
-pub some_over : (h : Classes) → IsHierarchy h → (l : Places) (x : View) (items parts : List Part) → items ≡ parts → AreParts h l x parts → (s : Subobject) (d : ClassId) (i : ℕ) → length items ≤ i → AreNotOver h items s d i → LiesInClass h x.class s d → ⊥
+pub some_over : (h : Classes) → IsHierarchy h → (l : Places) (x : View) (items parts : List ViewPart) → items ≡ parts → AreParts h l x parts → (s : Subobject) (d : ClassId) (i : ℕ) → length items ≤ i → AreNotOver h items s d i → LiesInClass h x.class s d → ⊥
 some_over h keeps l x items parts same are s d i le so over =
     let at = listed_place h keeps x.class over.holder over.valid in
     let p = part_listed h l x parts are at.0 over.holder at.1 in
@@ -82,13 +82,13 @@ pub final_over : (h : Classes) (c : ClassId) (s : Subobject) (f : FunctionId) (o
 final_over h c s f o final = record { holder = o.at; valid = final.left.candidate.valid; class = final.left.candidate.class; inside = final.left.candidate.contains }
 
 -- the part is the overrider's subobject
-pub same_part : (h : Classes) → IsHierarchy h → (l : Places) (x : View) (list : List Subobject) (s at : Subobject) (f g : FunctionId) (part : Part) → IsFinalOverrider h x.class s f (overrider at g) → IsViewPart h l x list part → part.class ≡ g.class → IsInside h part.at s → part.at ≡ at
+pub same_part : (h : Classes) → IsHierarchy h → (l : Places) (x : View) (list : List Subobject) (s at : Subobject) (f g : FunctionId) (part : ViewPart) → IsFinalOverrider h x.class s f (overrider at g) → IsViewPart h l x list part → part.class ≡ g.class → IsInside h part.at s → part.at ≡ at
 same_part h keeps l x list s at f g part final is class inside = one_of_class h keeps x.class s part.at f (overrider at g) final is.valid (is.class ∙ ap (λ a. Some a) class) inside
 
 pub base_word : (h : Classes) (l : Places) (x : View) (t : Subobject) (v : ClassId) (o : Offset) (d : ℤ) → o ≡ ToBase v → d ≡ between l x.complete (seen x t) (seen x (shared_base v)) → IsOffsetWord h l x t o (Vbase d v)
 base_word h l x t v o d is e = subst (λ a. IsOffsetWord h l x t a (Vbase d v)) (sym is) (subst (λ a. IsOffsetWord h l x t (ToBase v) (Vbase a v)) (sym e) (to_base v))
 
-pub call_word : (h : Classes) → IsHierarchy h → (l : Places) (x : View) (list : List Subobject) (t s at : Subobject) (path : List ClassId) (f g : FunctionId) (part : Part) (o : Offset) (start end : ℕ) (d : ℤ) → o ≡ ToOverrider path f → s ≡ named_in x.class path → IsFinalOverrider h x.class s f (overrider at g) →
+pub call_word : (h : Classes) → IsHierarchy h → (l : Places) (x : View) (list : List Subobject) (t s at : Subobject) (path : List ClassId) (f g : FunctionId) (part : ViewPart) (o : Offset) (start end : ℕ) (d : ℤ) → o ≡ ToOverrider path f → s ≡ named_in x.class path → IsFinalOverrider h x.class s f (overrider at g) →
     IsViewPart h l x list part → part.class ≡ g.class → IsInside h part.at s → start ≡ place l x t → end ≡ place l x part.at → d ≡ pos end -ℤ pos start → IsOffsetWord h l x t o (Vcall d f)
 call_word h keeps l x list t s at path f g part o start end d is named final of class inside from to e =
     let same = same_part h keeps l x list s at f g part final of class inside in

@@ -20,7 +20,7 @@ use Rattle.abi_sound.specs.Chains.{is_subobject_in}
 use Rattle.abi_slots.specs.Views.{View, IsView, seen, next_by, next_in, next}
 use Rattle.abi_slots.proofs.Chains.{same_some, next_under}
 use Rattle.abi_slots.proofs.Settings.{setting_of}
-use Rattle.abi_vtable.specs.declared.view.Part.{Part}
+use Rattle.abi_vtable.specs.declared.view.ViewPart.{ViewPart}
 use Rattle.abi_vtable.specs.invariants.Parts.{NumbersSubobject, nothing, number, AreNexts, AreNextsTo, IsViewPart, at_of, AreParts, ArePartsTo, AreStarts, AreStartsTo}
 use Rattle.abi_vtable.proofs.Lists.{map_more}
 
@@ -93,16 +93,16 @@ no_nexts l x list nexts e = subst (λ a. AreNextsTo l x list 0 a) (sym e) (recor
 pub taken_next : (list taken rest : List Subobject) (s : Subobject) → taken ++ s ∷ rest ≡ list → slice_get list (length taken) ≡ Some s
 taken_next list taken rest s e = ap (λ xs. slice_get xs (length taken)) (sym e) ∙ get_behind taken s rest
 
-pub parts_count : (h : Classes) (l : Places) (x : View) (list taken : List Subobject) (parts : List Part) → ArePartsTo h l x list taken parts → length parts ≡ length taken
+pub parts_count : (h : Classes) (l : Places) (x : View) (list taken : List Subobject) (parts : List ViewPart) → ArePartsTo h l x list taken parts → length parts ≡ length taken
 parts_count h l x list taken parts so = sym (length-map parts at_of) ∙ ap length so.subobjects
 
 -- the number of the next of that one is known
-pub next_known : (h : Classes) (l : Places) (x : View) (list taken rest : List Subobject) (s : Subobject) (parts : List Part) (nexts : List (Option ℕ)) (n : Option ℕ) (k : ℕ) → taken ++ s ∷ rest ≡ list → ArePartsTo h l x list taken parts → k ≡ length parts → AreNexts l x list nexts → slice_get nexts k ≡ Some n → NumbersSubobject list n (next l x s)
+pub next_known : (h : Classes) (l : Places) (x : View) (list taken rest : List Subobject) (s : Subobject) (parts : List ViewPart) (nexts : List (Option ℕ)) (n : Option ℕ) (k : ℕ) → taken ++ s ∷ rest ≡ list → ArePartsTo h l x list taken parts → k ≡ length parts → AreNexts l x list nexts → slice_get nexts k ≡ Some n → NumbersSubobject list n (next l x s)
 next_known h l x list taken rest s parts nexts n k e so count are there =
     let same : k ≡ length taken = count ∙ parts_count h l x list taken parts so in
     are.each k s n (ap (slice_get list) same ∙ taken_next list taken rest s e) there
 
-pub next_there : (h : Classes) (l : Places) (x : View) (list taken rest : List Subobject) (s : Subobject) (parts : List Part) (nexts : List (Option ℕ)) (k : ℕ) → taken ++ s ∷ rest ≡ list → ArePartsTo h l x list taken parts → k ≡ length parts → AreNexts l x list nexts → k < length nexts
+pub next_there : (h : Classes) (l : Places) (x : View) (list taken rest : List Subobject) (s : Subobject) (parts : List ViewPart) (nexts : List (Option ℕ)) (k : ℕ) → taken ++ s ∷ rest ≡ list → ArePartsTo h l x list taken parts → k ≡ length parts → AreNexts l x list nexts → k < length nexts
 next_there h l x list taken rest s parts nexts k e so count are =
     let same : k ≡ length taken = count ∙ parts_count h l x list taken parts so in
     let lt = slice_get_within list (length taken) s (taken_next list taken rest s e) in
@@ -114,24 +114,24 @@ nothing_left [] e = refl
 nothing_left (x ∷ xs) e = absurd (omega arith)
 
 -- one part more
-pub part_more : (h : Classes) (l : Places) (x : View) (list taken : List Subobject) (s : Subobject) (parts new : List Part) (part : Part) → part.at ≡ s → IsViewPart h l x list part → new ≡ parts ++ part ∷ [] → ArePartsTo h l x list taken parts → ArePartsTo h l x list (taken ++ s ∷ []) new
+pub part_more : (h : Classes) (l : Places) (x : View) (list taken : List Subobject) (s : Subobject) (parts new : List ViewPart) (part : ViewPart) → part.at ≡ s → IsViewPart h l x list part → new ≡ parts ++ part ∷ [] → ArePartsTo h l x list taken parts → ArePartsTo h l x list (taken ++ s ∷ []) new
 part_more h l x list taken s parts new part at of e so = record {
   subobjects = ap (map at_of) e ∙ map_more at_of parts part ∙ ap (λ a. map at_of parts ++ a ∷ []) at ∙ ap (λ xs. xs ++ s ∷ []) so.subobjects;
   each = λ j q there. ⊎_elim (λ old. so.each j q old) (λ last. subst (λ a. IsViewPart h l x list a) (sym last.1) of) (get_pushed parts part j q (ap (λ xs. slice_get xs j) (sym e) ∙ there));
 }
 
-pub no_parts : (h : Classes) (l : Places) (x : View) (list : List Subobject) (parts : List Part) → parts ≡ [] → ArePartsTo h l x list [] parts
+pub no_parts : (h : Classes) (l : Places) (x : View) (list : List Subobject) (parts : List ViewPart) → parts ≡ [] → ArePartsTo h l x list [] parts
 no_parts h l x list parts e = subst (λ a. ArePartsTo h l x list [] a) (sym e) (record { subobjects = refl; each = λ j q at. absurd (let lt = slice_get_within [] j q at in omega arith) })
 
-pub parts_all : (h : Classes) (l : Places) (x : View) (taken : List Subobject) (parts : List Part) → taken ≡ preorder h x.class → ArePartsTo h l x (preorder h x.class) taken parts → AreParts h l x parts
+pub parts_all : (h : Classes) (l : Places) (x : View) (taken : List Subobject) (parts : List ViewPart) → taken ≡ preorder h x.class → ArePartsTo h l x (preorder h x.class) taken parts → AreParts h l x parts
 parts_all h l x taken parts is so = record { subobjects = so.subobjects ∙ is; each = so.each }
 
 -- one part more is noted
-pub start_more : (starts new : List ℕ) (parts : List Part) (i : ℕ) (part : Part) → i < length parts → part ≡ get_or parts i part → ((d k : ℕ) → get_or starts d 0 ≤ k → get_or new d 0 ≤ k) → get_or new part.class.0 0 ≤ i → AreStartsTo starts parts i → AreStartsTo new parts (i + 1)
+pub start_more : (starts new : List ℕ) (parts : List ViewPart) (i : ℕ) (part : ViewPart) → i < length parts → part ≡ get_or parts i part → ((d k : ℕ) → get_or starts d 0 ≤ k → get_or new d 0 ≤ k) → get_or new part.class.0 0 ≤ i → AreStartsTo starts parts i → AreStartsTo new parts (i + 1)
 start_more starts new parts i part lt is kept noted so = record {
   each = λ k q less there. below_more (λ k. slice_get parts k ≡ Some q → get_or new q.class.0 0 ≤ k) i (λ j small at. kept q.class.0 j (so.each j q small at))
-      (λ at. let same : part ≡ q = same_some part q (sym (get_read parts i part lt is) ∙ at) in subst (λ (a : Part). get_or new a.class.0 0 ≤ i) same noted) k less there;
+      (λ at. let same : part ≡ q = same_some part q (sym (get_read parts i part lt is) ∙ at) in subst (λ (a : ViewPart). get_or new a.class.0 0 ≤ i) same noted) k less there;
 }
 
-pub starts_all : (starts : List ℕ) (parts : List Part) (i : ℕ) → length parts ≤ i → AreStartsTo starts parts i → AreStarts starts parts
+pub starts_all : (starts : List ℕ) (parts : List ViewPart) (i : ℕ) → length parts ≤ i → AreStartsTo starts parts i → AreStarts starts parts
 starts_all starts parts i le so = record { each = λ k part there. let lt = slice_get_within parts k part there in so.each k part (omega arith) there }

@@ -16,7 +16,7 @@ use Rattle.abi_slots.specs.Listing.{entries}
 use Rattle.abi_slots.specs.Slots.{declared_at}
 use Rattle.abi_slots.specs.Views.{next, first_in}
 use Rattle.abi_slots.specs.Groups.{declares_at}
-use Rattle.abi_vtable.specs.declared.view.Part.{Part}
+use Rattle.abi_vtable.specs.declared.view.ViewPart.{ViewPart}
 use Rattle.abi_vtable.specs.declared.view.ViewParts.{ViewParts}
 use Rattle.abi_vtable.specs.declared.words.Declarer.{Declarer}
 use Rattle.abi_vtable.specs.invariants.Parts.{NumbersSubobject, nothing, number, at_of, IsViewParts, view_of_parts}
@@ -31,23 +31,23 @@ number_within list m size _ _ (number n s at) = let lt = slice_get_within list n
 
 module _ (h : Classes) (l : Places) (v : ViewParts) where
   -- the part of a number
-  part_at : (items : List Part) (i : ℕ) (part : Part) → items ≡ v.parts → i < length v.parts → part ≡ get_or items i part → slice_get v.parts i ≡ Some part
-  part_at items i part same lt is = ap (λ xs. slice_get xs i) (sym same) ∙ get_read items i part (subst (λ (xs : List Part). i < length xs) (sym same) lt) is
+  part_at : (items : List ViewPart) (i : ℕ) (part : ViewPart) → items ≡ v.parts → i < length v.parts → part ≡ get_or items i part → slice_get v.parts i ≡ Some part
+  part_at items i part same lt is = ap (λ xs. slice_get xs i) (sym same) ∙ get_read items i part (subst (λ (xs : List ViewPart). i < length xs) (sym same) lt) is
 
-  pub next_within : IsViewParts h l v → (items : List Part) (i : ℕ) (part : Part) → items ≡ v.parts → i < length v.parts → part ≡ get_or items i part → IfSome part.next (λ j. j < length v.parts)
+  pub next_within : IsViewParts h l v → (items : List ViewPart) (i : ℕ) (part : ViewPart) → items ≡ v.parts → i < length v.parts → part ≡ get_or items i part → IfSome part.next (λ j. j < length v.parts)
   next_within view items i part same lt is =
       let of = view.parts.each i part (part_at items i part same lt is) in
       let size : length (preorder h v.class) ≡ length v.parts = ap length (sym view.parts.subobjects) ∙ length-map v.parts at_of in
       number_within (preorder h v.class) (length v.parts) size part.next (next l (view_of_parts v) part.at) of.next
 
   -- the subobject of the number is the part's
-  here_is : IsViewParts h l v → (items : List Part) (i : ℕ) (part : Part) → items ≡ v.parts → i < length v.parts → part ≡ get_or items i part → (at : Option ℕ) (s : Option Subobject) → at ≡ Some i → NumbersSubobject (preorder h v.class) at s → s ≡ Some part.at
+  here_is : IsViewParts h l v → (items : List ViewPart) (i : ℕ) (part : ViewPart) → items ≡ v.parts → i < length v.parts → part ≡ get_or items i part → (at : Option ℕ) (s : Option Subobject) → at ≡ Some i → NumbersSubobject (preorder h v.class) at s → s ≡ Some part.at
   here_is view items i part same lt is at s e of =
       let u = number_some (preorder h v.class) at i s e of in
       let listed : slice_get (preorder h v.class) i ≡ Some part.at = ap (λ xs. slice_get xs i) (sym view.parts.subobjects) ∙ get_map at_of v.parts i part (part_at items i part same lt is) in
       u.1 ∙ sym u.2 ∙ listed
 
-  module _ (keeps : IsHierarchy h) (view : IsViewParts h l v) (items : List Part) (i : ℕ) (part : Part) (same : items ≡ v.parts) (lt : i < length v.parts) (is : part ≡ get_or items i part) where
+  module _ (keeps : IsHierarchy h) (view : IsViewParts h l v) (items : List ViewPart) (i : ℕ) (part : ViewPart) (same : items ≡ v.parts) (lt : i < length v.parts) (is : part ≡ get_or items i part) where
     pub found_here : (k : EntryKey) (n steps : ℕ) (at : Option ℕ) (s : Option Subobject) (o : Option FunctionId) (f : FunctionId) → at ≡ Some i → NumbersSubobject (preorder h v.class) at s → AreAlong h l (view_of_parts v) k n s → (steps ≡ 0 → ⊥) →
         (part.class.0 < length h → o ≡ option_and_then (declared_at h l part.class) (slice_get (entries h l part.class) n)) → o ≡ Some f → IsDeclaredBy h l (view_of_parts v) v.parts k (first_in (declares_at h l k) (next l (view_of_parts v)) steps s) (Some (record { part = i; function = f }))
     found_here k n steps at s o f e of along some told there =

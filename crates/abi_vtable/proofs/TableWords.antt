@@ -24,7 +24,7 @@ use Rattle.abi_slots.specs.Views.{seen, place}
 use Rattle.abi_slots.specs.Groups.{GoAlong, between, is_shared_base, IsOffsetWord, IsEntryWord, IsTable}
 use Rattle.abi_slots.proofs.Chains.{Setting, same_some}
 use Rattle.abi_slots.proofs.Settings.{setting_of}
-use Rattle.abi_vtable.specs.declared.view.Part.{Part}
+use Rattle.abi_vtable.specs.declared.view.ViewPart.{ViewPart}
 use Rattle.abi_vtable.specs.declared.view.ViewParts.{ViewParts}
 use Rattle.abi_vtable.specs.invariants.Parts.{IsViewPart, at_of, IsViewParts, view_of_parts, subobjects_numbered}
 use Rattle.abi_vtable.specs.invariants.Words.{NamesVirtual, AreAlong, GoAlongTo}
@@ -70,24 +70,24 @@ number_below h l v view n s e =
     subst (λ a. n < a) size lt
 
 -- the part stands at a number of a view, whose classes are a hierarchy and soundly laid out
-pub record IsAtNumber (h : Classes) (rows : List ClassLayout) (v : ViewParts) (n : ℕ) (part : Part) : Type 0 where
+pub record IsAtNumber (h : Classes) (rows : List ClassLayout) (v : ViewParts) (n : ℕ) (part : ViewPart) : Type 0 where
   pub keeps : IsHierarchy h
   pub sound : IsSoundLayout h rows
   pub view : IsViewParts h (places_of h rows) v
   pub there : slice_get v.parts n ≡ Some part
 
 -- so does the part that is read at a number
-pub read_part : (h : Classes) (rows : List ClassLayout) → IsHierarchy h → IsSoundLayout h rows → (v : ViewParts) → IsViewParts h (places_of h rows) v → (items : List Part) (n : ℕ) (part : Part) → items ≡ v.parts → n < length v.parts → part ≡ get_or items n part → IsAtNumber h rows v n part
+pub read_part : (h : Classes) (rows : List ClassLayout) → IsHierarchy h → IsSoundLayout h rows → (v : ViewParts) → IsViewParts h (places_of h rows) v → (items : List ViewPart) (n : ℕ) (part : ViewPart) → items ≡ v.parts → n < length v.parts → part ≡ get_or items n part → IsAtNumber h rows v n part
 read_part h rows keeps sound v view items n part same within read = record {
   keeps = keeps;
   sound = sound;
   view = view;
-  there = ap (λ xs. slice_get xs n) (sym same) ∙ get_read items n part (subst (λ (xs : List Part). n < length xs) (sym same) within) read;
+  there = ap (λ xs. slice_get xs n) (sym same) ∙ get_read items n part (subst (λ (xs : List ViewPart). n < length xs) (sym same) within) read;
 }
 
 -- the table of a part
 
-module _ {h : Classes} {rows : List ClassLayout} {v : ViewParts} {n : ℕ} {part : Part} (at : IsAtNumber h rows v n part) where
+module _ {h : Classes} {rows : List ClassLayout} {v : ViewParts} {n : ℕ} {part : ViewPart} (at : IsAtNumber h rows v n part) where
   pub part_of : IsViewPart h (places_of h rows) (view_of_parts v) (preorder h v.class) part
   part_of = at.view.parts.each n part at.there
 

@@ -8,7 +8,7 @@ ghost use Rattle.abi_sound.specs.Places.{Places};
 ghost use Rattle.abi_slots.specs.Views.{heads};
 ghost use Rattle.abi_vtable.specs.invariants.Parts.{AreNextMarks, AreKeptParts, view_of_parts, leads_to, subobjects_numbered, heads_of_root};
 
-use crate::view::{Part, ViewParts};
+use crate::view::{ViewPart, ViewParts};
 use cxx_subobject::{Root, is_same_root, shared_class};
 use foundation::NoMemory;
 use std::alloc::Global;
@@ -38,7 +38,7 @@ fn no_marks(alloc: Global, count: usize) -> Result<Vec<bool>, NoMemory>
 /// For each part of a view whether it is the next of another one.
 ///
 /// Errors: want of memory.
-fn next_marks(alloc: Global, parts: &[Part]) -> Result<Vec<bool>, NoMemory>
+fn next_marks(alloc: Global, parts: &[ViewPart]) -> Result<Vec<bool>, NoMemory>
     ensures { IfOk result (λ marks. AreNextMarks parts.now (length parts.now) marks.items) }
 {
     let mut marks = no_marks(alloc, parts.len())?;
@@ -59,7 +59,7 @@ fn is_marked(marks: &[bool], n: usize) -> bool
 }
 
 /// Whether the part of this number is of a root, dynamic, and the next of no other one.
-fn is_head(marks: &[bool], root: Root, n: usize, part: &Part) -> bool
+fn is_head(marks: &[bool], root: Root, n: usize, part: &ViewPart) -> bool
     ensures { result ≡ (same_root root part.now.at.root && (part.now.is_dynamic && not (get_or marks.now n false))) }
 {
     is_same_root(root, part.at.root) && part.is_dynamic && !is_marked(marks, n)

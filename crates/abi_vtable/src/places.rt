@@ -8,7 +8,7 @@ ghost use Rattle.abi_slots.specs.Views.{IsView, seen, place};
 ghost use Rattle.abi_slots.specs.Groups.{this_adjust};
 ghost use Rattle.abi_vtable.specs.invariants.Parts.{view_of_parts};
 
-use crate::view::{Part, ViewParts};
+use crate::view::{ViewPart, ViewParts};
 use abi_slots::ThisAdjust;
 use abi_sound::SoundLayout;
 use abi_thunk::this_adjust;
@@ -24,7 +24,7 @@ pub(crate) fn seen_of(
     alloc: Global,
     h: &Hierarchy,
     x: &ViewParts,
-    part: &Part,
+    part: &ViewPart,
 ) -> Result<Subobject, NoMemory>
     requires view { IsView h.now (view_of_parts x.now) }
     requires valid { IsSubobject h.now x.now.class part.now.at }
@@ -42,7 +42,7 @@ pub(crate) fn place_of_part<L: SoundLayout>(
     h: &Hierarchy,
     layout: &L,
     x: &ViewParts,
-    part: &Part,
+    part: &ViewPart,
 ) -> Result<u32, NoMemory>
     requires layout { L.lays_out layout.now h.now }
     requires view { IsView h.now (view_of_parts x.now) }
@@ -55,7 +55,7 @@ pub(crate) fn place_of_part<L: SoundLayout>(
 
 /// Whether a part has the same path in the complete object as in the view: it lies below a virtual base, or the view is the
 /// whole object.
-fn is_seen_alike(x: &ViewParts, part: &Part) -> bool
+fn is_seen_alike(x: &ViewParts, part: &ViewPart) -> bool
     ensures { (h : Classes) → IsView h (view_of_parts x.now) → IsSubobject h x.now.class part.now.at → result ≡ true → part.now.at ≡ seen (view_of_parts x.now) part.now.at }
 {
     if !is_same_root(part.at.root, Root::Whole) {
@@ -79,8 +79,8 @@ pub(crate) fn adjust_between<L: SoundLayout>(
     h: &Hierarchy,
     layout: &L,
     x: &ViewParts,
-    from: &Part,
-    to: &Part,
+    from: &ViewPart,
+    to: &ViewPart,
     vcall: Option<i64>,
 ) -> Result<Option<ThisAdjust>, NoMemory>
     requires layout { L.lays_out layout.now h.now }

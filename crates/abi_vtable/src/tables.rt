@@ -24,7 +24,7 @@ use crate::heads::heads_of;
 use crate::places::seen_of;
 use crate::returns::KnownReturn;
 use crate::table_sites::TableSite;
-use crate::view::{Part, ViewParts, view_parts};
+use crate::view::{ViewPart, ViewParts, view_parts};
 use crate::words::{distance, entry_word, offset_word};
 use abi_slots::{
     EntryKey, EntryWord, Group, GroupName, Offset, Slots, Table, TableList, TableWord, WordList,
@@ -52,7 +52,7 @@ fn is_shared_base(s: &Subobject) -> bool
 fn offset_words<L: SoundLayout>(
     site: &TableSite<L>,
     x: &ViewParts,
-    t: &Part,
+    t: &ViewPart,
     start: u32,
     offsets: &[Offset],
 ) -> Result<Vec<TableWord>, NoMemory>

@@ -28,7 +28,7 @@ use std::alloc::Global;
 /// A subobject of a view: where it is in the view, its class and whether that is dynamic, and the number of the next of its
 /// chain. Where it is in the complete object is asked of few parts (`places`).
 #[derive(Debug, Drop)]
-pub struct Part {
+pub struct ViewPart {
     pub at: Subobject,
     pub class: ClassId,
     pub is_dynamic: bool,
@@ -36,7 +36,7 @@ pub struct Part {
 }
 
 /// A list of parts.
-pub type PartList = Sequence<Part>;
+pub type PartList = Sequence<ViewPart>;
 
 /// Numbers of parts.
 pub type NumberList = Sequence<usize>;
@@ -268,7 +268,7 @@ fn next_at(nexts: &[Option<usize>], n: usize) -> Option<usize>
 }
 
 /// What is kept of a subobject of the view, with the number of the next of its chain.
-fn part_of(h: &Hierarchy, x: &ViewParts, s: Subobject, number: Option<usize>) -> Part
+fn part_of(h: &Hierarchy, x: &ViewParts, s: Subobject, number: Option<usize>) -> ViewPart
     requires view { IsView h.now (view_of_parts x.now) }
     requires valid { IsSubobject h.now x.now.class s }
     ensures at { result.at ≡ s }
@@ -276,7 +276,7 @@ fn part_of(h: &Hierarchy, x: &ViewParts, s: Subobject, number: Option<usize>) ->
 {
     h.keeps();
     let class = class_at(&s);
-    Part {
+    ViewPart {
         at: s,
         class,
         is_dynamic: is_dynamic(h, class),
@@ -325,7 +325,7 @@ fn note_start(starts: &mut Vec<usize>, c: ClassId, n: usize)
 /// For each class number the number of the first part of that class.
 ///
 /// Errors: want of memory.
-fn starts_of(alloc: Global, class: ClassId, parts: &[Part]) -> Result<NumberList, NoMemory>
+fn starts_of(alloc: Global, class: ClassId, parts: &[ViewPart]) -> Result<NumberList, NoMemory>
     requires { class.0 < most_classes }
     ensures { IfOk result (λ starts. AreStarts starts parts.now) }
 {

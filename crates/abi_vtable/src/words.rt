@@ -22,7 +22,7 @@ ghost use Rattle.abi_vtable.specs.invariants.Words.{NamesVirtual, LiesInClass, H
 use crate::places::{adjust_between, place_of_part};
 use crate::returns::{KnownReturn, return_for};
 use crate::table_sites::TableSite;
-use crate::view::{Part, ViewParts};
+use crate::view::{ViewPart, ViewParts};
 use abi_slots::{EntryKey, EntryWord, Offset, Slots, TableWord};
 use abi_sound::SoundLayout;
 use abi_thunk::shared_place;
@@ -52,7 +52,7 @@ fn start_of(starts: &[usize], d: ClassId) -> usize
 }
 
 /// The part of the view that is of a class and has a subobject in it. It takes no memory.
-fn part_over<'a>(h: &Hierarchy, x: &'a ViewParts, s: &Subobject, d: ClassId) -> &'a Part
+fn part_over<'a>(h: &Hierarchy, x: &'a ViewParts, s: &Subobject, d: ClassId) -> &'a ViewPart
     requires view { IsSomeView h.now x.now }
     requires valid { IsSubobject h.now x.now.class s.now }
     requires some { LiesInClass h.now x.now.class s.now d }
@@ -97,7 +97,7 @@ fn named_in(alloc: Global, d: ClassId, path: &[ClassId]) -> Result<Subobject, No
 pub(crate) fn offset_word<L: SoundLayout>(
     site: &TableSite<L>,
     x: &ViewParts,
-    t: &Part,
+    t: &ViewPart,
     start: u32,
     offset: &Offset,
 ) -> Result<TableWord, NoMemory>
@@ -195,8 +195,8 @@ fn code_word<L: SoundLayout>(
     known: &mut Vec<KnownReturn>,
     x: &ViewParts,
     key: EntryKey,
-    from: &Part,
-    to: &Part,
+    from: &ViewPart,
+    to: &ViewPart,
     g: FunctionId,
 ) -> Result<EntryWord, NoMemory>
     requires layout { L.lays_out site.now.layout.now site.now.h.now }

@@ -17,7 +17,7 @@ use Rattle.abi_slots.specs.Views.{View, IsView, is_dynamic, is_dynamic_class}
 use Rattle.abi_slots.proofs.Chains.{same_some}
 use Rattle.abi_slots.proofs.Complete.{same_bool}
 use Rattle.abi_slots.proofs.Heads.{dynamic_test, test_dynamic}
-use Rattle.abi_vtable.specs.declared.view.Part.{Part}
+use Rattle.abi_vtable.specs.declared.view.ViewPart.{ViewPart}
 use Rattle.abi_vtable.specs.declared.view.ViewParts.{ViewParts}
 use Rattle.abi_vtable.specs.invariants.Parts.{IsViewPart, at_of, IsViewParts, view_of_parts}
 use Rattle.abi_vtable.proofs.Parts.{class_known}
@@ -38,7 +38,7 @@ pub subobject_known : (h : Classes) → IsHierarchy h → (c : ClassId) (s : Sub
 subobject_known h keeps c _ known (whole path leads) = path_known h keeps c path known leads
 subobject_known h keeps c _ known (shared v path has leads) = let less = virtual_below h keeps c v has in path_known h keeps v path (omega arith) leads
 
-pub known_part : (h : Classes) → IsHierarchy h → (l : Places) (x : View) → IsView h x → (list : List Subobject) (part : Part) → IsViewPart h l x list part → IsKnownPart h part
+pub known_part : (h : Classes) → IsHierarchy h → (l : Places) (x : View) → IsView h x → (list : List Subobject) (part : ViewPart) → IsViewPart h l x list part → IsKnownPart h part
 known_part h keeps l x view list part of = record {
   path = subobject_known h keeps x.class part.at (class_known h keeps x view (whole_of x.class) x.class (whole [] tt) refl) of.valid;
   class = of.class;
@@ -46,14 +46,14 @@ known_part h keeps l x view list part of = record {
   dynamic = same_bool part.is_dynamic (is_dynamic h part.class) (λ e. dynamic_test h keeps part.class (of.dynamic.0 e)) (λ e. of.dynamic.1 (test_dynamic h keeps part.class e));
 }
 
-pub part_there : (h : Classes) (l : Places) (v : ViewParts) → IsViewParts h l v → (parts : List Part) (n : ℕ) (part : Part) → parts ≡ v.parts → n < length parts → part ≡ get_or parts n part → slice_get v.parts n ≡ Some part
+pub part_there : (h : Classes) (l : Places) (v : ViewParts) → IsViewParts h l v → (parts : List ViewPart) (n : ℕ) (part : ViewPart) → parts ≡ v.parts → n < length parts → part ≡ get_or parts n part → slice_get v.parts n ≡ Some part
 part_there h l v view parts n part same lt is = ap (λ ps. slice_get ps n) (sym same) ∙ get_read parts n part lt is
 
-pub subobject_there : (h : Classes) (l : Places) (v : ViewParts) → IsViewParts h l v → (parts : List Part) (n : ℕ) (part : Part) → parts ≡ v.parts → n < length parts → part ≡ get_or parts n part → slice_get (preorder h v.class) n ≡ Some part.at
+pub subobject_there : (h : Classes) (l : Places) (v : ViewParts) → IsViewParts h l v → (parts : List ViewPart) (n : ℕ) (part : ViewPart) → parts ≡ v.parts → n < length parts → part ≡ get_or parts n part → slice_get (preorder h v.class) n ≡ Some part.at
 subobject_there h l v view parts n part same lt is = ap (λ xs. slice_get xs n) (sym view.parts.subobjects) ∙ get_map at_of v.parts n part (part_there h l v view parts n part same lt is)
 
 -- what has a word is dynamic, so that a table serves it
-pub word_noted : (h : Classes) → IsHierarchy h → (l : Places) (v : ViewParts) (tables : List (Option ℕ)) → IsViewParts h l v → AreServing h l (view_of_parts v) tables → (parts : List Part) (n : ℕ) (part : Part) → parts ≡ v.parts → n < length parts → part ≡ get_or parts n part → needs_word h l part.at ≡ true → HasNote tables n
+pub word_noted : (h : Classes) → IsHierarchy h → (l : Places) (v : ViewParts) (tables : List (Option ℕ)) → IsViewParts h l v → AreServing h l (view_of_parts v) tables → (parts : List ViewPart) (n : ℕ) (part : ViewPart) → parts ≡ v.parts → n < length parts → part ≡ get_or parts n part → needs_word h l part.at ≡ true → HasNote tables n
 word_noted h keeps l v tables view serving parts n part same lt is needs =
     let of = view.parts.each n part (part_there h l v view parts n part same lt is) in
     let rest = (and_parts (is_proper_at part.at.root part.at.path) (is_dynamic_class h (class_of part.at) && ((class_has_virtual h (class_of part.at) || is_shared_root part.at.root) && not (ends_in_primary l part.at.path))) needs).1 in

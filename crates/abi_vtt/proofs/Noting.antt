@@ -6,7 +6,7 @@ use Rattle.foundation.proofs.Places.{get_read, get_set_other, get_set}
 use Rattle.cxx_subobject.specs.declared.Subobject.{Subobject}
 use Rattle.abi_slots.specs.Views.{along_chain}
 use Rattle.abi_slots.proofs.Chains.{same_some}
-use Rattle.abi_vtable.specs.declared.view.Part.{Part}
+use Rattle.abi_vtable.specs.declared.view.ViewPart.{ViewPart}
 use Rattle.abi_vtable.specs.invariants.Parts.{NumbersSubobject}
 use Rattle.abi_vtable.proofs.Declaring.{number_some}
 use Rattle.abi_vtt.specs.invariants.Served.{AreNumbered, HasNote, IsFrom, from_before, from_chain, IsNoted}
@@ -80,7 +80,7 @@ noted_nothing list go s table steps old e = record {
 }
 
 -- the part of the number, and then what follows it
-pub noted_more : (list : List Subobject) (go : Subobject → Option Subobject) (s : Option Subobject) (parts : List Part) (at : Option ℕ) (number : ℕ) (part : Part) (table steps : ℕ) (old new : List (Option ℕ)) → AreNumbered list go parts → NumbersSubobject list at s → at ≡ Some number →
+pub noted_more : (list : List Subobject) (go : Subobject → Option Subobject) (s : Option Subobject) (parts : List ViewPart) (at : Option ℕ) (number : ℕ) (part : ViewPart) (table steps : ℕ) (old new : List (Option ℕ)) → AreNumbered list go parts → NumbersSubobject list at s → at ≡ Some number →
     number < length parts → part ≡ get_or parts number part → length old ≡ length parts → (steps ≡ 0 → ⊥) → (after : Option ℕ) → after ≡ part.next →
     ((s : Option Subobject) → AreNumbered list go parts → NumbersSubobject list after s → IsNoted list go s table (steps - 1) (set old number (Some table)) new) → IsNoted list go s table steps old new
 noted_more list go s parts at number part table steps old new are of is lt there size some after follows rest =

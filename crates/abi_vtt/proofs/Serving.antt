@@ -22,7 +22,7 @@ use Rattle.abi_slots.proofs.Lists.{Item, item_cases, item_filter, from_filter, f
 use Rattle.abi_slots.proofs.Bases.{item_preorder}
 use Rattle.abi_slots.proofs.Chains.{Setting, same_some, walk_under}
 use Rattle.abi_slots.proofs.Heads.{part_item, some_head}
-use Rattle.abi_vtable.specs.declared.view.Part.{Part}
+use Rattle.abi_vtable.specs.declared.view.ViewPart.{ViewPart}
 use Rattle.abi_vtable.specs.declared.view.ViewParts.{ViewParts}
 use Rattle.abi_vtable.specs.invariants.Parts.{NumbersSubobject, nothing, number, at_of, IsViewParts, view_of_parts, subobjects_numbered}
 use Rattle.abi_vtt.specs.invariants.Served.{LeadWithin, AreNumbered, IsFrom, from_before, from_chain, IsNoted, IsServedAt, AreServingTo, AreServing}
@@ -47,10 +47,10 @@ module _ (h : Classes) (l : Places) (v : ViewParts) (view : IsViewParts h l v) w
   pub parts_size : length (preorder h v.class) ≡ length v.parts
   parts_size = ap length (sym view.parts.subobjects) ∙ length-map v.parts at_of
 
-  pub leads_within : (parts : List Part) → parts ≡ v.parts → LeadWithin parts
+  pub leads_within : (parts : List ViewPart) → parts ≡ v.parts → LeadWithin parts
   leads_within parts same = subst LeadWithin (sym same) (record { each = λ n part e. number_within (preorder h v.class) (length v.parts) parts_size part.next (next l (view_of_parts v) part.at) (view.parts.each n part e).next })
 
-  pub parts_numbered : IsHierarchy h → (parts : List Part) → parts ≡ v.parts → AreNumbered (preorder h v.class) (next l (view_of_parts v)) parts
+  pub parts_numbered : IsHierarchy h → (parts : List ViewPart) → parts ≡ v.parts → AreNumbered (preorder h v.class) (next l (view_of_parts v)) parts
   parts_numbered keeps parts same = subst (λ ps. AreNumbered (preorder h v.class) (next l (view_of_parts v)) ps) (sym same) (record {
     once = (preorder_lists h v.class keeps).once;
     there = λ n part e. ap (λ xs. slice_get xs n) (sym view.parts.subobjects) ∙ get_map at_of v.parts n part e;

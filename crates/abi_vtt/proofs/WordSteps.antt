@@ -17,7 +17,7 @@ use Rattle.abi_sound.specs.Places.{Places}
 use Rattle.abi_slots.specs.Groups.{GoAlong}
 use Rattle.abi_slots.proofs.Chains.{same_some}
 use Rattle.abi_slots.proofs.Loops.{pushed_more, pushed_all}
-use Rattle.abi_vtable.specs.declared.view.Part.{Part}
+use Rattle.abi_vtable.specs.declared.view.ViewPart.{ViewPart}
 use Rattle.abi_vtable.specs.declared.view.ViewParts.{ViewParts}
 use Rattle.abi_vtable.specs.invariants.Parts.{at_of, IsViewParts, view_of_parts}
 use Rattle.abi_slots.specs.declared.words.VttWord.{VttWord}
@@ -35,7 +35,7 @@ abbrev pub base_items : Classes → Places → ℕ → Subobject → List (Base 
 base_items h l n x bases = flat_map (base_item h l n x) (filter (is_built_base h) bases)
 
 -- what some parts of a view give
-abbrev pub part_items : Classes → Places → Subobject → List Part → List VttEntry
+abbrev pub part_items : Classes → Places → Subobject → List ViewPart → List VttEntry
 part_items h l x parts = map (item x) (filter (needs_word h l) (map at_of parts))
 
 -- what the virtual bases among some subobjects give
@@ -92,7 +92,7 @@ word_is h l v tables n word s view serving there complete at table =
     }
 
 -- one part more
-pub part_more : (h : Classes) (l : Places) (c : ClassId) (x : Subobject) (parts : List Part) (i : ℕ) (part : Part) (b : Bool) (all : List VttEntry) (old now new : List VttWord) → i < length parts → part ≡ get_or parts i part → needs_word h l part.at ≡ b →
+pub part_more : (h : Classes) (l : Places) (c : ClassId) (x : Subobject) (parts : List ViewPart) (i : ℕ) (part : ViewPart) (b : Bool) (all : List VttEntry) (old now new : List VttWord) → i < length parts → part ≡ get_or parts i part → needs_word h l part.at ≡ b →
     GrowsByVttWords h l c (if b then item x part.at ∷ [] else []) now new → IsGrowing h l c (part_items h l x (drop i parts)) all old now → IsGrowing h l c (part_items h l x (drop (i + 1) parts)) all old new
 part_more h l c x parts i part b all old now new lt is test grows inv =
     growing_more h l c (part_items h l x) parts i part (if b then item x part.at ∷ [] else []) all old now new lt is (opens b test) grows inv

@@ -9,7 +9,7 @@ ghost use Rattle.abi_vtt.specs.invariants.Growing.{IsKnownPart};
 use crate::marks::is_marked;
 use crate::path_ends::{ends_in_primary, is_proper, is_shared};
 use abi_sound::SoundLayout;
-use abi_vtable::view::Part;
+use abi_vtable::view::ViewPart;
 use cxx_hierarchy::Hierarchy;
 
 /// Whether a part of a view has a word of its own in the sub-VTT: a dynamic base that has virtual bases or lies below one, and
@@ -18,7 +18,7 @@ pub(crate) fn needs_word<L: SoundLayout>(
     h: &Hierarchy,
     layout: &L,
     marks: &[bool],
-    part: &Part,
+    part: &ViewPart,
 ) -> bool
     requires layout { L.lays_out layout.now h.now }
     requires marks { AreVirtualMarks h.now (length h.now) marks.now }

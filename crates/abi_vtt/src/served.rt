@@ -8,14 +8,14 @@ ghost use Rattle.abi_vtt.specs.invariants.Served.{LeadWithin, AreNumbered, IsNot
 
 use abi_sound::SoundLayout;
 use abi_vtable::heads::heads_of;
-use abi_vtable::view::{Part, ViewParts};
+use abi_vtable::view::{ViewPart, ViewParts};
 use cxx_hierarchy::Hierarchy;
 use foundation::NoMemory;
 use std::alloc::Global;
 
 /// Notes the number of a table for the parts of a chain, from one on and so many of them.
 fn note_chain(
-    parts: &[Part],
+    parts: &[ViewPart],
     tables: &mut [Option<usize>],
     at: Option<usize>,
     table: usize,

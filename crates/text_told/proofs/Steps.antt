@@ -13,7 +13,7 @@ use Rattle.cxx_subobject.specs.declared.Subobject.{Subobject}
 use Rattle.cxx_subobject.specs.Subobjects.{class_of, whole_of}
 use Rattle.abi_sound.specs.Places.{Places}
 use Rattle.abi_slots.specs.Views.{View, whole_view}
-use Rattle.abi_vtable.specs.declared.view.Part.{Part}
+use Rattle.abi_vtable.specs.declared.view.ViewPart.{ViewPart}
 use Rattle.abi_vtable.specs.declared.view.ViewParts.{ViewParts}
 use Rattle.abi_vtable.specs.invariants.Parts.{at_of, view_of_parts}
 use Rattle.abi_vtable.proofs.Lists.{map_more, read_at}
@@ -49,9 +49,9 @@ pub map_one_more : {A B : Type 0} (f : A → B) (xs : List A) (i : ℕ) (x : A) 
 map_one_more f xs i x e = rw add-one (sym (ap (map f) (take_more xs i x e) ∙ map_more f (take i xs) x))
 
 -- the part of a number is where its subobject is
-pub part_is : (parts slice : List Part) (list : List Subobject) (n : ℕ) (part : Part) (s : Subobject) → map at_of parts ≡ list → slice ≡ parts → slice_get slice n ≡ Some part → slice_get list n ≡ Some s → part.at ≡ s
+pub part_is : (parts slice : List ViewPart) (list : List Subobject) (n : ℕ) (part : ViewPart) (s : Subobject) → map at_of parts ≡ list → slice ≡ parts → slice_get slice n ≡ Some part → slice_get list n ≡ Some s → part.at ≡ s
 part_is parts slice list n part s same is there at =
-    let e : slice_get (map at_of parts) n ≡ Some part.at = get_map at_of parts n part (ap (λ (ps : List Part). slice_get ps n) (sym is) ∙ there) in
+    let e : slice_get (map at_of parts) n ≡ Some part.at = get_map at_of parts n part (ap (λ (ps : List ViewPart). slice_get ps n) (sym is) ∙ there) in
     let f : Some part.at ≡ Some s = sym e ∙ (ap (λ (xs : List Subobject). slice_get xs n) same ∙ at) in cc
 
 -- the view of a whole

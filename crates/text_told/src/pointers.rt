@@ -15,7 +15,7 @@ use abi_primary::is_dynamic;
 use abi_slots::GroupName;
 use abi_sound::{SoundLayout, member_place};
 use abi_vtable::heads::heads_of;
-use abi_vtable::view::{Part, ViewParts, view_parts};
+use abi_vtable::view::{ViewPart, ViewParts, view_parts};
 use cxx_hierarchy::{ClassId, FieldType, Hierarchy};
 use cxx_subobject::listing::longer_path;
 use cxx_subobject::{Root, Subobject, class_of, list_subobjects};
@@ -71,7 +71,7 @@ fn pointer_at<L: SoundLayout>(h: &Hierarchy, layout: &L, c: ClassId, s: &Subobje
 }
 
 /// The part of a number.
-fn part_at(parts: &[Part], n: usize) -> &Part
+fn part_at(parts: &[ViewPart], n: usize) -> &ViewPart
     requires { n < length parts.now }
     ensures { slice_get parts.now n ≡ Some result.now }
 {

@@ -19,7 +19,7 @@ use Rattle.abi_slots.specs.Listing.{is_offset_of_name, entries, offsets}
 use Rattle.abi_slots.specs.Slots.{IsVirtualBase}
 use Rattle.abi_slots.specs.Views.{View, first_in, next, along_chain}
 use Rattle.abi_slots.specs.Groups.{named_in, declares_at}
-use Rattle.abi_vtable.specs.declared.view.Part.{Part}
+use Rattle.abi_vtable.specs.declared.view.ViewPart.{ViewPart}
 use Rattle.abi_vtable.specs.declared.view.ViewParts.{ViewParts}
 use Rattle.abi_vtable.specs.declared.words.Declarer.{Declarer}
 use Rattle.abi_vtable.specs.invariants.Parts.{view_of_parts}
@@ -37,8 +37,8 @@ pub record LiesInClass (h : Classes) (c : ClassId) (s : Subobject) (d : ClassId)
   pub inside : IsInside h holder s
 
 -- no part before a place is of class d and has s in it
-pub record AreNotOver (h : Classes) (parts : List Part) (s : Subobject) (d : ClassId) (i : ℕ) : Type 0 where
-  pub each : (k : ℕ) (part : Part) → k < i → slice_get parts k ≡ Some part → part.class ≡ d → IsInside h part.at s → ⊥
+pub record AreNotOver (h : Classes) (parts : List ViewPart) (s : Subobject) (d : ClassId) (i : ℕ) : Type 0 where
+  pub each : (k : ℕ) (part : ViewPart) → k < i → slice_get parts k ≡ Some part → part.class ≡ d → IsInside h part.at s → ⊥
 
 -- the vcall word of a function stands in the tables of the virtual base below which a subobject lies
 abbrev pub HasVcall : Classes → Places → FunctionId → Root → Type 0
@@ -51,9 +51,9 @@ pub record AreAlong (h : Classes) (l : Places) (x : View) (k : EntryKey) (n : �
   pub each : (j : ℕ) (r : Subobject) (d : ClassId) → along_chain (next l x) j s ≡ Some r → class_of r ≡ Some d → (slice_get (entries h l d) n ≡ Some k) ⊎ ((slice_get (entries h l d) n ≡ None) × (declares_at h l k r ≡ false))
 
 -- the part and the function of its class's own that declare the entry
-pub data IsDeclaredBy (h : Classes) (l : Places) (x : View) (parts : List Part) (k : EntryKey) : Option Subobject → Option Declarer → Type 0 where
+pub data IsDeclaredBy (h : Classes) (l : Places) (x : View) (parts : List ViewPart) (k : EntryKey) : Option Subobject → Option Declarer → Type 0 where
   nowhere : IsDeclaredBy h l x parts k None None
-  at_part : (found : Declarer) (part : Part) → slice_get parts found.part ≡ Some part → found.function.class ≡ part.class → Contains (own h part.class) found.function → same_name h found.function k.function ≡ true → IsDeclaredBy h l x parts k (Some part.at) (Some found)
+  at_part : (found : Declarer) (part : ViewPart) → slice_get parts found.part ≡ Some part → found.function.class ≡ part.class → Contains (own h part.class) found.function → same_name h found.function k.function ≡ true → IsDeclaredBy h l x parts k (Some part.at) (Some found)
 
 -- the items of one list so far are related to those of another
 pub record GoAlongTo {A : Type 0} {B : Type 0} (R : A → B → Type 0) (xs : List A) (i : ℕ) (ys : List B) : Type 0 where

@@ -6,12 +6,12 @@ use Rattle.cxx_subobject.specs.Subobjects.{class_of}
 use Rattle.abi_sound.specs.Places.{Places}
 use Rattle.abi_slots.specs.Views.{is_dynamic}
 use Rattle.abi_slots.specs.Groups.{GoAlong}
-use Rattle.abi_vtable.specs.declared.view.Part.{Part}
+use Rattle.abi_vtable.specs.declared.view.ViewPart.{ViewPart}
 use Rattle.abi_slots.specs.declared.words.VttWord.{VttWord}
 use Rattle.abi_vtt.specs.Vtts.{VttEntry, IsVttWord}
 
 -- a part of a view whose classes are known
-pub record IsKnownPart (h : Classes) (part : Part) : Type 0 where
+pub record IsKnownPart (h : Classes) (part : ViewPart) : Type 0 where
   pub path : All (λ (c : ClassId). c.0 < length h) part.at.path
   pub class : class_of part.at ≡ Some part.class
   pub known : part.class.0 < length h

@@ -8,18 +8,18 @@ use Rattle.cxx_subobject.specs.Preorder.{preorder}
 use Rattle.abi_primary.specs.Kinds.{IsDynamic}
 use Rattle.abi_sound.specs.Places.{Places}
 use Rattle.abi_slots.specs.Views.{View, next, along_chain, heads, Serves}
-use Rattle.abi_vtable.specs.declared.view.Part.{Part}
+use Rattle.abi_vtable.specs.declared.view.ViewPart.{ViewPart}
 use Rattle.abi_vtable.specs.invariants.Parts.{NumbersSubobject}
 
 -- a part leads to a number within their list
-pub record LeadWithin (parts : List Part) : Type 0 where
-  pub each : (n : ℕ) (part : Part) → slice_get parts n ≡ Some part → IfSome part.next (λ m. m < length parts)
+pub record LeadWithin (parts : List ViewPart) : Type 0 where
+  pub each : (n : ℕ) (part : ViewPart) → slice_get parts n ≡ Some part → IfSome part.next (λ m. m < length parts)
 
 -- the parts are the subobjects of a list, each with the number of the next one
-pub record AreNumbered (list : List Subobject) (go : Subobject → Option Subobject) (parts : List Part) : Type 0 where
+pub record AreNumbered (list : List Subobject) (go : Subobject → Option Subobject) (parts : List ViewPart) : Type 0 where
   pub once : (i j : ℕ) (s : Subobject) → slice_get list i ≡ Some s → slice_get list j ≡ Some s → i ≡ j
-  pub there : (n : ℕ) (part : Part) → slice_get parts n ≡ Some part → slice_get list n ≡ Some part.at
-  pub next : (n : ℕ) (part : Part) → slice_get parts n ≡ Some part → NumbersSubobject list part.next (go part.at)
+  pub there : (n : ℕ) (part : ViewPart) → slice_get parts n ≡ Some part → slice_get list n ≡ Some part.at
+  pub next : (n : ℕ) (part : ViewPart) → slice_get parts n ≡ Some part → NumbersSubobject list part.next (go part.at)
 
 -- some number is noted
 abbrev pub HasNote : List (Option ℕ) → ℕ → Type 0

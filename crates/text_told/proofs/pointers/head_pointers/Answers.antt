@@ -2,7 +2,7 @@ use Rattle.std.proofs.Common.{◌≡◌, ◌∙◌, ◌<◌, ◌++◌, ◌∷◌
 use Rattle.cxx_subobject.specs.Preorder.{preorder}
 use Rattle.abi_sound.specs.Places.{places_of}
 use Rattle.abi_slots.specs.Views.{heads}
-use Rattle.abi_vtable.specs.declared.view.Part.{Part}
+use Rattle.abi_vtable.specs.declared.view.ViewPart.{ViewPart}
 use Rattle.abi_vtable.specs.invariants.Parts.{view_of_parts}
 use Rattle.abi_vtable.proofs.Lists.{read_at}
 use Rattle.abi_vtable.proofs.TableWords.{head_at, number_below}
@@ -18,7 +18,7 @@ part_at-part-requires g c =
     let v = c.args.x.now in
     let n = get_or c.args.numbers.now c.loop-number.number-index 0 in
     let at = head_at (preorder h v.class) (heads h l (view_of_parts v)) c.args.numbers.now c.loop-number.number-index n c.requires.heads (read_at c.args.numbers.now c.loop-number.number-index 0 c.loop-number-test.true) in
-    subst (λ (parts : List Part). n < length parts) (sym c.as_slice.ensures) (number_below h l v c.requires.view n at.head at.at_number)
+    subst (λ (parts : List ViewPart). n < length parts) (sym c.as_slice.ensures) (number_below h l v c.requires.view n at.head at.at_number)
 
 pub loop-number-preserved : goal.loop-number-preserved
 loop-number-preserved g c =
