@@ -28,6 +28,7 @@ mod page_memory;
 mod pointer_calls;
 mod read_back;
 mod traced_run;
+mod vtt_calls;
 
 use adapters::is_adapted;
 use case::{Case, next_case};

@@ -9,6 +9,7 @@ ghost use Rattle.foundation.specs.Limits.{source_limit};
 use crate::hinted_calls::{hint_text, visits_text};
 use crate::page_memory::pages_text;
 use crate::pointer_calls::pointer_text;
+use crate::vtt_calls::vtt_text;
 use abi_layout::lay_out;
 use abi_primary::{Primary, dynamic_flags, holder_of, is_nearly_empty, primary_base};
 use abi_slots::Slots;
@@ -156,7 +157,8 @@ fn is_generated(alloc: Global, classes: &str, text: &[u8]) -> bool {
 }
 
 /// Whether the calls that these words name give this text for a source: `body`, `class` with a name, `source` with a number of classes,
-/// `hint` with the classes of a cast, `pointer` with a class and its data member, `visits` with the class to which one leads, or `pages`, which needs no source.
+/// `hint` with the classes of a cast, `pointer` with a class and its data member, `visits` with the class to which one leads,
+/// `vtt` with a class, or `pages`, which needs no source.
 pub fn is_answered(alloc: Global, words: &[String], source: &[u8], text: &[u8]) -> bool {
     if source.len() > SOURCE_LIMIT {
         return false;
@@ -184,6 +186,9 @@ pub fn is_answered(alloc: Global, words: &[String], source: &[u8], text: &[u8]) 
                 pointer_text(alloc, source, class.as_bytes(), member.as_bytes()),
                 text,
             )
+        }
+        [word, name] if word.as_str() == "vtt" => {
+            is_made(vtt_text(alloc, source, name.as_bytes()), text)
         }
         [word, name] if word.as_str() == "visits" => {
             is_made(visits_text(alloc, source, name.as_bytes()), text)
