@@ -1,4 +1,4 @@
-use Rattle.std.proofs.Common.{◌≡◌, ℕ, suc, ◌+◌, ◌*◌, ◌<◌, ◌≤◌, Some, List, [], ◌∷◌, ◌++◌, map, length, get_or, take, refl, ap, sym, ◌∙◌, subst, arith, append_assoc, append-nil, length-append}
+use Rattle.std.proofs.Common.{◌≡◌, ℕ, ◌+◌, ◌*◌, ◌<◌, ◌≤◌, Some, List, [], ◌∷◌, ◌++◌, map, length, get_or, take, refl, ap, sym, ◌∙◌, subst, arith, append_assoc, append-nil, length-append}
 use Rattle.std.specs.List.{slice_get, flat_map}
 use Rattle.std.proofs.lemmas.List.{take_all, length-take-le}
 use Rattle.std.proofs.lemmas.Option.{slice_get_within}
@@ -35,6 +35,7 @@ puts_none a Says always = record {
   words_are = sym (append-nil a.words.items);
   records = [];
   records_are = sym (append-nil a.records.items);
+  few = omega arith;
   same_place = refl;
   says = λ image inside. always image (BASE + 8 * length a.words.items);
 }
@@ -49,6 +50,7 @@ puts_both a b c m n P Q first second = record {
   words_are = second.words_are ∙ ap (λ ws. ws ++ second.words) first.words_are ∙ append_assoc a.words.items first.words second.words;
   records = first.records ++ second.records;
   records_are = second.records_are ∙ ap (λ ws. ws ++ second.records) first.records_are ∙ append_assoc a.records.items first.records second.records;
+  few = let l = length-append first.records second.records in let f = first.few in let s = second.few in omega (arith, l, f, s);
   same_place = second.same_place ∙ first.same_place;
   says = λ image inside.
       let l : length b.words.items ≡ length a.words.items + m = length_after a b m P first in
@@ -63,6 +65,7 @@ puts_as a b m n P Q puts same more = record {
   words_are = puts.words_are;
   records = puts.records;
   records_are = puts.records_are;
+  few = subst (λ k. length puts.records ≤ 6 * k) same puts.few;
   same_place = puts.same_place;
   says = λ image inside. more image (BASE + 8 * length a.words.items) (puts.says image inside);
 }
@@ -75,6 +78,7 @@ puts_word a b w words records place = record {
   words_are = words;
   records = [];
   records_are = ap (λ v. v.items) records ∙ sym (append-nil a.records.items);
+  few = omega arith;
   same_place = place;
   says = λ image inside.
       let all : WordsStandAt image BASE (a.words.items ++ w ∷ []) = subst (λ ws. WordsStandAt image BASE ws) words inside.words in

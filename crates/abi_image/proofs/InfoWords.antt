@@ -42,6 +42,7 @@ puts_head a b c d e id info v w x y class flags count first vs ws xs b1 b2 b3 c1
       words_are = all.words_are;
       records = all.records;
       records_are = all.records_are;
+      few = all.few;
       same_place = all.same_place;
       says = λ image inside.
           let h = all.says image inside in

@@ -1,5 +1,6 @@
 pub mod Lists
 pub mod Filling
+pub mod Rooms
 pub mod Recording
 pub mod InfoWords
 pub mod Placing

@@ -1,4 +1,4 @@
-use Rattle.std.proofs.Common.{◌≡◌, ℕ, ◌+◌, ◌<◌, ◌≤◌, ⊎_elim, Bool, true, false, ◌&&◌, IsTrue, ◌↔◌, Some, List, [], ◌∷◌, length, get_or, refl, ap, sym, ◌∙◌, subst, arith}
+use Rattle.std.proofs.Common.{◌≡◌, ℕ, ◌+◌, ◌<◌, ◌≤◌, ⊎_elim, Bool, true, false, IsTrue, ◌↔◌, Some, List, length, get_or, refl, ap, sym, ◌∙◌, subst, arith}
 use Rattle.std.specs.Prelude.{nat_eq}
 use Rattle.std.specs.List.{slice_get}
 use Rattle.std.proofs.lemmas.Bool.Decides.{nat_tests}
@@ -6,9 +6,8 @@ use Rattle.std.proofs.lemmas.Bool.{and_parts, cases_order}
 use Rattle.std.proofs.lemmas.Option.{slice_get_within}
 use Rattle.foundation.proofs.Truth.{split, never, not_both}
 use Rattle.foundation.proofs.Places.{get_read}
-use Rattle.cxx_hierarchy.specs.declared.records.ClassId.{ClassId}
 use Rattle.cxx_subobject.specs.declared.Subobject.{Subobject}
-use Rattle.cxx_subobject.specs.Subobjects.{same_path, same_subobject}
+use Rattle.cxx_subobject.specs.Subobjects.{same_subobject}
 use Rattle.cxx_subobject.proofs.TreeLemmas.{subobject_same, same_itself}
 use Rattle.abi_slots.specs.declared.words.GroupName.{GroupName}
 use Rattle.abi_slots.specs.declared.words.Group.{Group}

@@ -11,7 +11,7 @@ use Rattle.abi_slots.specs.Images.{Image, HasEntry, runs, HasThunk, IsThunk, thi
 use Rattle.byte_code.specs.Numbers.{word_of}
 use Rattle.abi_image.specs.declared.draft.Draft.{Draft}
 use Rattle.abi_image.specs.declared.TheConstants.{BASE}
-use Rattle.abi_image.specs.invariants.Drafts.{Puts, WordsStandAt, record_words, thunk_words}
+use Rattle.abi_image.specs.invariants.Drafts.{AddsRecord, Puts, WordsStandAt, record_words, thunk_words}
 use Rattle.abi_image.proofs.Filling.{stands_back}
 
 -- the word of a number in a list
@@ -68,14 +68,15 @@ entry_stands image codes records_at place slot code old new f kind this adjusted
     runs f kind this adjusted place code r.thunk (omega arith) there coded small r.first r.second r.has
 
 -- one word is put, and records behind the others
-pub puts_table_word : (a b : Draft) (w : ℕ) (Says : Image → ℕ → Type 0) → b.words.items ≡ a.words.items ++ w ∷ [] → ((more : List ℕ) × (b.records.items ≡ a.records.items ++ more)) → b.records_at ≡ a.records_at →
+pub puts_table_word : (a b : Draft) (w : ℕ) (Says : Image → ℕ → Type 0) → b.words.items ≡ a.words.items ++ w ∷ [] → AddsRecord a.records.items b.records.items → b.records_at ≡ a.records_at →
     ((image : Image) (at : ℕ) → WordsStandAt image a.records_at b.records.items → image at ≡ Some w → Says image at) → Puts a b 1 Says
 puts_table_word a b w Says words records place says = record {
   words = w ∷ [];
   count_is = refl;
   words_are = words;
-  records = records.0;
-  records_are = records.1;
+  records = records.more;
+  records_are = records.is;
+  few = records.few;
   same_place = place;
   says = λ image inside.
       let all : WordsStandAt image BASE (a.words.items ++ w ∷ []) = subst (λ ws. WordsStandAt image BASE ws) words inside.words in

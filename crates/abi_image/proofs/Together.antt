@@ -1,4 +1,4 @@
-use Rattle.std.proofs.Common.{◌≡◌, ℕ, zero, suc, ◌+◌, ◌*◌, ◌<◌, ◌≤◌, Some, List, [], ◌∷◌, map, length, refl, ap, sym, ◌∙◌, subst, arith}
+use Rattle.std.proofs.Common.{◌≡◌, ℕ, zero, suc, ◌+◌, ◌*◌, ◌<◌, ◌≤◌, ◌^◌, Some, List, [], ◌∷◌, map, length, refl, ap, sym, ◌∙◌, subst, arith, length-append}
 use Rattle.std.specs.List.{slice_get, slice_index_or}
 use Rattle.std.proofs.lemmas.Option.{slice_get_within}
 use Rattle.abi_slots.specs.declared.code_numbers.CodeRow.{CodeRow}
@@ -10,10 +10,12 @@ use Rattle.abi_image.specs.declared.TheConstants.{BASE}
 use Rattle.abi_image.specs.declared.draft.Draft.{Draft}
 use Rattle.abi_image.specs.declared.parts.Parts.{Parts}
 use Rattle.abi_image.specs.declared.regions.Region.{Region}
+use Rattle.abi_image.specs.Conditions.{words_in_image}
 use Rattle.abi_image.specs.invariants.Drafts.{AllAt, AllBySize, HaveClassWords, Puts, address_in, address_of, class_address, group_size, info_size, sum_of_sizes, vtt_size}
 use Rattle.abi_image.specs.invariants.Parts.{AreAt, AreImageParts, IsDraftOf, addresses_of, IsRegion, groups_start, infos_start, vtts_start}
 use Rattle.abi_image.specs.invariants.Points.{AreFirstPoints, AreGroupPoints, HasPointAt}
 use Rattle.abi_image.proofs.Filling.{length_after, puts_both}
+use Rattle.abi_image.proofs.Rooms.{four_each, words_by_parts}
 use Rattle.cxx_hierarchy.specs.Classes.{class_by_number}
 
 length_map : {A : Type 0} (f : A → ℕ) (xs : List A) → length (map f xs) ≡ length xs
@@ -43,7 +45,7 @@ lies_below size (y ∷ xs) at zero x there = let same : size y ≡ size x = ap s
 lies_below size (y ∷ xs) at (suc i) x there = let more = lies_below size xs (at + 8 * size y) i x there in omega arith
 
 -- so does each at the addresses of a list
-in_region : {A : Type 0} (size : A → ℕ) (xs : List A) (start : ℕ) (list : List ℕ) → AreAt start (map size xs) list → (i : ℕ) (x : A) → slice_get xs i ≡ Some x → address_in list i + 8 * size x ≤ start + 8 * sum_of_sizes (map size xs)
+pub in_region : {A : Type 0} (size : A → ℕ) (xs : List A) (start : ℕ) (list : List ℕ) → AreAt start (map size xs) list → (i : ℕ) (x : A) → slice_get xs i ≡ Some x → address_in list i + 8 * size x ≤ start + 8 * sum_of_sizes (map size xs)
 in_region size xs start list are i x there =
     let l : length (map size xs) ≡ length xs = length_map size xs in
     let b : i < length xs = slice_get_within xs i x there in
@@ -74,13 +76,13 @@ parts_below groups vtts infos parts are =
     }
 
 -- what was put for all parts is what the image has
-pub together : (codes : List CodeRow) (groups : List Group) (vtts : List (List VttWord)) (infos : List TypeInfo) (parts : Parts) (a b c d e : Draft) → AreImageParts groups vtts infos parts → a.words.items ≡ [] → a.records_at ≡ parts.infos.end →
+pub together : (codes : List CodeRow) (groups : List Group) (vtts : List (List VttWord)) (infos : List TypeInfo) (parts : Parts) (a b c d e : Draft) → length vtts ≡ length infos → words_in_image groups vtts infos < 2 ^ 32 → AreImageParts groups vtts infos parts → a.words.items ≡ [] → a.records.items ≡ [] → a.records_at ≡ parts.infos.end →
     Puts a b (2 * length vtts) (λ image at. HaveClassWords image parts.firsts.items parts.vtts.at.items vtts at) →
     Puts b c (sum_of_sizes (map group_size groups)) (λ image at. AllBySize group_size (λ i group there. StandsAt image codes (class_address parts.infos.at.items) group there) groups at) →
     Puts c d (sum_of_sizes (map vtt_size vtts)) (λ image at. AllBySize vtt_size (λ i vtt there. AllAt (HasPointAt image groups (address_in parts.groups.at.items)) vtt there) vtts at) →
     Puts d e (sum_of_sizes (map info_size infos)) (λ image at. AllBySize info_size (λ i info there. HasInfo image (class_address parts.infos.at.items) (class_by_number i) info there) infos at) →
     IsDraftOf codes groups vtts infos parts e
-together codes groups vtts infos parts a b c d e are nothing_yet place first second third fourth =
+together codes groups vtts infos parts a b c d e items few are nothing_yet no_record place first second third fourth =
     let m1 : ℕ = 2 * length vtts in
     let m2 : ℕ = sum_of_sizes (map group_size groups) in
     let m3 : ℕ = sum_of_sizes (map vtt_size vtts) in
@@ -97,6 +99,13 @@ together codes groups vtts infos parts a b c d e are nothing_yet place first sec
     let all = puts_both a d e (m1 + m2 + m3) m4 _ (λ image at. AllBySize info_size (λ i info there. HasInfo image (class_address parts.infos.at.items) (class_by_number i) info there) infos at) two fourth in
     record {
       place = omega arith;
+      small =
+          let none : length a.records.items ≡ 0 = ap length no_record in
+          let many : length e.records.items ≡ length a.records.items + length all.records = ap length all.records_are ∙ length-append a.records.items all.records in
+          let six : length all.records ≤ 6 * (m1 + m2 + m3 + m4) = all.few in
+          let by_parts = words_by_parts groups vtts infos in
+          let four = four_each infos in
+          omega (arith, empty, l1, l2, l3, l4, none, many, six, by_parts, four, items, few);
       says = λ image inside.
           let h = all.says image inside in
           let at : ℕ = BASE + 8 * length a.words.items in

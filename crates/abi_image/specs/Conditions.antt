@@ -1,5 +1,6 @@
 -- What groups, VTTs and type information have to keep so that an image can be made of them (Itanium C++ ABI 2.5.2, 2.6.2, 2.9.5).
-use Rattle.std.specs.Prelude.{◌≡◌, ℕ, ◌<◌, ◌≤◌, Some, List, length, slice_get}
+use Rattle.std.specs.Prelude.{◌≡◌, ℕ, ◌+◌, ◌*◌, ◌<◌, ◌≤◌, Some, List, length, slice_get}
+use Rattle.std.specs.List.{sum_by}
 use Rattle.abi_slots.specs.declared.code_numbers.CodeRow.{CodeRow}
 use Rattle.abi_slots.specs.declared.words.EntryWord.{EntryWord}
 use Rattle.abi_slots.specs.declared.words.EntryWord.TheVariants.{Unused, Pure, Code}
@@ -12,7 +13,7 @@ use Rattle.abi_slots.specs.declared.words.VttWord.{VttWord}
 use Rattle.abi_slots.specs.declared.words.InfoBase.{InfoBase}
 use Rattle.abi_slots.specs.declared.words.TypeInfo.{TypeInfo}
 use Rattle.abi_slots.specs.CodeRows.{code_of, block_kind}
-use Rattle.abi_slots.specs.Images.{info_bases}
+use Rattle.abi_slots.specs.Images.{all_words, info_bases}
 
 -- a table of the group with a name
 pub record HasTable (groups : List Group) (name : GroupName) (table : ℕ) : Type 0 where
@@ -67,3 +68,8 @@ AreKnownBases n bases = (i : ℕ) (base : InfoBase) → slice_get bases i ≡ So
 
 abbrev pub AreKnownInfos : ℕ → List TypeInfo → Type 0
 AreKnownInfos n infos = (c : ℕ) (info : TypeInfo) → slice_get infos c ≡ Some info → AreKnownBases n (info_bases info)
+
+-- the words of all tables and VTTs, and of the records of classes: four, and two for each base
+abbrev pub words_in_image : List Group → List (List VttWord) → List TypeInfo → ℕ
+words_in_image groups vtts infos =
+    sum_by (λ (group : Group). length (all_words group.tables)) groups + sum_by (λ (words : List VttWord). length words) vtts + sum_by (λ (info : TypeInfo). 4 + 2 * length (info_bases info)) infos

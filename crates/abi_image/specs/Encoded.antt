@@ -1,5 +1,5 @@
 -- What the image of groups, VTTs and type information has.
-use Rattle.std.specs.Prelude.{◌≡◌, ℕ, ◌+◌, List, [], ◌∷◌, ◌++◌}
+use Rattle.std.specs.Prelude.{◌≡◌, ℕ, ◌+◌, ◌<◌, ◌^◌, List, [], ◌∷◌, ◌++◌, length}
 use Rattle.byte_code.specs.Images.{word_at}
 use Rattle.abi_slots.specs.declared.code_numbers.CodeRow.{CodeRow}
 use Rattle.abi_slots.specs.declared.words.Table.{Table}
@@ -20,8 +20,9 @@ abbrev pub points_of : (ℕ → ℕ) → ℕ → List Group → List Point
 points_of group_at i [] = []
 points_of group_at i (group ∷ groups) = points_from (group_at i) group 0 group.tables ++ points_of group_at (i + 1) groups
 
--- the bytes have all tables at some addresses, and the points are their address points, in order
+-- the bytes have all tables at some addresses and end below 2 ^ 63, and the points are the address points of the tables, in order
 pub record IsImage (codes : List CodeRow) (groups : List Group) (vtts : List (List VttWord)) (infos : List TypeInfo) (image : Image) : Type 0 where
   pub addresses : Addresses
   pub tables : HasTables codes groups vtts infos addresses image.bytes.base (word_at image.bytes)
   pub points : image.points ≡ points_of addresses.group 0 groups
+  pub small : image.bytes.base + length image.bytes.bytes < 2 ^ 63

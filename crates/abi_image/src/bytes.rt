@@ -41,6 +41,7 @@ pub fn bytes_of(alloc: Global, draft: &Draft) -> Result<ImageBytes, NoMemory>
     requires { draft.now.records_at ≡ BASE + 8 * length draft.now.words.items }
     ensures base { IfOk result (λ image. image.base ≡ BASE) }
     ensures words { IfOk result (λ image. HasDraftWords (word_at image) draft.now) }
+    ensures size { IfOk result (λ image. length image.bytes ≡ 8 * (length draft.now.words.items + length draft.now.records.items)) }
 {
     let mut bytes = Vec::new(alloc);
     push_words(&mut bytes, &draft.words)?;

@@ -1,7 +1,7 @@
 //! The image of all tables.
 
-ghost use Rattle.std.specs.Prelude.{◌≡◌, IfOk, length};
-ghost use Rattle.abi_image.specs.Conditions.{AllNameTables, AreKnownGroups, AreKnownInfos, HaveOwnNames};
+ghost use Rattle.std.specs.Prelude.{◌≡◌, ◌<◌, ◌^◌, IfOk, length};
+ghost use Rattle.abi_image.specs.Conditions.{AllNameTables, AreKnownGroups, AreKnownInfos, HaveOwnNames, words_in_image};
 ghost use Rattle.abi_image.specs.Encoded.{IsImage};
 
 use crate::bytes::bytes_of;
@@ -28,6 +28,7 @@ pub fn encode(
     requires tables { AllNameTables groups.now vtts.now }
     requires groups { AreKnownGroups codes.now (length infos.now) groups.now }
     requires infos { AreKnownInfos (length infos.now) infos.now }
+    requires few { words_in_image groups.now vtts.now infos.now < 2 ^ 32 }
     ensures { IfOk result (IsImage codes.now groups.now vtts.now infos.now) }
 {
     let parts = parts_of(alloc, groups, vtts, infos)?;

@@ -1,11 +1,11 @@
 //! Entries, and the records of the code that they run.
 
-ghost use Rattle.std.specs.Prelude.{◌≡◌, ◌<◌, ◌+◌, ◌++◌, ℕ, List, Some, IfOk, OnOk};
+ghost use Rattle.std.specs.Prelude.{◌≡◌, ◌<◌, ◌+◌, ◌*◌, ◌^◌, ◌++◌, ℕ, Some, IfOk, OnOk, length};
 ghost use Rattle.abi_slots.specs.declared.words.EntryWord.TheVariants.{Code};
 ghost use Rattle.abi_slots.specs.CodeRows.{block_kind, code_of};
 ghost use Rattle.abi_slots.specs.Images.{Image, HasEntry};
 ghost use Rattle.abi_image.specs.Conditions.{HasCode};
-ghost use Rattle.abi_image.specs.invariants.Drafts.{WordsStandAt, thunk_words, record_words};
+ghost use Rattle.abi_image.specs.invariants.Drafts.{AddsRecord, WordsStandAt, thunk_words, record_words};
 
 use crate::numbers::{return_constant, return_vbase, this_constant, this_vcall, word_of};
 use crate::regions::behind;
@@ -48,6 +48,7 @@ fn push_record(
     this: Option<ThisAdjust>,
     adjusted: Option<ReturnAdjust>,
 ) -> Result<(), NoMemory>
+    requires { at + 16 < 2 ^ 64 }
     ensures { OnOk result (words.new.items ≡ words.old.items ++ record_words at code this adjusted) }
 {
     words.push(code as u64)?;
@@ -55,7 +56,7 @@ fn push_record(
         words.push(0)?;
         return Ok(());
     }
-    words.push(behind(at, 2)?)?;
+    words.push(behind(at, 2))?;
     push_thunk(words, this, adjusted)?;
     Ok(())
 }
@@ -72,12 +73,13 @@ fn code_word(
 ) -> Result<u64, NoMemory>
     requires code { (code : ℕ) × (code_of codes.now f (block_kind kind) ≡ Some code) }
     requires place { 0 < records_at }
-    ensures grows { OnOk result ((more : List ℕ) × (records.new.items ≡ records.old.items ++ more)) }
+    requires room { records_at + 8 * (length records.old.items + 6) < 2 ^ 64 }
+    ensures grows { OnOk result (AddsRecord records.old.items records.new.items) }
     ensures stands { IfOk result (λ word. (image : Image) (at : ℕ) → WordsStandAt image records_at records.new.items → image at ≡ Some word → HasEntry image codes.now at (Code f kind this adjusted)) }
 {
     match codes.code(f, block_kind(kind)) {
         Some(code) => {
-            let at = behind(records_at, records.len())?;
+            let at = behind(records_at, records.len());
             push_record(records, at, code, this, adjusted)?;
             Ok(at)
         }
@@ -96,7 +98,8 @@ pub fn entry_word(
 ) -> Result<u64, NoMemory>
     requires code { HasCode codes.now entry.now }
     requires place { 0 < records_at }
-    ensures grows { OnOk result ((more : List ℕ) × (records.new.items ≡ records.old.items ++ more)) }
+    requires room { records_at + 8 * (length records.old.items + 6) < 2 ^ 64 }
+    ensures grows { OnOk result (AddsRecord records.old.items records.new.items) }
     ensures stands { IfOk result (λ word. (image : Image) (at : ℕ) → WordsStandAt image records_at records.new.items → image at ≡ Some word → HasEntry image codes.now at entry.now) }
 {
     match *entry {

@@ -5,7 +5,7 @@ ghost use Rattle.abi_slots.specs.declared.words.InfoBase.{InfoBase};
 ghost use Rattle.abi_slots.specs.Images.{HasBaseWords, HasInfo, info_bases, info_flags};
 ghost use Rattle.abi_image.specs.Conditions.{AreKnownBases, AreKnownInfos};
 ghost use Rattle.abi_image.specs.declared.TheConstants.{BASE};
-ghost use Rattle.abi_image.specs.invariants.Drafts.{AllBySize, Puts, HasBasesAt, HasHead, class_address, first_base_address, info_size, sum_of_sizes};
+ghost use Rattle.abi_image.specs.invariants.Drafts.{AllBySize, Puts, HasBasesAt, HasHead, HasWordRoom, class_address, first_base_address, info_size, sum_of_sizes};
 ghost use Rattle.cxx_hierarchy.specs.Classes.{class_by_number};
 
 use crate::BASE;
@@ -67,22 +67,22 @@ fn push_bases(draft: &mut Draft, infos: &[u64], info: &TypeInfo) -> Result<(), N
 }
 
 /// The address behind the four words of a record that stands at an address, or 0 where no base stands there.
-fn first_base(at: u64, bases: usize) -> Result<u64, NoMemory>
-    ensures { IfOk result (λ first. first ≡ first_base_address at bases) }
+fn first_base(at: u64, bases: usize) -> u64
+    requires { at + 32 < 2 ^ 64 }
+    ensures { result ≡ first_base_address at bases }
 {
-    if bases == 0 { Ok(0) } else { behind(at, 4) }
+    if bases == 0 { 0 } else { behind(at, 4) }
 }
 
 /// Puts the four words of a class's record behind others.
 fn push_head(draft: &mut Draft, c: u32, info: &TypeInfo) -> Result<(), NoMemory>
+    requires few { length (info_bases info.now) < 2 ^ 32 }
+    requires room { HasWordRoom draft.old 4 }
     ensures { OnOk result (Puts draft.old draft.new 4 (λ image at. HasHead image (class_by_number c) info.now at)) }
 {
-    let at = behind(BASE, draft.words.len())?;
+    let at = behind(BASE, draft.words.len());
     let bases = base_count(info);
-    if bases > u32::MAX as usize {
-        return Err(NoMemory);
-    }
-    let first = first_base(at, bases)?;
+    let first = first_base(at, bases);
     draft.push(c as u64)?;
     draft.push(info_flags(info) as u64)?;
     draft.push(bases as u64)?;
@@ -92,7 +92,9 @@ fn push_head(draft: &mut Draft, c: u32, info: &TypeInfo) -> Result<(), NoMemory>
 
 /// Puts the record of a class and its bases behind others.
 fn push_info(draft: &mut Draft, infos: &[u64], c: u32, info: &TypeInfo) -> Result<(), NoMemory>
-    requires { AreKnownBases (length infos.now) (info_bases info.now) }
+    requires bases { AreKnownBases (length infos.now) (info_bases info.now) }
+    requires few { info_size info.now < 2 ^ 32 }
+    requires room { HasWordRoom draft.old (info_size info.now) }
     ensures { OnOk result (Puts draft.old draft.new (info_size info.now) (λ image at. HasInfo image (class_address infos.now) (class_by_number c) info.now at)) }
 {
     push_head(draft, c, info)?;
@@ -102,15 +104,14 @@ fn push_info(draft: &mut Draft, infos: &[u64], c: u32, info: &TypeInfo) -> Resul
 
 /// Puts the records of all classes behind others, each with its bases.
 ///
-/// Errors: want of memory, also where there are more classes than numbers for them.
+/// Errors: want of memory.
 pub fn push_infos(draft: &mut Draft, infos_at: &[u64], infos: &[TypeInfo]) -> Result<(), NoMemory>
-    requires { AreKnownInfos (length infos_at.now) infos.now }
+    requires bases { AreKnownInfos (length infos_at.now) infos.now }
+    requires few { sum_of_sizes (map info_size infos.now) < 2 ^ 32 }
+    requires room { HasWordRoom draft.old (sum_of_sizes (map info_size infos.now)) }
     ensures { OnOk result (Puts draft.old draft.new (sum_of_sizes (map info_size infos.now)) (λ image at. AllBySize info_size (λ c info there. HasInfo image (class_address infos_at.now) (class_by_number c) info there) infos.now at)) }
 {
     for (c, info) in infos.iter().enumerate() {
-        if c > u32::MAX as usize {
-            return Err(NoMemory);
-        }
         push_info(draft, infos_at, c as u32, info)?;
     }
     Ok(())

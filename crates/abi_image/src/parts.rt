@@ -1,7 +1,7 @@
 //! Where the parts of an image stand, and what stands there.
 
-ghost use Rattle.std.specs.Prelude.{◌≡◌, IfOk, length};
-ghost use Rattle.abi_image.specs.Conditions.{AllNameTables, AreKnownGroups, AreKnownInfos, HaveOwnNames};
+ghost use Rattle.std.specs.Prelude.{◌≡◌, ◌<◌, ◌^◌, IfOk, length};
+ghost use Rattle.abi_image.specs.Conditions.{AllNameTables, AreKnownGroups, AreKnownInfos, HaveOwnNames, words_in_image};
 ghost use Rattle.abi_image.specs.invariants.Parts.{AreImageParts, IsDraftOf};
 
 use crate::BASE;
@@ -34,10 +34,12 @@ pub fn parts_of(
     vtts: &[VttList],
     infos: &[TypeInfo],
 ) -> Result<Parts, NoMemory>
+    requires items { length vtts.now ≡ length infos.now }
+    requires few { words_in_image groups.now vtts.now infos.now < 2 ^ 32 }
     ensures { IfOk result (AreImageParts groups.now vtts.now infos.now) }
 {
-    let half = behind(BASE, vtts.len())?;
-    let start = behind(half, vtts.len())?;
+    let half = behind(BASE, vtts.len());
+    let start = behind(half, vtts.len());
     let group_region = region_of(alloc, start, &group_sizes(alloc, groups)?)?;
     let vtt_region = region_of(alloc, group_region.end, &vtt_sizes(alloc, vtts)?)?;
     let info_region = region_of(alloc, vtt_region.end, &info_sizes(alloc, infos)?)?;
@@ -67,6 +69,7 @@ pub fn draft_of(
     requires tables { AllNameTables groups.now vtts.now }
     requires groups { AreKnownGroups codes.now (length infos.now) groups.now }
     requires infos { AreKnownInfos (length infos.now) infos.now }
+    requires few { words_in_image groups.now vtts.now infos.now < 2 ^ 32 }
     requires parts { AreImageParts groups.now vtts.now infos.now parts.now }
     ensures { IfOk result (IsDraftOf codes.now groups.now vtts.now infos.now parts.now) }
 {

@@ -1,10 +1,10 @@
 //! Address points.
 
-ghost use Rattle.std.specs.Prelude.{◌≡◌, ◌++◌, ℕ, IfOk, List, OnOk, length};
-ghost use Rattle.abi_slots.specs.Images.{point_at};
+ghost use Rattle.std.specs.Prelude.{◌≡◌, ◌<◌, ◌+◌, ◌*◌, ◌^◌, ◌++◌, ℕ, IfOk, List, OnOk, length};
+ghost use Rattle.abi_slots.specs.Images.{all_words, point_at};
 ghost use Rattle.abi_image.specs.Encoded.{points_from, points_of};
 ghost use Rattle.abi_image.specs.invariants.Drafts.{address_in};
-ghost use Rattle.abi_image.specs.invariants.Points.{ArePointsOf, AreGroupPoints};
+ghost use Rattle.abi_image.specs.invariants.Points.{ArePointsOf, AreGroupPoints, HaveGroupRoom};
 
 use crate::image::{Point, PointList};
 use crate::regions::behind;
@@ -18,13 +18,14 @@ pub type AddressList = Sequence<u64>;
 
 /// The address points of tables that stand one after the other from an address on.
 fn points_of_tables(alloc: Global, at: u64, tables: &[Table]) -> Result<AddressList, NoMemory>
+    requires { at + 8 * length (all_words tables.now) < 2 ^ 63 }
     ensures { IfOk result (ArePointsOf at tables.now) }
 {
     let mut points = Sequence::new(alloc);
     let mut here = at;
     for table in tables {
-        points.push(behind(here, table.before as usize)?)?;
-        here = behind(here, table.words.len())?;
+        points.push(behind(here, table.before as usize))?;
+        here = behind(here, table.words.len());
     }
     Ok(points)
 }
@@ -35,7 +36,8 @@ pub fn points_of_groups(
     groups: &[Group],
     group_at: &[u64],
 ) -> Result<Vec<AddressList>, NoMemory>
-    requires { length group_at.now ≡ length groups.now }
+    requires size { length group_at.now ≡ length groups.now }
+    requires room { HaveGroupRoom groups.now group_at.now }
     ensures { IfOk result (λ points. AreGroupPoints groups.now group_at.now points.items) }
 {
     let mut points = Vec::new(alloc);

@@ -1,9 +1,9 @@
 //! Where the parts of an image stand.
 
-ghost use Rattle.std.specs.Prelude.{◌≡◌, ◌≤◌, ◌+◌, ◌*◌, IfOk, length, map};
+ghost use Rattle.std.specs.Prelude.{◌≡◌, ◌<◌, ◌≤◌, ◌+◌, ◌*◌, ◌^◌, IfOk, length, map};
 ghost use Rattle.abi_slots.specs.Images.{all_words, info_bases};
 ghost use Rattle.abi_image.specs.declared.TheConstants.{BASE};
-ghost use Rattle.abi_image.specs.invariants.Drafts.{group_size, vtt_size, info_size};
+ghost use Rattle.abi_image.specs.invariants.Drafts.{group_size, vtt_size, info_size, sum_of_sizes};
 ghost use Rattle.abi_image.specs.invariants.Parts.{IsRegion};
 
 use abi_slots::{Group, Table, TypeInfo, VttList};
@@ -18,63 +18,48 @@ pub struct Region {
 }
 
 /// The address behind so many words.
-///
-/// Errors: want of memory, where no address is so high.
-pub fn behind(at: u64, words: usize) -> Result<u64, NoMemory>
-    ensures { IfOk result (λ there. there ≡ at + 8 * words) }
+pub fn behind(at: u64, words: usize) -> u64
+    requires { at + 8 * words < 2 ^ 64 }
+    ensures { result ≡ at + 8 * words }
 {
-    let there = at as u128 + 8 * words as u128;
-    if there < 0x1_0000_0000_0000_0000 {
-        Ok(there as u64)
-    } else {
-        Err(NoMemory)
-    }
+    at + 8 * words as u64
 }
 
 /// Where things that take so many words each stand, one after the other.
 pub fn region_of(alloc: Global, start: u64, sizes: &[usize]) -> Result<Region, NoMemory>
-    requires { BASE ≤ start }
+    requires low { BASE ≤ start }
+    requires room { start + 8 * sum_of_sizes sizes.now < 2 ^ 64 }
     ensures { IfOk result (IsRegion start sizes.now) }
 {
     let mut at = Vec::new(alloc);
     let mut end = start;
     for size in sizes {
         at.push(end)?;
-        end = behind(end, *size)?;
+        end = behind(end, *size);
     }
     Ok(Region { at, end })
 }
 
-/// The sum of two numbers of words.
-///
-/// Errors: want of memory, where it is too large.
-fn add(one: usize, other: usize) -> Result<usize, NoMemory>
-    ensures { IfOk result (λ all. all ≡ one + other) }
-{
-    match one.checked_add(other) {
-        Some(all) => Ok(all),
-        None => Err(NoMemory),
-    }
-}
-
 /// The number of words of tables.
-fn words_in(tables: &[Table]) -> Result<usize, NoMemory>
-    ensures { IfOk result (λ n. n ≡ length (all_words tables.now)) }
+fn words_in(tables: &[Table]) -> usize
+    requires { length (all_words tables.now) < 2 ^ 32 }
+    ensures { result ≡ length (all_words tables.now) }
 {
     let mut words = 0;
     for table in tables {
-        words = add(words, table.words.len())?;
+        words += table.words.len();
     }
-    Ok(words)
+    words
 }
 
 /// How many words each group takes.
 pub fn group_sizes(alloc: Global, groups: &[Group]) -> Result<Vec<usize>, NoMemory>
+    requires { sum_of_sizes (map group_size groups.now) < 2 ^ 32 }
     ensures { IfOk result (λ sizes. sizes.items ≡ map group_size groups.now) }
 {
     let mut sizes = Vec::new(alloc);
     for group in groups {
-        sizes.push(words_in(group.tables.as_slice())?)?;
+        sizes.push(words_in(group.tables.as_slice()))?;
     }
     Ok(sizes)
 }
@@ -102,21 +87,21 @@ pub fn base_count(info: &TypeInfo) -> usize
 }
 
 /// How many words the record of a class takes.
-fn info_size(info: &TypeInfo) -> Result<usize, NoMemory>
-    ensures { IfOk result (λ n. n ≡ info_size info.now) }
+fn info_size(info: &TypeInfo) -> usize
+    requires { info_size info.now < 2 ^ 32 }
+    ensures { result ≡ info_size info.now }
 {
-    let bases = base_count(info);
-    let words = add(bases, bases)?;
-    add(4, words)
+    4 + 2 * base_count(info)
 }
 
 /// How many words the record of each class takes.
 pub fn info_sizes(alloc: Global, infos: &[TypeInfo]) -> Result<Vec<usize>, NoMemory>
+    requires { sum_of_sizes (map info_size infos.now) < 2 ^ 32 }
     ensures { IfOk result (λ sizes. sizes.items ≡ map info_size infos.now) }
 {
     let mut sizes = Vec::new(alloc);
     for info in infos {
-        sizes.push(info_size(info)?)?;
+        sizes.push(info_size(info))?;
     }
     Ok(sizes)
 }

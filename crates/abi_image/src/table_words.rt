@@ -1,9 +1,9 @@
 //! The words of tables.
 
-ghost use Rattle.std.specs.Prelude.{◌≡◌, ◌<◌, ◌≤◌, ◌+◌, ◌++◌, ℕ, List, Some, IfOk, OnOk, length, map};
+ghost use Rattle.std.specs.Prelude.{◌≡◌, ◌<◌, ◌≤◌, ◌+◌, ◌*◌, ◌^◌, ℕ, Some, IfOk, OnOk, length, map};
 ghost use Rattle.abi_slots.specs.Images.{Image, HasWord, StandsAt, all_words};
 ghost use Rattle.abi_image.specs.Conditions.{IsKnownWord, AreKnownWords, AreKnownTables, AreKnownGroups};
-ghost use Rattle.abi_image.specs.invariants.Drafts.{AllAt, AllBySize, Puts, WordsStandAt, class_address, group_size, sum_of_sizes};
+ghost use Rattle.abi_image.specs.invariants.Drafts.{AddsRecord, AllAt, AllBySize, HasRecordRoom, Puts, WordsStandAt, class_address, group_size, sum_of_sizes};
 
 use crate::draft::Draft;
 use crate::entries::entry_word;
@@ -21,7 +21,8 @@ fn table_word(
 ) -> Result<u64, NoMemory>
     requires known { IsKnownWord codes.now (length infos.now) word.now }
     requires place { 0 < records_at }
-    ensures grows { OnOk result ((more : List ℕ) × (records.new.items ≡ records.old.items ++ more)) }
+    requires room { records_at + 8 * (length records.old.items + 6) < 2 ^ 64 }
+    ensures grows { OnOk result (AddsRecord records.old.items records.new.items) }
     ensures stands { IfOk result (λ number. (image : Image) (at : ℕ) → WordsStandAt image records_at records.new.items → image at ≡ Some number → HasWord image codes.now (class_address infos.now) at word.now) }
 {
     match word {
@@ -42,6 +43,7 @@ fn push_word(
 ) -> Result<(), NoMemory>
     requires known { IsKnownWord codes.now (length infos.now) word.now }
     requires place { 0 < draft.old.records_at }
+    requires room { HasRecordRoom draft.old 1 }
     ensures { OnOk result (Puts draft.old draft.new 1 (λ image at. HasWord image codes.now (class_address infos.now) at word.now)) }
 {
     let number = table_word(&mut draft.records, draft.records_at, codes, infos, word)?;
@@ -58,6 +60,7 @@ fn push_words(
 ) -> Result<(), NoMemory>
     requires known { AreKnownWords codes.now (length infos.now) words.now }
     requires place { 0 < draft.old.records_at }
+    requires room { HasRecordRoom draft.old (length words.now) }
     ensures { OnOk result (Puts draft.old draft.new (length words.now) (λ image at. AllAt (HasWord image codes.now (class_address infos.now)) words.now at)) }
 {
     for word in words {
@@ -75,6 +78,7 @@ fn push_tables(
 ) -> Result<(), NoMemory>
     requires known { AreKnownTables codes.now (length infos.now) tables.now }
     requires place { 0 < draft.old.records_at }
+    requires room { HasRecordRoom draft.old (length (all_words tables.now)) }
     ensures { OnOk result (Puts draft.old draft.new (length (all_words tables.now)) (λ image at. AllAt (HasWord image codes.now (class_address infos.now)) (all_words tables.now) at)) }
 {
     for table in tables {
@@ -94,6 +98,7 @@ pub fn push_groups(
 ) -> Result<(), NoMemory>
     requires known { AreKnownGroups codes.now (length infos.now) groups.now }
     requires place { 0 < draft.old.records_at }
+    requires room { HasRecordRoom draft.old (sum_of_sizes (map group_size groups.now)) }
     ensures { OnOk result (Puts draft.old draft.new (sum_of_sizes (map group_size groups.now)) (λ image at. AllBySize group_size (λ i group there. StandsAt image codes.now (class_address infos.now) group there) groups.now at)) }
 {
     for group in groups {

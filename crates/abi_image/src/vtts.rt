@@ -4,7 +4,7 @@ ghost use Rattle.std.specs.Prelude.{◌≡◌, ◌<◌, ℕ, Some, IfOk, OnOk, l
 ghost use Rattle.abi_slots.specs.Images.{IsPoint};
 ghost use Rattle.abi_image.specs.Conditions.{HaveOwnNames, HasTable, NameTables, AllNameTables};
 ghost use Rattle.abi_image.specs.invariants.Drafts.{AllAt, AllBySize, Puts, address_in, vtt_size, sum_of_sizes};
-ghost use Rattle.abi_image.specs.invariants.Points.{AreGroupPoints, HasPointAt};
+ghost use Rattle.abi_image.specs.invariants.Points.{AreGroupPoints, HasPointAt, HaveGroupRoom};
 
 use crate::draft::Draft;
 use crate::finding::{Guesses, find_group, guess_numbers};
@@ -25,7 +25,8 @@ pub struct GroupPlaces {
 ///
 /// Errors: want of memory.
 pub fn group_places(alloc: Global, groups: &[Group], at: Vec<u64>) -> Result<GroupPlaces, NoMemory>
-    requires { length at.items ≡ length groups.now }
+    requires size { length at.items ≡ length groups.now }
+    requires room { HaveGroupRoom groups.now at.items }
     ensures at { IfOk result (λ places. places.at.items ≡ at.items) }
     ensures points { IfOk result (λ places. AreGroupPoints groups.now places.at.items places.points.items) }
 {

@@ -97,6 +97,13 @@ one_each h (Fixed text ∷ rows) values fits = let ih = one_each h rows values f
 one_each h (Leaf x ∷ rows) [] fits = absurd fits
 one_each h (Leaf x ∷ rows) (v ∷ values) fits = let ih = one_each h rows values fits.1 in omega (arith, ih)
 
+-- no more lines are read than rows have
+pub stopped_inside : (h : Classes) (rows : List Row) (text : List ℕ) (lines : ℕ) → IsStopped h rows text lines → lines ≤ length rows
+stopped_inside h rows text lines stopped =
+    let many = one_each h rows stopped.values stopped.before.fits in
+    let enough = stopped.before.enough in
+    omega (arith, many, enough)
+
 -- the first of the lines of rows
 pub record HasFirst (h : Classes) (row : Row) (rows : List Row) (values : List SeenValue) : Type 0 where
   pub line : List ℕ

@@ -23,19 +23,6 @@ use cxx_hierarchy::{ClassId, Hierarchy};
 use foundation::{NoMemory, Sequence};
 use std::alloc::Global;
 
-/// The fault in the line behind so many lines that are right, of those behind the first.
-fn fault_behind(lines: usize) -> InspectFault
-    ensures { (result ≡ InspectFault.Form (lines + 2)) ⊎ (result ≡ InspectFault.NoMemory) }
-{
-    match u32::try_from(lines) {
-        Ok(lines) => match lines.checked_add(2) {
-            Some(line) => InspectFault::Form(line),
-            None => InspectFault::NoMemory,
-        },
-        Err(_) => InspectFault::NoMemory,
-    }
-}
-
 /// The fault of a first line that names no class of the hierarchy.
 fn unknown_fault(line: &FirstLine) -> InspectFault
     ensures { ((result ≡ InspectFault.UnknownClass) × AreFormed line.now.number.now line.now.name.now line.now.size.now) ⊎ ((result ≡ InspectFault.Form 1) × (AreFormed line.now.number.now line.now.name.now line.now.size.now → ⊥)) }
@@ -67,7 +54,7 @@ fn inspect_rows<L: SoundLayout>(
             class: c,
             leaves: Sequence::from_vec(values),
         }),
-        RowsRead::Fault(lines) => Err(fault_behind(lines)),
+        RowsRead::Fault(lines) => Err(InspectFault::Form(lines + 2)),
     }
 }
 

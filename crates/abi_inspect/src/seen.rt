@@ -31,7 +31,7 @@ pub enum InspectFault {
     UnknownClass,
     /// No values have this text. The number is that of the first line that begins no dump, or of the line after the last where lines
     /// are missing. Lines count from 1.
-    Form(u32),
+    Form(usize),
     /// Memory is used up.
     NoMemory,
 }

@@ -9,5 +9,5 @@ mod HeadSums
 pub mod VttSums
 pub mod NumberLemmas
 pub mod ViewLemmas
-mod TableLengths
+pub mod TableLengths
 mod CheckLemmas

@@ -19,7 +19,7 @@ use Rattle.abi_tables.specs.Counts.{words_of_class, table_words, group_words}
 along_rest : {A B : Type 0} (R : A → B → Type 0) (x : A) (xs : List A) (y : B) (ys : List B) → GoAlong R (x ∷ xs) (y ∷ ys) → GoAlong R xs ys
 along_rest R x xs y ys along = record { size = (let s = along.size in omega arith); each = λ i a b p q. along.each (suc i) a b p q }
 
-along_sum : {A B : Type 0} (R : A → B → Type 0) (f : A → ℕ) (g : B → ℕ) → ((a : A) (b : B) → R a b → g b ≡ f a) → (xs : List A) (ys : List B) → GoAlong R xs ys → sum_by g ys ≡ sum_by f xs
+pub along_sum : {A B : Type 0} (R : A → B → Type 0) (f : A → ℕ) (g : B → ℕ) → ((a : A) (b : B) → R a b → g b ≡ f a) → (xs : List A) (ys : List B) → GoAlong R xs ys → sum_by g ys ≡ sum_by f xs
 along_sum R f g same [] [] along = refl
 along_sum R f g same [] (y ∷ ys) along = absurd (let s = along.size in omega arith)
 along_sum R f g same (x ∷ xs) [] along = absurd (let s = along.size in omega arith)

@@ -4,3 +4,4 @@ pub mod Codes
 pub mod Known
 pub mod Infos
 pub mod Worlds
+pub mod ImageWords

@@ -1,10 +1,11 @@
 //! The image of the tables of all classes.
 
-ghost use Rattle.std.specs.Prelude.{◌≡◌, ◌<◌, ◌+◌, ◌^◌, true, IfOk, length};
+ghost use Rattle.std.specs.Prelude.{◌≤◌, IfOk};
 ghost use Rattle.cxx_overrider.specs.Overriders.{AreOverriders};
 ghost use Rattle.cxx_program.specs.Typed.{IsTypedProgram};
 ghost use Rattle.abi_sound.specs.Places.{places_of};
 ghost use Rattle.abi_slots.specs.Slots.{AreSlots};
+ghost use Rattle.abi_tables.specs.Counts.{words_of_all_classes, most_words};
 ghost use Rattle.code_ops.specs.Setups.{setup};
 ghost use Rattle.abi_world.specs.Made.{HaveCodeNumbers, HasImage};
 
@@ -18,16 +19,6 @@ use cxx_overrider::Overriders;
 use cxx_program::TypedProgram;
 use foundation::NoMemory;
 use std::alloc::Global;
-
-/// An address that no byte of an image reaches: no memory has so many bytes.
-const END: u64 = 1 << 48;
-
-/// Whether all bytes of an image lie below `END`.
-fn is_small(image: &ImageBytes) -> bool
-    ensures { result ≡ true → image.now.base + length image.now.bytes < 2 ^ 63 }
-{
-    image.base < END && (image.bytes.len() as u64) < END
-}
 
 /// The image of the tables of all classes, whose entries run code of these numbers.
 ///
@@ -43,6 +34,7 @@ pub fn program_image<L: SoundLayout>(
 ) -> Result<ImageBytes, NoMemory>
     requires layout { L.lays_out layout.now h.now }
     requires overriders { AreOverriders h.now overriders.now }
+    requires words { words_of_all_classes h.now (places_of h.now (L.rows layout.now)) ≤ most_words }
     requires slots { AreSlots h.now (places_of h.now (L.rows layout.now)) slots.now }
     requires typed { IsTypedProgram h.now program.now }
     requires numbered { HaveCodeNumbers (setup h.now (L.rows layout.now) program.now) numbers.now }
@@ -52,8 +44,5 @@ pub fn program_image<L: SoundLayout>(
     let _program = program;
     let tables = program_tables(alloc, h, overriders, layout, slots)?;
     let image = encode(alloc, &tables.groups, &tables.vtts, &tables.infos, numbers)?;
-    if is_small(&image.bytes) {
-        return Ok(image.bytes);
-    }
-    Err(NoMemory)
+    Ok(image.bytes)
 }

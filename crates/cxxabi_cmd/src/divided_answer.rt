@@ -113,7 +113,7 @@ fn listing_refused(alloc: Global, stop: ListingStop) -> Result<Reply, NoMemory>
 {
     match stop {
         ListingStop::Bad(rule, line) => {
-            line_alone(alloc, Status::BadInput(listing_rule(rule), line))
+            line_alone(alloc, Status::BadInput(listing_rule(rule), line as usize))
         }
         ListingStop::NoMemory => Err(NoMemory),
     }

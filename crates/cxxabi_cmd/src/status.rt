@@ -55,7 +55,7 @@ pub enum Status {
     /// The source is refused by a rule at a byte.
     Refused(Rule, u32),
     /// What is given besides an accepted source is refused by a rule, at a line from 1 or at none, which is 0.
-    BadInput(InputRule, u32),
+    BadInput(InputRule, usize),
     /// The words are no command.
     Usage,
     /// A step of the run is refused: the number of the rule, and the line.
@@ -237,7 +237,7 @@ fn placed_line(
 }
 
 // The line that a refusal names, and nothing where it names none.
-fn line_part(alloc: Global, line: u32) -> Result<String, AllocError>
+fn line_part(alloc: Global, line: usize) -> Result<String, AllocError>
     ensures { IfOk result (λ text. string_bytes text ≡ line_part line) }
 {
     if line == 0 {
@@ -247,7 +247,7 @@ fn line_part(alloc: Global, line: u32) -> Result<String, AllocError>
 }
 
 // The line of a refusal of what is given besides a source.
-fn input_line(alloc: Global, rule: InputRule, line: u32) -> Result<String, AllocError>
+fn input_line(alloc: Global, rule: InputRule, line: usize) -> Result<String, AllocError>
     ensures { IfOk result (λ text. string_bytes text ≡ codes "refused " ++ input_no rule ++ codes " " ++ name_of_input rule ++ line_part line ++ 10 ∷ []) }
 {
     let mut text = String::from_str(alloc, "refused ")?;

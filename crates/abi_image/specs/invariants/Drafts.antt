@@ -1,5 +1,5 @@
 -- The words of an image while it is made.
-use Rattle.std.specs.Prelude.{◌≡◌, ℕ, zero, suc, ◌+◌, ◌*◌, ◌<◌, ◌^◌, Option, Some, None, List, [], ◌∷◌, ◌++◌, map, length, slice_get, slice_index_or, take}
+use Rattle.std.specs.Prelude.{◌≡◌, ℕ, zero, suc, ◌+◌, ◌*◌, ◌<◌, ◌≤◌, ◌^◌, Option, Some, None, List, [], ◌∷◌, ◌++◌, map, length, slice_get, slice_index_or, take}
 use Rattle.cxx_hierarchy.specs.declared.records.ClassId.{ClassId}
 use Rattle.byte_code.specs.Numbers.{word_of}
 use Rattle.abi_slots.specs.declared.words.ThisAdjust.{ThisAdjust}
@@ -47,14 +47,15 @@ pub record HasDraftWords (image : Image) (draft : Draft) : Type 0 where
   pub words : WordsStandAt image BASE draft.words.items
   pub records : WordsStandAt image draft.records_at draft.records.items
 
--- so many words are put behind those of a draft, and records behind its records; what is said of the address of the words then
--- holds of each image that has the new draft
+-- so many words are put behind those of a draft, and for each of them at most six words behind its records; what is said of the address
+-- of the words then holds of each image that has the new draft
 pub record Puts (old new : Draft) (count : ℕ) (Says : Image → ℕ → Type 0) : Type 0 where
   pub words : List ℕ
   pub count_is : length words ≡ count
   pub words_are : new.words.items ≡ old.words.items ++ words
   pub records : List ℕ
   pub records_are : new.records.items ≡ old.records.items ++ records
+  pub few : length records ≤ 6 * count
   pub same_place : new.records_at ≡ old.records_at
   pub says : (image : Image) → HasDraftWords image new → Says image (BASE + 8 * length old.words.items)
 
@@ -67,6 +68,20 @@ abbrev pub record_words : ℕ → ℕ → Option ThisAdjust → Option ReturnAdj
 record_words at code None None = code ∷ 0 ∷ []
 record_words at code (Some this) result = code ∷ (at + 16) ∷ thunk_words (Some this) result
 record_words at code None (Some result) = code ∷ (at + 16) ∷ thunk_words None (Some result)
+
+-- at most the words of one record are put behind others
+pub record AddsRecord (old new : List ℕ) : Type 0 where
+  pub more : List ℕ
+  pub few : length more ≤ 6
+  pub is : new ≡ old ++ more
+
+-- behind the records of a draft there are addresses for those of so many words more
+abbrev pub HasRecordRoom : Draft → ℕ → Type 0
+HasRecordRoom draft words = draft.records_at + 8 * (length draft.records.items + 6 * words) < 2 ^ 64
+
+-- and behind its words for so many words more
+abbrev pub HasWordRoom : Draft → ℕ → Type 0
+HasWordRoom draft words = BASE + 8 * (length draft.words.items + words) < 2 ^ 64
 
 -- the bases of a class, two words each
 abbrev pub HasBasesAt : Image → (info : ClassId → ℕ) → List InfoBase → ℕ → Type 0

@@ -1,5 +1,5 @@
 -- Where the parts of an image stand.
-use Rattle.std.specs.Prelude.{◌≡◌, ℕ, ◌+◌, ◌*◌, ◌<◌, ◌≤◌, List, map, length}
+use Rattle.std.specs.Prelude.{◌≡◌, ℕ, ◌+◌, ◌*◌, ◌<◌, ◌≤◌, ◌^◌, List, map, length}
 use Rattle.abi_slots.specs.declared.code_numbers.CodeRow.{CodeRow}
 use Rattle.abi_slots.specs.declared.words.Group.{Group}
 use Rattle.abi_slots.specs.declared.words.VttWord.{VttWord}
@@ -46,4 +46,5 @@ addresses_of parts = record { group = address_in parts.groups.at.items; vtt = cl
 -- an image that has the words of the draft has all tables at the places of the parts
 pub record IsDraftOf (codes : List CodeRow) (groups : List Group) (vtts : List (List VttWord)) (infos : List TypeInfo) (parts : Parts) (draft : Draft) : Type 0 where
   pub place : draft.records_at ≡ BASE + 8 * length draft.words.items
+  pub small : BASE + 8 * (length draft.words.items + length draft.records.items) < 2 ^ 63
   pub says : (image : Image) → HasDraftWords image draft → HasTables codes groups vtts infos (addresses_of parts) BASE image

@@ -1,5 +1,5 @@
 -- The address points of groups, by group and table.
-use Rattle.std.specs.Prelude.{◌≡◌, ℕ, ◌<◌, Bool, false, nat_eq, ◌&&◌, Some, List, [], ◌∷◌, length, slice_get, slice_index_or}
+use Rattle.std.specs.Prelude.{◌≡◌, ℕ, ◌+◌, ◌*◌, ◌<◌, ◌^◌, Bool, false, nat_eq, ◌&&◌, Some, List, [], ◌∷◌, length, slice_get, slice_index_or}
 use Rattle.cxx_hierarchy.specs.declared.records.ClassId.{ClassId}
 use Rattle.cxx_subobject.specs.declared.Root.{Root}
 use Rattle.cxx_subobject.specs.declared.Root.TheVariants.{Whole, Shared}
@@ -8,13 +8,17 @@ use Rattle.abi_slots.specs.declared.words.Table.{Table}
 use Rattle.abi_slots.specs.declared.words.GroupName.{GroupName}
 use Rattle.abi_slots.specs.declared.words.Group.{Group}
 use Rattle.abi_slots.specs.declared.words.VttWord.{VttWord}
-use Rattle.abi_slots.specs.Images.{Image, IsFirstPoint, IsPoint, point_at}
+use Rattle.abi_slots.specs.Images.{Image, IsFirstPoint, IsPoint, all_words, point_at}
 use Rattle.abi_image.specs.invariants.Drafts.{address_in}
 
 -- the address points of tables that stand at an address
 pub record ArePointsOf (at : ℕ) (tables : List Table) (points : List ℕ) : Type 0 where
   pub size : length points ≡ length tables
   pub each : (n point : ℕ) → slice_get points n ≡ Some point → point ≡ point_at at tables n
+
+-- the words of each group end below 2 ^ 63
+abbrev pub HaveGroupRoom : List Group → List ℕ → Type 0
+HaveGroupRoom groups group_at = (i : ℕ) (group : Group) → slice_get groups i ≡ Some group → address_in group_at i + 8 * length (all_words group.tables) < 2 ^ 63
 
 -- those of each group, where groups stand at these addresses
 pub record AreGroupPoints (groups : List Group) (group_at : List ℕ) (points : List (List ℕ)) : Type 0 where

@@ -1,14 +1,15 @@
-use Rattle.std.proofs.Common.{◌≡◌, ℕ, List, length, ap, subst, sym, ◌∙◌}
+use Rattle.std.proofs.Common.{◌≡◌, ◌<◌, ◌^◌, ℕ, List, length, ap, subst, sym, ◌∙◌}
 use Rattle.abi_sound.specs.Places.{places_of}
 use Rattle.code_ops.specs.Setups.{setup}
 use Rattle.abi_slots.specs.declared.words.Group.{Group}
 use Rattle.abi_slots.specs.declared.words.TypeInfo.{TypeInfo}
 use Rattle.abi_slots.specs.declared.words.VttWord.{VttWord}
-use Rattle.abi_image.specs.Conditions.{HaveOwnNames, AllNameTables, AreKnownGroups, AreKnownInfos}
+use Rattle.abi_image.specs.Conditions.{HaveOwnNames, AllNameTables, AreKnownGroups, AreKnownInfos, words_in_image}
 use Rattle.agree_events.proofs.Names.{one_group}
 use Rattle.abi_world.specs.Made.{AreAllTables}
 use Rattle.abi_world.proofs.Named.{all_vtts_name}
 use Rattle.abi_world.proofs.Known.{groups_fine}
+use Rattle.abi_world.proofs.ImageWords.{few_words}
 use Rattle.abi_world.proofs.Infos.{infos_known}
 use Rattle.abi_world.proofs.image.program_image.Goals as goal
 
@@ -43,8 +44,17 @@ encode-requires-clause-infos g c =
     let all = infos_known c.args.h.now (places_of c.args.h.now (g.L.SoundLayout.rows c.args.layout.now)) c.keeps.ensures tables.infos.items made.one_info_each made.infos_are in
     subst (λ (is : List TypeInfo). AreKnownInfos (length is) is) (sym c.deref-3.ensures.value) all
 
-pub returns-then-is_small : goal.returns-then-is_small
-returns-then-is_small g c =
+pub encode-requires-clause-few : goal.encode-requires-clause-few
+encode-requires-clause-few g c =
+    let l = places_of c.args.h.now (g.L.SoundLayout.rows c.args.layout.now) in
+    let tables = c.in_ok-tables.tables in
+    let all = few_words c.args.h.now l c.keeps.ensures tables.groups.items tables.vtts.items tables.infos.items c.in_ok-tables.ensures c.requires.words in
+    subst (λ (gs : List Group). words_in_image gs c.deref-2.result.now c.deref-3.result.now < 2 ^ 32) (sym c.deref.ensures.value)
+    (subst (λ (vs : List (List VttWord)). words_in_image tables.groups.items vs c.deref-3.result.now < 2 ^ 32) (sym c.deref-2.ensures.value)
+    (subst (λ (is : List TypeInfo). words_in_image tables.groups.items tables.vtts.items is < 2 ^ 32) (sym c.deref-3.ensures.value) all))
+
+pub returns : goal.returns
+returns g c =
     let tables = c.in_ok-tables.tables in
     let image = c.in_ok-image.image in
     let l = places_of c.args.h.now (g.L.SoundLayout.rows c.args.layout.now) in
@@ -59,5 +69,5 @@ returns-then-is_small g c =
           (subst (λ (vs : List (List VttWord)). AreAllTables c.args.h.now l tables.groups.items vs c.deref-3.result.now) (sym c.deref-2.ensures.value)
           (subst (λ (is : List TypeInfo). AreAllTables c.args.h.now l tables.groups.items tables.vtts.items is) (sym c.deref-3.ensures.value) c.in_ok-tables.ensures));
       stand = is.tables;
-      small = c.is_small.ensures c.if-is_small.true;
+      small = is.small;
     }
