@@ -3,6 +3,7 @@ use Rattle.std.proofs.Common.{◌≡◌, ℕ, zero, suc, ◌+◌, ◌<◌, ◌�
 use Rattle.std.specs.Prelude.{nat_eq, slice_index_or}
 use Rattle.std.proofs.lemmas.Bool.{eqb-true, eq-eqb, cases_lt}
 use Rattle.foundation.proofs.Truth.{is_false}
+use Rattle.path_columns.specs.Paged.{ArePages}
 use Rattle.path_columns.specs.invariants.Placed.{some_of, placed}
 use Rattle.path_columns.proofs.Paging.{IsOpened, here, elsewhere}
 
@@ -56,3 +57,8 @@ unfolding placed
 placed_opened f g page count zero opened lt = absurd (omega arith)
 placed_opened f g page count (suc n) opened lt =
     one_more f g page count n opened (λ below. placed_opened f g page count n opened below) (⊎_elim (λ a. inl a) (λ a. inr (omega arith)) (cases_lt page n))
+
+-- a page stands at no place past the numbers that may have one
+pub place_small : {X : Type 0} (place : ℕ → ℕ) (slots : List X) (blank : X) (width count n p k : ℕ) → ArePages place slots blank width count → count ≡ placed place n → place p ≡ k → k ≤ n
+place_small place slots blank width count n p zero are counted is = omega arith
+place_small place slots blank width count n p (suc k) are counted is = let a = are.few p k is in let b = placed_few place n in omega (arith, counted)

@@ -1,7 +1,7 @@
 //! A list that is made longer by blank items, and keeps what was set.
 
-ghost use Rattle.std.specs.Prelude.{◌≡◌, ◌++◌, [], IfOk, length, replicate, slice_set};
-ghost use Rattle.path_columns.specs.Columns.{item_in};
+ghost use Rattle.std.specs.Prelude.{◌≡◌, ◌≤◌, ◌+◌, ◌++◌, [], IfOk, length, replicate, slice_set};
+ghost use Rattle.path_columns.specs.Columns.{item_in, most_items};
 
 use crate::slots::Slots;
 use foundation::NoMemory;
@@ -13,6 +13,7 @@ use std::marker::Model;
 pub struct Column<T> {
     slots: Slots<T>,
     len: usize,
+    ghost few: { len ≤ most_items },
 }
 
 impl<T> Model for Column<T> {
@@ -47,7 +48,7 @@ impl<T: Copy + Drop> Column<T> {
     }
 
     /// The item at a place, and the blank one past the end.
-    pub fn get(&self, n: u32) -> T
+    pub fn get(&self, n: u64) -> T
         ensures { result ≡ item_in self.now n }
     {
         self.slots.get(n)
@@ -56,8 +57,9 @@ impl<T: Copy + Drop> Column<T> {
     /// Sets the item at a place; past the end nothing changes.
     ///
     /// Errors: want of memory.
-    pub fn set(&mut self, n: u32, item: T) -> Result<(), NoMemory>
+    pub fn set(&mut self, n: u64, item: T) -> Result<(), NoMemory>
         ensures blank { self.new.blank ≡ self.old.blank }
+        ensures length { length self.new.items ≡ length self.old.items }
         ensures items { IfOk result (λ _. self.new.items ≡ slice_set self.old.items n item) }
     {
         if n as usize >= self.len {
@@ -68,16 +70,11 @@ impl<T: Copy + Drop> Column<T> {
     }
 
     /// Puts so many blank items behind the others. It takes no memory.
-    ///
-    /// Errors: more items than a usize counts. The column is then as it was.
-    pub fn lengthen(&mut self, count: usize) -> Result<(), NoMemory>
+    pub fn lengthen(&mut self, count: usize)
+        requires room { length self.old.items + count ≤ most_items }
         ensures blank { self.new.blank ≡ self.old.blank }
-        ensures items { IfOk result (λ _. self.new.items ≡ self.old.items ++ replicate count self.old.blank) }
+        ensures items { self.new.items ≡ self.old.items ++ replicate count self.old.blank }
     {
-        let Some(len) = self.len.checked_add(count) else {
-            return Err(NoMemory);
-        };
-        self.len = len;
-        Ok(())
+        self.len += count;
     }
 }

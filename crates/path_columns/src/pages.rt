@@ -8,7 +8,7 @@ use foundation::NoMemory;
 use std::alloc::Global;
 
 /// How many numbers a page has.
-const WIDTH: u32 = 64;
+const WIDTH: u64 = 64;
 
 /// Makes a list longer, until it has this place.
 pub(crate) fn reach<T: Copy + Drop>(
@@ -31,11 +31,11 @@ pub struct Pages {
     /// Where the page of each 64 numbers stands among the pages, counted from 1; 0 where it is not there.
     table: Vec<u32>,
     /// The pages, one behind the other.
-    entries: Vec<u32>,
+    entries: Vec<u64>,
     /// How many pages there are.
     count: u32,
     ghost paged: { ArePages (λ p. slice_index_or table.items p 0) entries.items 0 64 count },
-    ghost counted: { count ≡ placed (λ p. slice_index_or table.items p 0) 67108864 },
+    ghost counted: { count ≡ placed (λ p. slice_index_or table.items p 0) 1073741824 },
 }
 
 impl Pages {
@@ -53,7 +53,7 @@ impl Pages {
     }
 
     /// Where a page stands, counted from 1; 0 where it is not there.
-    fn place(&self, page: u32) -> u32
+    fn place(&self, page: u64) -> u32
         ensures { result ≡ slice_index_or self.now.table.items page 0 }
     {
         match self.table.get(page as usize) {
@@ -63,7 +63,7 @@ impl Pages {
     }
 
     /// The number that was set at a number; 0 where none was.
-    pub fn get(&self, n: u32) -> u32
+    pub fn get(&self, n: u64) -> u64
         ensures { result ≡ number_at self.now n }
     {
         let place = self.place(n / WIDTH);
@@ -80,8 +80,8 @@ impl Pages {
     /// Opens a page, where it is not there: where it stands, counted from 1.
     ///
     /// Errors: want of memory. Each number has what it had.
-    fn open(&mut self, page: u32) -> Result<u32, NoMemory>
-        requires { page < 67108864 }
+    fn open(&mut self, page: u64) -> Result<u32, NoMemory>
+        requires { page < 1073741824 }
         ensures same { (n : ℕ) → number_at self.new n ≡ number_at self.old n }
         ensures open { IfOk result (λ place. (0 < place) × (slice_index_or self.new.table.items page 0 ≡ place)) }
     {
@@ -99,7 +99,8 @@ impl Pages {
     /// Sets the number of a number.
     ///
     /// Errors: want of memory. Each number then has what it had.
-    pub fn set(&mut self, n: u32, number: u32) -> Result<(), NoMemory>
+    pub fn set(&mut self, n: u64, number: u64) -> Result<(), NoMemory>
+        requires { n < 68719476736 }
         ensures set { IfOk result (λ _. (m : ℕ) → number_at self.new m ≡ (if nat_eq m n then number else number_at self.old m)) }
         ensures kept { OnErr result ((m : ℕ) → number_at self.new m ≡ number_at self.old m) }
     {

@@ -4,13 +4,14 @@ ghost use Rattle.std.specs.Prelude.{◌≡◌, ◌<◌, ℕ, IfOk, OnErr, nat_eq
 ghost use Rattle.path_columns.specs.Paged.{ArePages};
 ghost use Rattle.path_columns.specs.invariants.Placed.{placed};
 ghost use Rattle.path_columns.specs.Pages.{number_at};
+ghost use Rattle.path_columns.specs.Columns.{most_items};
 
 use crate::pages::{Pages, reach};
 use foundation::NoMemory;
 use std::alloc::Global;
 
 /// How many items a page has.
-const WIDTH: u32 = 4;
+const WIDTH: u64 = 4;
 
 /// An item for each number, the blank one where none was set. Memory is taken for those pages of four items in which one was set.
 #[derive(Drop)]
@@ -22,9 +23,9 @@ pub struct Slots<T> {
     /// What a number has that no item was set at.
     blank: T,
     /// How many pages there are.
-    count: u32,
+    count: u64,
     ghost paged: { ArePages (number_at places) items.items blank 4 count },
-    ghost counted: { count ≡ placed (number_at places) 1073741824 },
+    ghost counted: { count ≡ placed (number_at places) 68719476736 },
 }
 
 impl<T: Copy + Drop> Slots<T> {
@@ -44,7 +45,7 @@ impl<T: Copy + Drop> Slots<T> {
     }
 
     /// The item of a number.
-    pub fn get(&self, n: u32) -> T
+    pub fn get(&self, n: u64) -> T
         ensures { result ≡ item_at self.now n }
     {
         let place = self.places.get(n / WIDTH);
@@ -61,8 +62,8 @@ impl<T: Copy + Drop> Slots<T> {
     /// Opens a page, where it is not there: where it stands, counted from 1.
     ///
     /// Errors: want of memory. Each number has what it had.
-    fn open(&mut self, page: u32) -> Result<u32, NoMemory>
-        requires { page < 1073741824 }
+    fn open(&mut self, page: u64) -> Result<u64, NoMemory>
+        requires { page < 68719476736 }
         ensures blank { self.new.blank ≡ self.old.blank }
         ensures same { (n : ℕ) → item_at self.new n ≡ item_at self.old n }
         ensures open { IfOk result (λ place. (0 < place) × (number_at self.new.places page ≡ place)) }
@@ -80,7 +81,8 @@ impl<T: Copy + Drop> Slots<T> {
     /// Sets the item of a number.
     ///
     /// Errors: want of memory. Each number then has what it had.
-    pub fn set(&mut self, n: u32, item: T) -> Result<(), NoMemory>
+    pub fn set(&mut self, n: u64, item: T) -> Result<(), NoMemory>
+        requires { n < most_items }
         ensures blank { self.new.blank ≡ self.old.blank }
         ensures set { IfOk result (λ _. (m : ℕ) → item_at self.new m ≡ (if nat_eq m n then item else item_at self.old m)) }
         ensures kept { OnErr result ((m : ℕ) → item_at self.new m ≡ item_at self.old m) }

@@ -50,7 +50,7 @@ fn part_told(
     alloc: Global,
     world: &World,
     heap: &Heap,
-    n: Option<u32>,
+    n: Option<u64>,
 ) -> Result<Option<Out>, NoMemory>
     requires world { IsWorld world.now }
     ensures { IfOk result (λ out. (s : Objects) (p : ObjectPart) (x : Option Subobject) → HeapStands world.now.h.now heap.now s → PointsView world.now.h.now s.classes p n x → out ≡ part_out s (option_map (part p.object p.owner) x)) }

@@ -41,10 +41,10 @@ member_within h c m member at = past_or c.0 (length h) (λ past. let f : members
 -- what lies in a part has its numbers there
 record IsInside (h : Classes) (classes : List ClassId) (z : Node) : Type 0 where
   at : IsAt h (sizes_of h) classes z
-  room : z.number + sizes_of h z.form z.class ≤ 2 ^ 32
-  small : z.number < 2 ^ 32
+  room : z.number + sizes_of h z.form z.class ≤ 2 ^ 64
+  small : z.number < 2 ^ 64
 
-inside : (h : Classes) → IsHierarchy h → (classes : List ClassId) (y z : Node) → IsAt h (sizes_of h) classes y → y.number + sizes_of h y.form y.class ≤ 2 ^ 32 → Kid h (sizes_of h) y z → IsInside h classes z
+inside : (h : Classes) → IsHierarchy h → (classes : List ClassId) (y z : Node) → IsAt h (sizes_of h) classes y → y.number + sizes_of h y.form y.class ≤ 2 ^ 64 → Kid h (sizes_of h) y z → IsInside h classes z
 inside h keeps classes y z a room kid =
     let down : Under h (sizes_of h) z y = deeper y z kid (here z refl) in
     let l = under_lies h (sizes_of h) (sizes_are h keeps) z y down in
@@ -57,7 +57,7 @@ inside h keeps classes y z a room kid =
     }
 
 pub base_stands : (h : Classes) → IsHierarchy h → (classes : List ClassId) (code : Part) (form : Form) (p : ObjectPart) → StandsAs h classes code form p → (i : ℕ) (b : Base ClassId) → slice_get (bases_of h code.class) i ≡ Some b → b.is_virtual ≡ false
-    → (kid : Part) → kid.class ≡ b.class → kid.whole ≡ code.whole → kid.owner ≡ code.owner → kid.number ≡ (code.number + base_offset h (sizes_of h) code.class i) % 2 ^ 32 → StandsAs h classes kid AsBase (base_part p b)
+    → (kid : Part) → kid.class ≡ b.class → kid.whole ≡ code.whole → kid.owner ≡ code.owner → kid.number ≡ (code.number + base_offset h (sizes_of h) code.class i) % 2 ^ 64 → StandsAs h classes kid AsBase (base_part p b)
 base_stands h keeps classes code form p a i b listed direct kid class same_whole same_owner number =
     let y = a.node in
     let at : slice_get (bases_of h y.class) i ≡ Some b = subst (λ (t : ClassId). slice_get (bases_of h t) i ≡ Some b) (sym a.is_class) listed in
@@ -69,7 +69,7 @@ base_stands h keeps classes code form p a i b listed direct kid class same_whole
       at = r.at;
       is_form = refl;
       is_part = ap (λ (t : ObjectPart). base_part t b) a.is_part;
-      is_number = let e : base_offset h (sizes_of h) y.class i ≡ base_offset h (sizes_of h) code.class i = ap (λ (t : ClassId). base_offset h (sizes_of h) t i) a.is_class in let f = a.is_number in let s : y.number + base_offset h (sizes_of h) y.class i < 2 ^ 32 = r.small in omega arith;
+      is_number = let e : base_offset h (sizes_of h) y.class i ≡ base_offset h (sizes_of h) code.class i = ap (λ (t : ClassId). base_offset h (sizes_of h) t i) a.is_class in let f = a.is_number in let s : y.number + base_offset h (sizes_of h) y.class i < 2 ^ 64 = r.small in omega arith;
       is_class = sym class;
       owned = record {
         node = o.node;
@@ -91,7 +91,7 @@ shared_told h keeps c v j at None told = absurd (told (order_virtual h keeps c v
 shared_told h keeps c v j at (Some n) told = told.1 ∙ shared_number_at h c v j at
 
 pub shared_stands : (h : Classes) → IsHierarchy h → (classes : List ClassId) (code : Part) (p : ObjectPart) → StandsAs h classes code InFull p → (j : ℕ) (v : ClassId) → slice_get (virtual_order h code.class) j ≡ Some v
-    → (kid : Part) → kid.class ≡ v → kid.whole ≡ code.whole → kid.owner ≡ code.owner → kid.number ≡ (code.number + shared_offset h (sizes_of h) code.class j) % 2 ^ 32 → StandsAs h classes kid AsBase (shared_part p v)
+    → (kid : Part) → kid.class ≡ v → kid.whole ≡ code.whole → kid.owner ≡ code.owner → kid.number ≡ (code.number + shared_offset h (sizes_of h) code.class j) % 2 ^ 64 → StandsAs h classes kid AsBase (shared_part p v)
 shared_stands h keeps classes code p a j v listed kid class same_whole same_owner number =
     let y = a.node in
     let at : slice_get (virtual_order h y.class) j ≡ Some v = subst (λ (t : ClassId). slice_get (virtual_order h t) j ≡ Some v) (sym a.is_class) listed in
@@ -103,7 +103,7 @@ shared_stands h keeps classes code p a j v listed kid class same_whole same_owne
       at = r.at;
       is_form = refl;
       is_part = ap (λ (t : ObjectPart). shared_part t v) a.is_part;
-      is_number = let e : shared_offset h (sizes_of h) y.class j ≡ shared_offset h (sizes_of h) code.class j = ap (λ (t : ClassId). shared_offset h (sizes_of h) t j) a.is_class in let f = a.is_number in let s : y.number + shared_offset h (sizes_of h) y.class j < 2 ^ 32 = r.small in omega arith;
+      is_number = let e : shared_offset h (sizes_of h) y.class j ≡ shared_offset h (sizes_of h) code.class j = ap (λ (t : ClassId). shared_offset h (sizes_of h) t j) a.is_class in let f = a.is_number in let s : y.number + shared_offset h (sizes_of h) y.class j < 2 ^ 64 = r.small in omega arith;
       is_class = sym class;
       owned = record {
         node = o.node;
@@ -120,7 +120,7 @@ shared_stands h keeps classes code p a j v listed kid class same_whole same_owne
     }
 
 pub element_stands : (h : Classes) → IsHierarchy h → (classes : List ClassId) (code : Part) (form : Form) (p : ObjectPart) → StandsAs h classes code form p → (m i : ℕ) (d : ClassId) (member : Member ClassId) → slice_get (members_of h code.class) m ≡ Some member → member.ty ≡ Object d → i < elements_of member.count
-    → (kid : Part) → kid.class ≡ d → kid.whole ≡ kid.number → kid.owner ≡ d → kid.number ≡ (code.number + (member_offset h (sizes_of h) code.class m + i * sizes_of h InFull d % 2 ^ 32) % 2 ^ 32) % 2 ^ 32 → StandsAs h classes kid InFull (element p m i d)
+    → (kid : Part) → kid.class ≡ d → kid.whole ≡ kid.number → kid.owner ≡ d → kid.number ≡ (code.number + (member_offset h (sizes_of h) code.class m + i * sizes_of h InFull d % 2 ^ 64) % 2 ^ 64) % 2 ^ 64 → StandsAs h classes kid InFull (element p m i d)
 element_stands h keeps classes code form p a m i d member listed type within kid class same_whole same_owner number =
     let y = a.node in
     let at : slice_get (members_of h y.class) m ≡ Some member = subst (λ (t : ClassId). slice_get (members_of h t) m ≡ Some member) (sym a.is_class) listed in
@@ -128,7 +128,7 @@ element_stands h keeps classes code form p a m i d member listed type within kid
     let r = inside h keeps classes y z a.at a.room (element_kid m i d member at type within refl) in
     let is_number : z.number ≡ kid.number =
     let e : member_offset h (sizes_of h) y.class m ≡ member_offset h (sizes_of h) code.class m = ap (λ (t : ClassId). member_offset h (sizes_of h) t m) a.is_class in let f = a.is_number in
-    let s : y.number + (member_offset h (sizes_of h) y.class m + i * sizes_of h InFull d) < 2 ^ 32 = r.small in omega arith in
+    let s : y.number + (member_offset h (sizes_of h) y.class m + i * sizes_of h InFull d) < 2 ^ 64 = r.small in omega arith in
     record {
       node = z;
       at = r.at;

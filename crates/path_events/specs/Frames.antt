@@ -22,7 +22,7 @@ abbrev pub frame_form : FormCode → Form
 frame_form InFullCode = InFull
 frame_form AsBaseCode = AsBase
 
--- a part as the code names it is the part p, of this form, and all its numbers are below 2 ^ 32
+-- a part as the code names it is the part p, of this form, and all its numbers are below 2 ^ 64
 pub record StandsAs (h : Classes) (classes : List ClassId) (code : Part) (form : Form) (p : ObjectPart) : Type 0 where
   pub node : Node
   pub at : IsAt h (sizes_of h) classes node
@@ -31,7 +31,7 @@ pub record StandsAs (h : Classes) (classes : List ClassId) (code : Part) (form :
   pub is_number : node.number ≡ code.number
   pub is_class : node.class ≡ code.class
   pub owned : HasOwner h classes node code.whole code.owner
-  pub room : node.number + sizes_of h node.form node.class ≤ 2 ^ 32
+  pub room : node.number + sizes_of h node.form node.class ≤ 2 ^ 64
 
 -- a construction from each of its points on: the body, the members from m on (the first from its element i on), the bases, the
 -- virtual bases

@@ -68,5 +68,5 @@ pub record PlanStands (h : Classes) (program : TypedProgram) (classes : List Cla
 -- the plan has all events of the construction of this whole heap object, or else of its destruction
 abbrev pub IsWholePlan : Classes → (whole : Part) → (is_building : Bool) → Plan → Type 0
 IsWholePlan h whole is_building code = (program : TypedProgram) (classes : List ClassId) (k : ℕ) →
-    slice_get classes k ≡ Some whole.class → StandsForPart h classes whole (whole_part k whole.class) → total (sizes_of h InFull) classes ≤ 2 ^ 32 →
+    slice_get classes k ≡ Some whole.class → StandsForPart h classes whole (whole_part k whole.class) → total (sizes_of h InFull) classes ≤ 2 ^ 64 →
     PlanStands h program classes code (if is_building then construction h (plan_bodies program) k whole.class else destruction h (plan_bodies program) k whole.class)

@@ -31,7 +31,9 @@ pub(crate) fn base_kid(
 {
     h.keeps();
     Part {
-        number: part.number.wrapping_add(numbers.base_offset(part.class, i)),
+        number: part
+            .number
+            .wrapping_add(numbers.base_offset(part.class, i) as u64),
         class: base.class,
         whole: part.whole,
         owner: part.owner,
@@ -49,7 +51,7 @@ pub(crate) fn shared_kid(numbers: &Numbers, h: &Hierarchy, part: Part, j: usize,
     // the 0 is never met: `shared_offset` of path_numbers has an offset for each virtual base, as v is by the clause `listed`
     let offset = numbers.shared_offset(part.class, v).unwrap_or(0);
     Part {
-        number: part.number.wrapping_add(offset),
+        number: part.number.wrapping_add(offset as u64),
         class: v,
         whole: part.whole,
         owner: part.owner,
@@ -74,10 +76,11 @@ pub(crate) fn element_kid(
     ensures class { result.class ≡ d }
 {
     h.keeps();
-    let offset = numbers
-        .member_offset(part.class, m)
-        .wrapping_add(i.wrapping_mul(numbers.in_full(d)));
-    let number = part.number.wrapping_add(offset);
+    let offset = numbers.member_offset(part.class, m) as u64;
+    let size = numbers.in_full(d) as u64;
+    let number = part
+        .number
+        .wrapping_add(offset.wrapping_add((i as u64).wrapping_mul(size)));
     Part {
         number,
         class: d,

@@ -8,6 +8,7 @@ use Rattle.foundation.proofs.Places.{get_front, get_pushed, get_last, length_pus
 use Rattle.cxx_hierarchy.specs.declared.records.ClassId.{ClassId}
 use Rattle.cxx_hierarchy.specs.Classes.{Classes}
 use Rattle.cxx_hierarchy.specs.Hierarchies.{IsHierarchy}
+use Rattle.cxx_subobject.specs.Parts.{most_parts}
 use Rattle.path_plan.specs.Places.{ObjectPart}
 use Rattle.path_plan.specs.Phases.{Raw}
 use Rattle.path_plan.specs.Plans.{InFull}
@@ -173,6 +174,7 @@ made_stands h heap new s stands c size start is did = record {
     tops = size_new h s.classes c heap.tops.items new.tops.items None size stands.counts.tops is did.tops;
     around = size_new h s.classes c heap.around.items new.around.items None size stands.counts.around is did.around;
     few = let t = total_more (sizes_of h InFull) s.classes c in let f = did.fits in let e = stands.counts.cells in omega arith;
+    small = λ k d listed. ⊎_elim (λ old. stands.counts.small k d old) (λ last. subst (λ (t : ClassId). sizes_of h InFull t ≤ most_parts) (sym last.1) (subst (λ n. n ≤ most_parts) is did.small)) (get_pushed s.classes c k d listed);
   };
 }
 

@@ -84,6 +84,7 @@ turned_stands h heap new s stands code p r x running closed cells leaves objects
     tops = tops ∙ stands.counts.tops;
     around = around ∙ stands.counts.around;
     few = stands.counts.few;
+    small = stands.counts.small;
   };
 }
 

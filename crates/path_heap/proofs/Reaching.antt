@@ -54,22 +54,22 @@ element_past h c m i t e past =
     let f : members_of h c ≡ [] = ap members_in (slice_get_past h c.0 past) in
     let g : slice_get [] m ≡ Some e.member = subst (λ l. slice_get l m ≡ Some e.member) f e.there in absurd (cc)
 
--- a sum below 2 ^ 32, with its parts taken up to whole turns
-turned_sum : (a b n : ℕ) → a + b < 2 ^ 32 → n ≡ (a + b % 2 ^ 32) % 2 ^ 32 → n ≡ a + b
+-- a sum below 2 ^ 64, with its parts taken up to whole turns
+turned_sum : (a b n : ℕ) → a + b < 2 ^ 64 → n ≡ (a + b % 2 ^ 64) % 2 ^ 64 → n ≡ a + b
 turned_sum a b n lt is = omega arith
 
-turned_three : (a b d n : ℕ) → a + (b + d) < 2 ^ 32 → n ≡ (a + (b + d % 2 ^ 32) % 2 ^ 32) % 2 ^ 32 → n ≡ a + (b + d)
+turned_three : (a b d n : ℕ) → a + (b + d) < 2 ^ 64 → n ≡ (a + (b + d % 2 ^ 64) % 2 ^ 64) % 2 ^ 64 → n ≡ a + (b + d)
 turned_three a b d n lt is = omega arith
 
 pub at_below : (h : Classes) (classes : List ClassId) (y z : Node) → IsAt h (sizes_of h) classes y → Under h (sizes_of h) z y → IsAt h (sizes_of h) classes z
 at_below h classes y z a under = record { object = a.object; class = a.class; listed = a.listed; under = under_through h (sizes_of h) z y (root_at (sizes_of h) classes a.object a.class) a.under under }
 
-pub at_small : (h : Classes) (heap : Heap) (s : Objects) → HeapStands h heap s → (y : Node) → IsAt h (sizes_of h) s.classes y → y.number < 2 ^ 32
+pub at_small : (h : Classes) (heap : Heap) (s : Objects) → HeapStands h heap s → (y : Node) → IsAt h (sizes_of h) s.classes y → y.number < 2 ^ 64
 at_small h heap s stands y at = let a = at_less h stands.hierarchy s.classes y at in let b = stands.counts.few in omega arith
 
 -- an element of a member
 pub element_reached : (h : Classes) (heap : Heap) (s : Objects) → HeapStands h heap s → (n : ℕ) (p : ObjectPart) → Points h s.classes n p → HasBegun s p → (c : ClassId) → class_of p.at ≡ Some c → (cell : Cell) → cell ≡ cell_at heap n
-    → (m i : ℕ) (d : ClassId) → IsElement h c m i (Object d) → (k : ℕ) → (IsElement h cell.class m i (Object d) → k ≡ (n + (member_offset h (sizes_of h) cell.class m + i * sizes_of h InFull d)) % 2 ^ 32) → Points h s.classes k (element p m i d)
+    → (m i : ℕ) (d : ClassId) → IsElement h c m i (Object d) → (k : ℕ) → (IsElement h cell.class m i (Object d) → k ≡ (n + (member_offset h (sizes_of h) cell.class m + i * sizes_of h InFull d)) % 2 ^ 64) → Points h s.classes k (element p m i d)
 element_reached h heap s stands n p q begun c class cell is m i d e k told =
     let y = q.node in
     let own : class_of y.part.at ≡ Some y.class = (at_good h (sizes_of h) s.classes y q.at).class in
@@ -90,7 +90,7 @@ element_reached h heap s stands n p q begun c class cell is m i d e k told =
 
 -- a leaf
 pub leaf_reached : (h : Classes) (heap : Heap) (s : Objects) → HeapStands h heap s → (n : ℕ) (p : ObjectPart) → Points h s.classes n p → HasBegun s p → (c : ClassId) → class_of p.at ≡ Some c → (cell : Cell) → cell ≡ cell_at heap n
-    → (m i : ℕ) (ty : ValueType ClassId) → IsElement h c m i (Value ty) → (k : ℕ) → (IsElement h cell.class m i (Value ty) → k ≡ (n + (member_offset h (sizes_of h) cell.class m + i)) % 2 ^ 32) → PointsLeaf h s.classes k (leaf p m i)
+    → (m i : ℕ) (ty : ValueType ClassId) → IsElement h c m i (Value ty) → (k : ℕ) → (IsElement h cell.class m i (Value ty) → k ≡ (n + (member_offset h (sizes_of h) cell.class m + i)) % 2 ^ 64) → PointsLeaf h s.classes k (leaf p m i)
 leaf_reached h heap s stands n p q begun c class cell is m i ty e k told =
     let y = q.node in
     let own : class_of y.part.at ≡ Some y.class = (at_good h (sizes_of h) s.classes y q.at).class in
@@ -102,7 +102,7 @@ leaf_reached h heap s stands n p q begun c class cell is m i ty e k told =
     let w = at_within h (sizes_of h) (sizes_are h stands.hierarchy) s.classes y q.at in
     let few = stands.counts.few in
     let high = o.high in
-    let lt : y.number + (member_offset h (sizes_of h) y.class m + i) < 2 ^ 32 = omega arith in
+    let lt : y.number + (member_offset h (sizes_of h) y.class m + i) < 2 ^ 64 = omega arith in
     let t = told (subst (λ t. IsElement h t m i (Value ty)) (sym cell_class) f) in
     let u : member_offset h (sizes_of h) cell.class m ≡ member_offset h (sizes_of h) y.class m = ap (λ t. member_offset h (sizes_of h) t m) cell_class in
     record {
@@ -114,7 +114,7 @@ leaf_reached h heap s stands n p q begun c class cell is m i ty e k told =
 
 -- a base that no virtual base leads to
 own_base : (h : Classes) (heap : Heap) (s : Objects) → HeapStands h heap s → (n : ℕ) (p : ObjectPart) → Points h s.classes n p → HasBegun s p → (c : ClassId) → class_of p.at ≡ Some c → (cell : Cell) → cell ≡ cell_at heap n
-    → (path : List ClassId) → Leads h c path → (step k : ℕ) → (Leads h cell.class path → step ≡ path_number h cell.class path % 2 ^ 32) → k ≡ (n + step) % 2 ^ 32 → Points h s.classes k (inner_part p (subobject Whole (c ∷ path)))
+    → (path : List ClassId) → Leads h c path → (step k : ℕ) → (Leads h cell.class path → step ≡ path_number h cell.class path % 2 ^ 64) → k ≡ (n + step) % 2 ^ 64 → Points h s.classes k (inner_part p (subobject Whole (c ∷ path)))
 own_base h heap s stands n p q begun c class cell is path leads step k told k_is =
     let y = q.node in
     let own : class_of y.part.at ≡ Some y.class = (at_good h (sizes_of h) s.classes y q.at).class in
@@ -124,11 +124,11 @@ own_base h heap s stands n p q begun c class cell is path leads step k told k_is
     let a = path_arrives h (sizes_of h) y path (path_number h y.class path) (last_of y.class path) (path_leads h stands.hierarchy y.class path l) in
     let end_at = at_below h s.classes y a.end q.at a.under in
     let lt = at_small h heap s stands a.end end_at in
-    let t : step ≡ path_number h y.class path % 2 ^ 32 = told (subst (λ t. Leads h t path) (sym cell_class) l) ∙ ap (λ t. path_number h t path % 2 ^ 32) cell_class in
+    let t : step ≡ path_number h y.class path % 2 ^ 64 = told (subst (λ t. Leads h t path) (sym cell_class) l) ∙ ap (λ t. path_number h t path % 2 ^ 64) cell_class in
     let e = a.is_number in
     let r = q.is_number in
-    let f : n + path_number h y.class path < 2 ^ 32 = omega arith in
-    let g : k ≡ n + path_number h y.class path = turned_sum n (path_number h y.class path) k f (k_is ∙ ap (λ t. (n + t) % 2 ^ 32) t) in
+    let f : n + path_number h y.class path < 2 ^ 64 = omega arith in
+    let g : k ≡ n + path_number h y.class path = turned_sum n (path_number h y.class path) k f (k_is ∙ ap (λ t. (n + t) % 2 ^ 64) t) in
     record {
       node = a.end;
       at = end_at;
@@ -138,8 +138,8 @@ own_base h heap s stands n p q begun c class cell is path leads step k told k_is
 
 -- a base behind a virtual base
 shared_base_reached : (h : Classes) (heap : Heap) (s : Objects) → HeapStands h heap s → (n : ℕ) (p : ObjectPart) → Points h s.classes n p → HasBegun s p → (c : ClassId) → class_of p.at ≡ Some c → (cell : Cell) → cell ≡ cell_at heap n
-    → (v : ClassId) (path : List ClassId) → HasVirtualBase h c v → Leads h v path → (far step k : ℕ) → (HasVirtualBase h cell.owner v → far ≡ shared_number h cell.owner v) → (Leads h v path → step ≡ path_number h v path % 2 ^ 32)
-    → k ≡ (cell.whole + (far + step) % 2 ^ 32) % 2 ^ 32 → Points h s.classes k (inner_part p (subobject (Shared v) (v ∷ path)))
+    → (v : ClassId) (path : List ClassId) → HasVirtualBase h c v → Leads h v path → (far step k : ℕ) → (HasVirtualBase h cell.owner v → far ≡ shared_number h cell.owner v) → (Leads h v path → step ≡ path_number h v path % 2 ^ 64)
+    → k ≡ (cell.whole + (far + step) % 2 ^ 64) % 2 ^ 64 → Points h s.classes k (inner_part p (subobject (Shared v) (v ∷ path)))
 shared_base_reached h heap s stands n p q begun c class cell is v path has leads far step k far_told told k_is =
     let o = owner_told h heap s stands n p q begun cell is in
     let w = o.node in
@@ -154,8 +154,8 @@ shared_base_reached h heap s stands n p q begun c class cell is v path has leads
     let step_is = told leads in
     let e = a.is_number in
     let r = o.is_number in
-    let f : cell.whole + (far + path_number h v path) < 2 ^ 32 = omega arith in
-    let g : k ≡ cell.whole + (far + path_number h v path) = turned_three cell.whole far (path_number h v path) k f (k_is ∙ ap (λ t. (cell.whole + (far + t) % 2 ^ 32) % 2 ^ 32) step_is) in
+    let f : cell.whole + (far + path_number h v path) < 2 ^ 64 = omega arith in
+    let g : k ≡ cell.whole + (far + path_number h v path) = turned_three cell.whole far (path_number h v path) k f (k_is ∙ ap (λ t. (cell.whole + (far + t) % 2 ^ 64) % 2 ^ 64) step_is) in
     record {
       node = a.end;
       at = end_at;
@@ -164,25 +164,25 @@ shared_base_reached h heap s stands n p q begun c class cell is v path has leads
     }
 
 pub base_reached : (h : Classes) (heap : Heap) (s : Objects) → HeapStands h heap s → (n : ℕ) (p : ObjectPart) → Points h s.classes n p → HasBegun s p → (c : ClassId) → class_of p.at ≡ Some c → (cell : Cell) → cell ≡ cell_at heap n
-    → (i : Subobject) → IsSubobject h c i → i.root ≡ Whole → (path : List ClassId) → path ≡ tail_of i.path → (step k : ℕ) → (Leads h cell.class path → step ≡ path_number h cell.class path % 2 ^ 32) → k ≡ (n + step) % 2 ^ 32 → Points h s.classes k (inner_part p i)
-base_reached h heap s stands n p q begun c class cell is _ (whole path leads) root list list_is step k told k_is = own_base h heap s stands n p q begun c class cell is path leads step k (subst (λ t. Leads h cell.class t → step ≡ path_number h cell.class t % 2 ^ 32) list_is told) k_is
+    → (i : Subobject) → IsSubobject h c i → i.root ≡ Whole → (path : List ClassId) → path ≡ tail_of i.path → (step k : ℕ) → (Leads h cell.class path → step ≡ path_number h cell.class path % 2 ^ 64) → k ≡ (n + step) % 2 ^ 64 → Points h s.classes k (inner_part p i)
+base_reached h heap s stands n p q begun c class cell is _ (whole path leads) root list list_is step k told k_is = own_base h heap s stands n p q begun c class cell is path leads step k (subst (λ t. Leads h cell.class t → step ≡ path_number h cell.class t % 2 ^ 64) list_is told) k_is
 base_reached h heap s stands n p q begun c class cell is _ (shared v path has leads) root list list_is step k told k_is = absurd (cc)
 
 pub shared_reached : (h : Classes) (heap : Heap) (s : Objects) → HeapStands h heap s → (n : ℕ) (p : ObjectPart) → Points h s.classes n p → HasBegun s p → (c : ClassId) → class_of p.at ≡ Some c → (cell : Cell) → cell ≡ cell_at heap n
-    → (i : Subobject) → IsSubobject h c i → (v : ClassId) → i.root ≡ Shared v → (path : List ClassId) → path ≡ tail_of i.path → (far step k : ℕ) → (HasVirtualBase h cell.owner v → far ≡ shared_number h cell.owner v) → (Leads h v path → step ≡ path_number h v path % 2 ^ 32)
-    → k ≡ (cell.whole + (far + step) % 2 ^ 32) % 2 ^ 32 → Points h s.classes k (inner_part p i)
+    → (i : Subobject) → IsSubobject h c i → (v : ClassId) → i.root ≡ Shared v → (path : List ClassId) → path ≡ tail_of i.path → (far step k : ℕ) → (HasVirtualBase h cell.owner v → far ≡ shared_number h cell.owner v) → (Leads h v path → step ≡ path_number h v path % 2 ^ 64)
+    → k ≡ (cell.whole + (far + step) % 2 ^ 64) % 2 ^ 64 → Points h s.classes k (inner_part p i)
 shared_reached h heap s stands n p q begun c class cell is _ (whole path leads) v root list list_is far step k far_told told k_is = absurd (cc)
 shared_reached h heap s stands n p q begun c class cell is _ (shared w path has leads) v root list list_is far step k far_told told k_is =
     let same : w ≡ v = cc in
     shared_base_reached h heap s stands n p q begun c class cell is w path has leads far step k
     (subst (λ t. HasVirtualBase h cell.owner t → far ≡ shared_number h cell.owner t) (sym same) far_told)
-    (subst (λ t. Leads h t path → step ≡ path_number h t path % 2 ^ 32) (sym same) (subst (λ t. Leads h v t → step ≡ path_number h v t % 2 ^ 32) list_is told)) k_is
+    (subst (λ t. Leads h t path → step ≡ path_number h t path % 2 ^ 64) (sym same) (subst (λ t. Leads h v t → step ≡ path_number h v t % 2 ^ 64) list_is told)) k_is
 
 -- a number below 2 ^ 32, and one that is behind another
-in_range : (x a : ℕ) → x < 2 ^ 32 → x ≡ a → x ≡ a % 2 ^ 32
+in_range : (x a : ℕ) → x < 2 ^ 32 → x ≡ a → x ≡ a % 2 ^ 64
 in_range x a lt is = omega arith
 
-behind : (x near a b : ℕ) → x < 2 ^ 32 → near ≡ a → x ≡ a + b → x - near ≡ b % 2 ^ 32
+behind : (x near a b : ℕ) → x < 2 ^ 32 → near ≡ a → x ≡ a + b → x - near ≡ b % 2 ^ 64
 behind x near a b lt near_is is = omega arith
 
 -- the class that the cell of a part tells
@@ -195,27 +195,27 @@ cell_class h heap s stands n p q begun c class cell is =
 
 -- a base by its number in a complete object of the part's class
 pub numbered_whole : (h : Classes) (heap : Heap) (s : Objects) → HeapStands h heap s → (n : ℕ) (p : ObjectPart) → Points h s.classes n p → HasBegun s p → (c : ClassId) → class_of p.at ≡ Some c
-    → (i : Subobject) → IsSubobject h c i → i.root ≡ Whole → (x k : ℕ) → x < 2 ^ 32 → x ≡ subobject_number h c i → k ≡ (n + x) % 2 ^ 32 → Points h s.classes k (inner_part p i)
+    → (i : Subobject) → IsSubobject h c i → i.root ≡ Whole → (x k : ℕ) → x < 2 ^ 32 → x ≡ subobject_number h c i → k ≡ (n + x) % 2 ^ 64 → Points h s.classes k (inner_part p i)
 numbered_whole h heap s stands n p q begun c class i sub root x k small x_is k_is =
     let cell = cell_at heap n in
     let same = cell_class h heap s stands n p q begun c class cell refl in
     let e : subobject_number h c i ≡ path_number h c (tail_of i.path) = ap (λ r. rooted_number h c r (tail_of i.path)) root in
     let f : path_number h c (tail_of i.path) ≡ path_number h cell.class (tail_of i.path) = ap (λ d. path_number h d (tail_of i.path)) (sym same) in
-    let t : x ≡ path_number h cell.class (tail_of i.path) % 2 ^ 32 = in_range x (path_number h cell.class (tail_of i.path)) small (x_is ∙ (e ∙ f)) in
+    let t : x ≡ path_number h cell.class (tail_of i.path) % 2 ^ 64 = in_range x (path_number h cell.class (tail_of i.path)) small (x_is ∙ (e ∙ f)) in
     base_reached h heap s stands n p q begun c class cell refl i sub root (tail_of i.path) refl x k (λ leads. t) k_is
 
 pub numbered_shared : (h : Classes) (heap : Heap) (s : Objects) → HeapStands h heap s → (n : ℕ) (p : ObjectPart) → Points h s.classes n p → HasBegun s p → (c : ClassId) → class_of p.at ≡ Some c → (cell : Cell) → cell ≡ cell_at heap n
     → (i : Subobject) → IsSubobject h c i → (v : ClassId) → i.root ≡ Shared v → (far near x k : ℕ) → (HasVirtualBase h cell.owner v → far ≡ shared_number h cell.owner v) → (HasVirtualBase h c v → near ≡ shared_number h c v) → x < 2 ^ 32 → x ≡ subobject_number h c i
-    → k ≡ (cell.whole + (far + (x - near)) % 2 ^ 32) % 2 ^ 32 → Points h s.classes k (inner_part p i)
+    → k ≡ (cell.whole + (far + (x - near)) % 2 ^ 64) % 2 ^ 64 → Points h s.classes k (inner_part p i)
 numbered_shared h heap s stands n p q begun c class cell is _ (whole path leads) v root far near x k far_told near_told small x_is k_is = absurd (cc)
 numbered_shared h heap s stands n p q begun c class cell is _ (shared w path has leads) v root far near x k far_told near_told small x_is k_is =
     let same : w ≡ v = cc in
     let near_is = near_told (subst (λ t. HasVirtualBase h c t) same has) in
     let x_sum : x ≡ shared_number h c v + path_number h v path = x_is ∙ ap (λ t. shared_number h c t + path_number h t path) same in
-    let t : x - near ≡ path_number h v path % 2 ^ 32 = behind x near (shared_number h c v) (path_number h v path) small near_is x_sum in
+    let t : x - near ≡ path_number h v path % 2 ^ 64 = behind x near (shared_number h c v) (path_number h v path) small near_is x_sum in
     shared_reached h heap s stands n p q begun c class cell is (subobject (Shared w) (w ∷ path)) (shared w path has leads) v root path refl far (x - near) k far_told (λ more. t) k_is
 
-whole_turns : (x y a b n : ℕ) → x ≡ a → y ≡ b % 2 ^ 32 → n ≡ (x + y) % 2 ^ 32 → n ≡ (a + b) % 2 ^ 32
+whole_turns : (x y a b n : ℕ) → x ≡ a → y ≡ b % 2 ^ 64 → n ≡ (x + y) % 2 ^ 64 → n ≡ (a + b) % 2 ^ 64
 whole_turns x y a b n e f is = omega arith
 
 -- a path of one class or more, behind its first
@@ -223,16 +223,16 @@ after_first : (b : ClassId) (path : List ClassId) → rest_of (b ∷ path) ≡ p
 after_first b path = let n : length (b ∷ path) - 1 ≡ length path = omega arith in ap (λ k. take k path) n ∙ take_all (length path) path (omega arith)
 
 -- one class more of a path
-pub path_step : (h : Classes) (c : ClassId) (path : List ClassId) (x y n : ℕ) → 1 ≤ length path → IsBaseDistance h c (first_of path) x → IsPathDistance h (first_of path) (rest_of path) y → n ≡ (x + y) % 2 ^ 32 → IsPathDistance h c path n
+pub path_step : (h : Classes) (c : ClassId) (path : List ClassId) (x y n : ℕ) → 1 ≤ length path → IsBaseDistance h c (first_of path) x → IsPathDistance h (first_of path) (rest_of path) y → n ≡ (x + y) % 2 ^ 64 → IsPathDistance h c path n
 path_step h c [] x y n lt base rest is leads = absurd (omega arith)
 path_step h c (b ∷ path) x y n lt base rest is leads =
     let s = stepped h c (b ∷ path) lt leads in
     let e : x ≡ base_number h c b = base s.edge in
-    let f : y ≡ path_number h b path % 2 ^ 32 = subst (λ (t : List ClassId). IsPathDistance h b t y) (after_first b path) rest leads.1 in
+    let f : y ≡ path_number h b path % 2 ^ 64 = subst (λ (t : List ClassId). IsPathDistance h b t y) (after_first b path) rest leads.1 in
     whole_turns x y (base_number h c b) (path_number h b path) n e f is
 
 -- the code's sum for an element of a member
-wraps : (n a x : ℕ) → (n + (a + x % 2 ^ 32) % 2 ^ 32) % 2 ^ 32 ≡ (n + (a + x)) % 2 ^ 32
+wraps : (n a x : ℕ) → (n + (a + x % 2 ^ 64) % 2 ^ 64) % 2 ^ 64 ≡ (n + (a + x)) % 2 ^ 64
 wraps n a x = omega arith
 
 field_of : (h : Classes) (c : ClassId) (m i : ℕ) (t : FieldType ClassId) (e : IsElement h c m i t) (list : List (Member ClassId)) (field : Member ClassId) → list ≡ members_of h c → slice_get list m ≡ Some field → field ≡ e.member
@@ -240,25 +240,25 @@ field_of h c m i t e list field is at = let f : slice_get list m ≡ Some e.memb
 
 pub slot_object : (h : Classes) → IsHierarchy h → (c : ClassId) (m i : ℕ) (d : ClassId) → c.0 < length h → IsElement h c m i (Object d) → (list : List (Member ClassId)) (field : Member ClassId) → list ≡ members_of h c → slice_get list m ≡ Some field
     → (n offset unit : ℕ) → (m < length (members_of h c) → offset ≡ member_offset h (sizes_of h) c m) → ((d : ClassId) → field.ty ≡ Object d → d.0 < length h → unit ≡ sizes_of h InFull d)
-    → (n + (offset + i * unit % 2 ^ 32) % 2 ^ 32) % 2 ^ 32 ≡ (n + (member_offset h (sizes_of h) c m + i * sizes_of h InFull d)) % 2 ^ 32
+    → (n + (offset + i * unit % 2 ^ 64) % 2 ^ 64) % 2 ^ 64 ≡ (n + (member_offset h (sizes_of h) c m + i * sizes_of h InFull d)) % 2 ^ 64
 slot_object h keeps c m i d known e list field is at n offset unit told size =
     let f = field_of h c m i (Object d) e list field is at in
     let ty = ap (λ (t : Member ClassId). t.ty) f ∙ e.type_is in
     let low = keeps.objects c d e.member (contains_at (members_of h c) m e.member e.there) e.type_is in
     let u : unit ≡ sizes_of h InFull d = size d ty (omega arith) in
     let o : offset ≡ member_offset h (sizes_of h) c m = told (slice_get_within (members_of h c) m e.member e.there) in
-    wraps n offset (i * unit) ∙ (ap (λ k. (n + (k + i * unit)) % 2 ^ 32) o ∙ ap (λ k. (n + (member_offset h (sizes_of h) c m + i * k)) % 2 ^ 32) u)
+    wraps n offset (i * unit) ∙ (ap (λ k. (n + (k + i * unit)) % 2 ^ 64) o ∙ ap (λ k. (n + (member_offset h (sizes_of h) c m + i * k)) % 2 ^ 64) u)
 
 pub slot_value : (h : Classes) (c : ClassId) (m i : ℕ) (t : ValueType ClassId) → IsElement h c m i (Value t) → (list : List (Member ClassId)) (field : Member ClassId) → list ≡ members_of h c → slice_get list m ≡ Some field
     → (n offset unit : ℕ) → (m < length (members_of h c) → offset ≡ member_offset h (sizes_of h) c m) → ((t : ValueType ClassId) → field.ty ≡ Value t → unit ≡ 1)
-    → (n + (offset + i * unit % 2 ^ 32) % 2 ^ 32) % 2 ^ 32 ≡ (n + (member_offset h (sizes_of h) c m + i)) % 2 ^ 32
+    → (n + (offset + i * unit % 2 ^ 64) % 2 ^ 64) % 2 ^ 64 ≡ (n + (member_offset h (sizes_of h) c m + i)) % 2 ^ 64
 slot_value h c m i t e list field is at n offset unit told size =
     let f = field_of h c m i (Value t) e list field is at in
     let ty = ap (λ (t : Member ClassId). t.ty) f ∙ e.type_is in
     let u : unit ≡ 1 = size t ty in
     let o : offset ≡ member_offset h (sizes_of h) c m = told (slice_get_within (members_of h c) m e.member e.there) in
     let w : i * unit ≡ i = ap (λ k. i * k) u ∙ (let e : i * 1 ≡ i = omega arith in e) in
-    wraps n offset (i * unit) ∙ (ap (λ k. (n + (k + i * unit)) % 2 ^ 32) o ∙ ap (λ k. (n + (member_offset h (sizes_of h) c m + k)) % 2 ^ 32) w)
+    wraps n offset (i * unit) ∙ (ap (λ k. (n + (k + i * unit)) % 2 ^ 64) o ∙ ap (λ k. (n + (member_offset h (sizes_of h) c m + k)) % 2 ^ 64) w)
 
 -- past the end there is no member
 pub element_none : (h : Classes) (c : ClassId) (m i : ℕ) (t : FieldType ClassId) → IsElement h c m i t → (list : List (Member ClassId)) → list ≡ members_of h c → length list ≤ m → ⊥

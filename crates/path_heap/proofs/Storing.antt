@@ -86,5 +86,6 @@ stored_stands h heap new s stands k value l v q means did = record {
     tops = ap length did.tops ∙ stands.counts.tops;
     around = ap length did.around ∙ stands.counts.around;
     few = stands.counts.few;
+    small = stands.counts.small;
   };
 }

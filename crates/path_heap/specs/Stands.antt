@@ -3,6 +3,7 @@ use Rattle.std.specs.Prelude.{◌≡◌, ℕ, ◌≤◌, ◌^◌, Some, List, le
 use Rattle.cxx_hierarchy.specs.declared.records.ClassId.{ClassId}
 use Rattle.cxx_hierarchy.specs.Classes.{Classes}
 use Rattle.cxx_hierarchy.specs.Hierarchies.{IsHierarchy}
+use Rattle.cxx_subobject.specs.Parts.{most_parts}
 use Rattle.path_plan.specs.Places.{ObjectPart}
 use Rattle.path_plan.specs.Phases.{Phase, Raw, InBases, ReadyBuilding, Complete, ReadyEnding, EndingBases, Ended}
 use Rattle.path_plan.specs.Plans.{InFull}
@@ -75,14 +76,15 @@ pub record ObjectStands (h : Classes) (s : Objects) (objects : List ObjectRow) (
   pub start : row.start ≡ start_of (sizes_of h) s.classes k
   pub closed : row.is_closed ≡ s.is_closed k
 
--- one number for each part and each leaf of the objects made so far
+-- one number for each part and each leaf of the objects made so far, of which none has more than the limit on parts
 pub record CountsParts (h : Classes) (classes : List ClassId) (heap : Heap) : Type 0 where
   pub objects : length heap.objects.items ≡ length classes
   pub cells : length heap.cells.items ≡ total (sizes_of h InFull) classes
   pub leaves : length heap.leaves.items ≡ total (sizes_of h InFull) classes
   pub tops : length heap.tops.items ≡ total (sizes_of h InFull) classes
   pub around : length heap.around.items ≡ total (sizes_of h InFull) classes
-  pub few : total (sizes_of h InFull) classes ≤ 2 ^ 32
+  pub few : total (sizes_of h InFull) classes ≤ 2 ^ 64
+  pub small : (k : ℕ) (c : ClassId) → slice_get classes k ≡ Some c → sizes_of h InFull c ≤ most_parts
 
 -- the heap stands for these objects, column by column
 pub record HeapStands (h : Classes) (heap : Heap) (s : Objects) : Type 0 where

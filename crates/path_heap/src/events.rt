@@ -44,7 +44,7 @@ impl Heap {
     }
 
     /// The part that was the innermost one when this one began.
-    fn outer(&self, n: u32) -> Option<u32>
+    fn outer(&self, n: u64) -> Option<u64>
         ensures { result ≡ entry_at self.now.around.items n }
     {
         self.around.get(n)

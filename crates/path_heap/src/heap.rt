@@ -1,10 +1,11 @@
 //! The heap, and the empty one.
 
-ghost use Rattle.std.specs.Prelude.{◌<◌, ◌^◌, length};
+ghost use Rattle.std.specs.Prelude.{◌≤◌, length};
 ghost use Rattle.cxx_hierarchy.specs.Classes.{Classes};
 ghost use Rattle.cxx_hierarchy.specs.Hierarchies.{IsHierarchy};
 ghost use Rattle.path_model.specs.Runs.{no_objects};
 ghost use Rattle.path_heap.specs.Blanks.{AreBlank};
+ghost use Rattle.path_heap.specs.Rooms.{most_objects, FitInColumns};
 
 use crate::state::{BLANK, Cell, ObjectRow, Value};
 use path_columns::Column;
@@ -21,11 +22,12 @@ pub struct Heap {
     /// The heap objects, in the order in which they were made.
     pub(crate) objects: Vec<ObjectRow>,
     /// The innermost part whose constructor or destructor runs, by the number of its complete object.
-    pub(crate) tops: Column<Option<u32>>,
+    pub(crate) tops: Column<Option<u64>>,
     /// The part that was the innermost one of the complete object when this one began to run.
-    pub(crate) around: Column<Option<u32>>,
+    pub(crate) around: Column<Option<u64>>,
     ghost blank: { AreBlank cells leaves tops around },
-    ghost few: { length objects.items < 2 ^ 32 },
+    ghost few: { length objects.items ≤ most_objects },
+    ghost fit: { FitInColumns objects.items cells leaves tops around },
 }
 
 impl Heap {

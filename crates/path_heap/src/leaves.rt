@@ -14,21 +14,21 @@ use foundation::NoMemory;
 
 impl Heap {
     /// The value in the column of leaves.
-    fn value_at(&self, k: u32) -> Value
+    fn value_at(&self, k: u64) -> Value
         ensures { result ≡ value_or_unset (slice_get self.now.leaves.items k) }
     {
         self.leaves.get(k)
     }
 
     /// The value of a leaf.
-    pub fn leaf(&self, k: u32) -> Value
+    pub fn leaf(&self, k: u64) -> Value
         ensures { (h : Classes) (s : Objects) (l : Leaf) → HeapStands h self.now s → PointsLeaf h s.classes k l → Means h s.classes result (s.leaf l) }
     {
         self.value_at(k)
     }
 
     /// Sets the column of leaves.
-    fn store(&mut self, k: u32, value: Value) -> Result<(), NoMemory>
+    fn store(&mut self, k: u64, value: Value) -> Result<(), NoMemory>
         ensures { IfOk result (λ _. Stored self.old self.new k value) }
     {
         self.leaves.set(k, value)?;
@@ -38,7 +38,7 @@ impl Heap {
     /// Gives a leaf a value.
     ///
     /// Errors: want of memory. The heap is then of no use.
-    pub fn set_leaf(&mut self, k: u32, value: Value) -> Result<(), NoMemory>
+    pub fn set_leaf(&mut self, k: u64, value: Value) -> Result<(), NoMemory>
         ensures { IfOk result (λ _. (h : Classes) (s : Objects) (l : Leaf) (v : ValueOf) → HeapStands h self.old s → PointsLeaf h s.classes k l → Means h s.classes value v → HeapStands h self.new (leaf_set s l v)) }
     {
         self.store(k, value)?;

@@ -17,7 +17,7 @@ pub(crate) fn set<T: Copy + Drop>(list: &mut Vec<T>, i: u32, item: T)
 }
 
 /// How many rows begin at a number or before it, where each begins behind those before it.
-fn rows_to(rows: &Vec<ObjectRow>, n: u32) -> usize
+fn rows_to(rows: &Vec<ObjectRow>, n: u64) -> usize
     ensures { IsCut rows.now.items n result }
 {
     let mut low = 0;
@@ -37,7 +37,7 @@ fn rows_to(rows: &Vec<ObjectRow>, n: u32) -> usize
 }
 
 /// The number of the heap object whose part or leaf has a number: the last one that begins there or before.
-pub(crate) fn object_at(rows: &Vec<ObjectRow>, n: u32) -> u32
+pub(crate) fn object_at(rows: &Vec<ObjectRow>, n: u64) -> u32
     requires { length rows.now.items < 2 ^ 32 }
     ensures { IsObjectAt rows.now.items n result }
 {

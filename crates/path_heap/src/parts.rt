@@ -11,7 +11,7 @@ use crate::state::Part;
 use cxx_hierarchy::ClassId;
 
 /// The whole of a heap object of a class, by its number.
-pub fn whole_at(number: u32, class: ClassId) -> Part
+pub fn whole_at(number: u64, class: ClassId) -> Part
     ensures { (h : Classes) (classes : List ClassId) (k : ℕ) → IsHierarchy h → slice_get classes k ≡ Some class → Points h classes number (whole_part k class) → StandsForPart h classes result (whole_part k class) }
 {
     Part {

@@ -22,21 +22,21 @@ use cxx_hierarchy::ClassId;
 
 impl Heap {
     /// The cell of a part.
-    pub(crate) fn cell(&self, n: u32) -> Cell
+    pub(crate) fn cell(&self, n: u64) -> Cell
         ensures { result ≡ cell_at self.now n }
     {
         self.cells.get(n)
     }
 
     /// The innermost part that runs in a complete object.
-    pub(crate) fn top(&self, n: u32) -> Option<u32>
+    pub(crate) fn top(&self, n: u64) -> Option<u64>
         ensures { result ≡ entry_at self.now.tops.items n }
     {
         self.tops.get(n)
     }
 
     /// The number of the heap object whose part has a number.
-    pub(crate) fn object_at(&self, n: u32) -> u32
+    pub(crate) fn object_at(&self, n: u64) -> u32
         ensures { IsObjectAt self.now.objects.items n result }
     {
         object_at(&self.objects, n)
@@ -57,8 +57,8 @@ impl Heap {
         }
     }
 
-    /// The number of the heap object of a part. Fewer than 2 ^ 32 objects are kept (`few` of the heap), so that a number is left behind it.
-    pub fn object(&self, n: u32) -> u32
+    /// The number of the heap object of a part. No more than 4,194,304 objects are kept (`few` of the heap), so that a number is left behind it.
+    pub fn object(&self, n: u64) -> u32
         ensures is { (h : Classes) (s : Objects) (p : ObjectPart) → HeapStands h self.now s → Points h s.classes n p → p.object ≡ result }
         ensures small { result < 4294967295 }
     {
@@ -66,14 +66,14 @@ impl Heap {
     }
 
     /// The number of the whole of the heap object of a part.
-    pub fn heap_object(&self, n: u32) -> u32
+    pub fn heap_object(&self, n: u64) -> u64
         ensures { (h : Classes) (s : Objects) (p : ObjectPart) (c : ClassId) → HeapStands h self.now s → Points h s.classes n p → slice_get s.classes p.object ≡ Some c → Points h s.classes result (whole_part p.object c) }
     {
         self.row(self.object_at(n)).start
     }
 
     /// The class of the heap object of a part.
-    pub fn object_class(&self, n: u32) -> ClassId
+    pub fn object_class(&self, n: u64) -> ClassId
         ensures { (h : Classes) (s : Objects) (p : ObjectPart) → HeapStands h self.now s → Points h s.classes n p → slice_get s.classes p.object ≡ Some result }
     {
         self.row(self.object_at(n)).class
@@ -87,42 +87,42 @@ impl Heap {
     }
 
     /// The phase of a part.
-    pub fn phase(&self, n: u32) -> Phase
+    pub fn phase(&self, n: u64) -> Phase
         ensures { (h : Classes) (s : Objects) (p : ObjectPart) → HeapStands h self.now s → Points h s.classes n p → s.phases.phase p ≡ phase_of result }
     {
         self.cell(n).phase
     }
 
     /// Whether the destruction of a part's heap object has ended.
-    pub fn is_closed(&self, n: u32) -> bool
+    pub fn is_closed(&self, n: u64) -> bool
         ensures { (h : Classes) (s : Objects) (p : ObjectPart) → HeapStands h self.now s → Points h s.classes n p → s.is_closed p.object ≡ result }
     {
         self.row(self.object_at(n)).is_closed
     }
 
     /// The class of a part that has begun.
-    pub fn class(&self, n: u32) -> ClassId
+    pub fn class(&self, n: u64) -> ClassId
         ensures { (h : Classes) (s : Objects) (p : ObjectPart) → HeapStands h self.now s → Points h s.classes n p → HasBegun s p → class_of p.at ≡ Some result }
     {
         self.cell(n).class
     }
 
     /// The number of the complete object of a part that has begun.
-    pub fn whole(&self, n: u32) -> u32
+    pub fn whole(&self, n: u64) -> u64
         ensures { (h : Classes) (s : Objects) (p : ObjectPart) → HeapStands h self.now s → Points h s.classes n p → HasBegun s p → PointsWhole h s.classes result p }
     {
         self.cell(n).whole
     }
 
     /// The class of the complete object of a part that has begun.
-    pub fn owner_class(&self, n: u32) -> ClassId
+    pub fn owner_class(&self, n: u64) -> ClassId
         ensures { (h : Classes) (s : Objects) (p : ObjectPart) → HeapStands h self.now s → Points h s.classes n p → HasBegun s p → class_of_owner h s p ≡ Some result }
     {
         self.cell(n).owner
     }
 
     /// A part that has begun, with what its events name.
-    pub fn part(&self, n: u32) -> Part
+    pub fn part(&self, n: u64) -> Part
         ensures { (h : Classes) (s : Objects) (p : ObjectPart) → HeapStands h self.now s → Points h s.classes n p → HasBegun s p → StandsForPart h s.classes result p }
     {
         let cell = self.cell(n);
@@ -135,14 +135,14 @@ impl Heap {
     }
 
     /// Whether the complete object of a part that has begun is the heap object itself, and no member.
-    pub fn is_in_heap_object(&self, n: u32) -> bool
+    pub fn is_in_heap_object(&self, n: u64) -> bool
         ensures { (h : Classes) (s : Objects) (p : ObjectPart) → HeapStands h self.now s → Points h s.classes n p → HasBegun s p → is_in_heap_object p.owner ≡ result }
     {
         self.row(self.object_at(n)).start == self.cell(n).whole
     }
 
     /// The number of the view of the complete object of a part that has begun, and None where it has no view.
-    pub fn view(&self, n: u32) -> Option<u32>
+    pub fn view(&self, n: u64) -> Option<u64>
         ensures { (h : Classes) (s : Objects) (p : ObjectPart) → HeapStands h self.now s → Points h s.classes n p → HasBegun s p → PointsView h s.classes p result (view_of h s p) }
     {
         let whole = self.cell(n).whole;
@@ -151,7 +151,7 @@ impl Heap {
 }
 
 /// The number of a view: of the whole while it is complete, else of the innermost part that runs.
-fn view_of_whole(phase: Phase, whole: u32, top: Option<u32>) -> Option<u32>
+fn view_of_whole(phase: Phase, whole: u64, top: Option<u64>) -> Option<u64>
     ensures { result ≡ view_number phase whole top }
 {
     match phase {

@@ -27,15 +27,15 @@ pub enum Value {
     Unset,
     Number(i128),
     Null,
-    Pointer(u32),
+    Pointer(u64),
 }
 
 /// A part by its number, with its class, and the number and the class of the complete object that it belongs to.
 #[derive(Clone, Copy)]
 pub struct Part {
-    pub number: u32,
+    pub number: u64,
     pub class: ClassId,
-    pub whole: u32,
+    pub whole: u64,
     pub owner: ClassId,
 }
 
@@ -44,7 +44,7 @@ pub struct Part {
 pub struct Cell {
     pub phase: Phase,
     pub class: ClassId,
-    pub whole: u32,
+    pub whole: u64,
     pub owner: ClassId,
 }
 
@@ -60,6 +60,6 @@ pub(crate) const BLANK: Cell = Cell {
 #[derive(Clone, Copy)]
 pub struct ObjectRow {
     pub class: ClassId,
-    pub start: u32,
+    pub start: u64,
     pub is_closed: bool,
 }

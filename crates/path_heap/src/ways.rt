@@ -22,21 +22,21 @@ use cxx_subobject::{Root, Subobject};
 use path_numbers::Numbers;
 
 /// How far a path of direct bases that are not virtual leads from a part of class c.
-fn path_distance(numbers: &Numbers, h: &Hierarchy, c: ClassId, path: &[ClassId]) -> u32
+fn path_distance(numbers: &Numbers, h: &Hierarchy, c: ClassId, path: &[ClassId]) -> u64
     requires { AreClassNumbers h.now numbers.now }
     ensures { IsPathDistance h.now c path.now result }
 {
     match path {
         [] => 0,
         [b, below @ ..] => {
-            let base = numbers.base_number(h, c, *b);
+            let base = numbers.base_number(h, c, *b) as u64;
             base.wrapping_add(path_distance(numbers, h, *b, below))
         }
     }
 }
 
 /// How far a virtual base stands behind a complete object of class c.
-fn shared_distance(numbers: &Numbers, h: &Hierarchy, c: ClassId, v: ClassId) -> u32
+fn shared_distance(numbers: &Numbers, h: &Hierarchy, c: ClassId, v: ClassId) -> u64
     requires { AreClassNumbers h.now numbers.now }
     ensures { IsSharedDistance h.now c v result }
 {
@@ -46,7 +46,7 @@ fn shared_distance(numbers: &Numbers, h: &Hierarchy, c: ClassId, v: ClassId) -> 
         return 0;
     }
     // the 0 is never met for a virtual base of c: `shared_offset` of path_numbers has an offset for each
-    numbers.shared_offset(c, v).unwrap_or(0)
+    numbers.shared_offset(c, v).unwrap_or(0) as u64
 }
 
 /// The number of an element of a member of a part of class c, which has the number n.
@@ -54,13 +54,13 @@ pub(crate) fn element_number(
     numbers: &Numbers,
     h: &Hierarchy,
     c: ClassId,
-    n: u32,
+    n: u64,
     member: u32,
     index: u32,
-) -> u32
+) -> u64
     requires { AreClassNumbers h.now numbers.now }
-    ensures object { (d : ClassId) → IsElement h.now c member index (Object d) → result ≡ (n + (member_offset h.now (sizes_of h.now) c member + index * sizes_of h.now InFull d)) % 2 ^ 32 }
-    ensures value { (t : ValueType ClassId) → IsElement h.now c member index (Value t) → result ≡ (n + (member_offset h.now (sizes_of h.now) c member + index)) % 2 ^ 32 }
+    ensures object { (d : ClassId) → IsElement h.now c member index (Object d) → result ≡ (n + (member_offset h.now (sizes_of h.now) c member + index * sizes_of h.now InFull d)) % 2 ^ 64 }
+    ensures value { (t : ValueType ClassId) → IsElement h.now c member index (Value t) → result ≡ (n + (member_offset h.now (sizes_of h.now) c member + index)) % 2 ^ 64 }
 {
     h.keeps();
     // never met for an element, nor the next exit: `IsElement` says that its class has the member
@@ -73,11 +73,8 @@ pub(crate) fn element_number(
     }
     let field = member_at(members, member as usize);
     let unit = unit_size(numbers, h, &field.ty);
-    n.wrapping_add(
-        numbers
-            .member_offset(c, member as usize)
-            .wrapping_add(index.wrapping_mul(unit)),
-    )
+    let offset = numbers.member_offset(c, member as usize) as u64;
+    n.wrapping_add(offset.wrapping_add((index as u64).wrapping_mul(unit)))
 }
 
 /// A member by its place.
@@ -89,7 +86,7 @@ fn member_at(members: &[Member<ClassId>], i: usize) -> &Member<ClassId>
 }
 
 /// How many numbers an element of a member takes.
-fn unit_size(numbers: &Numbers, h: &Hierarchy, ty: &FieldType<ClassId>) -> u32
+fn unit_size(numbers: &Numbers, h: &Hierarchy, ty: &FieldType<ClassId>) -> u64
     requires { AreClassNumbers h.now numbers.now }
     ensures object { (d : ClassId) → ty.now ≡ Object d → d.0 < length h.now → result ≡ sizes_of h.now InFull d }
     ensures value { (t : ValueType ClassId) → ty.now ≡ Value t → result ≡ 1 }
@@ -101,7 +98,7 @@ fn unit_size(numbers: &Numbers, h: &Hierarchy, ty: &FieldType<ClassId>) -> u32
 }
 
 /// How many numbers a complete object takes.
-fn object_size(numbers: &Numbers, h: &Hierarchy, d: ClassId) -> u32
+fn object_size(numbers: &Numbers, h: &Hierarchy, d: ClassId) -> u64
     requires { AreClassNumbers h.now numbers.now }
     ensures { d.0 < length h.now → result ≡ sizes_of h.now InFull d }
 {
@@ -109,7 +106,7 @@ fn object_size(numbers: &Numbers, h: &Hierarchy, d: ClassId) -> u32
     if d.0 >= h.len() {
         return 0;
     }
-    numbers.in_full(d)
+    numbers.in_full(d) as u64
 }
 
 /// The classes of a path below its first.
@@ -124,7 +121,7 @@ fn below_first(path: &[ClassId]) -> &[ClassId]
 
 impl Heap {
     /// The number of a subobject of a part that has begun.
-    pub fn base(&self, numbers: &Numbers, h: &Hierarchy, n: u32, i: &Subobject) -> u32
+    pub fn base(&self, numbers: &Numbers, h: &Hierarchy, n: u64, i: &Subobject) -> u64
         requires { AreClassNumbers h.now numbers.now }
         ensures { (s : Objects) (p : ObjectPart) (c : ClassId) → HeapStands h.now self.now s → Points h.now s.classes n p → HasBegun s p → class_of p.at ≡ Some c → IsSubobject h.now c i.now → Points h.now s.classes result (inner_part p i.now) }
     {
@@ -144,29 +141,29 @@ impl Heap {
         &self,
         numbers: &Numbers,
         h: &Hierarchy,
-        n: u32,
+        n: u64,
         c: ClassId,
         i: &Subobject,
         x: u32,
-    ) -> u32
+    ) -> u64
         requires { AreClassNumbers h.now numbers.now }
         ensures { (s : Objects) (p : ObjectPart) → HeapStands h.now self.now s → Points h.now s.classes n p → HasBegun s p → class_of p.at ≡ Some c → IsSubobject h.now c i.now → x ≡ subobject_number h.now c i.now → Points h.now s.classes result (inner_part p i.now) }
     {
         match i.root {
-            Root::Whole => n.wrapping_add(x),
+            Root::Whole => n.wrapping_add(x as u64),
             Root::Shared(v) => {
                 let cell = self.cell(n);
                 let far = shared_distance(numbers, h, cell.owner, v);
                 let near = shared_distance(numbers, h, c, v);
                 // a cut at 0 is never met: what lies in a virtual base has no number below its own
                 cell.whole
-                    .wrapping_add(far.wrapping_add(x.saturating_sub(near)))
+                    .wrapping_add(far.wrapping_add((x as u64).saturating_sub(near)))
             }
         }
     }
 
     /// The number of an element, of class d, of a member of a part that has begun.
-    pub fn element(&self, numbers: &Numbers, h: &Hierarchy, n: u32, member: u32, index: u32) -> u32
+    pub fn element(&self, numbers: &Numbers, h: &Hierarchy, n: u64, member: u32, index: u32) -> u64
         requires { AreClassNumbers h.now numbers.now }
         ensures { (s : Objects) (p : ObjectPart) (c d : ClassId) → HeapStands h.now self.now s → Points h.now s.classes n p → HasBegun s p → class_of p.at ≡ Some c → IsElement h.now c member index (Object d) → Points h.now s.classes result (element p member index d) }
     {
@@ -178,10 +175,10 @@ impl Heap {
         &self,
         numbers: &Numbers,
         h: &Hierarchy,
-        n: u32,
+        n: u64,
         member: u32,
         index: u32,
-    ) -> u32
+    ) -> u64
         requires { AreClassNumbers h.now numbers.now }
         ensures { (s : Objects) (p : ObjectPart) (c : ClassId) (t : ValueType ClassId) → HeapStands h.now self.now s → Points h.now s.classes n p → HasBegun s p → class_of p.at ≡ Some c → IsElement h.now c member index (Value t) → PointsLeaf h.now s.classes result (leaf p member index) }
     {

@@ -15,3 +15,4 @@ pub mod Knowing
 pub mod Beginnings
 pub mod Sets
 pub mod Changing
+pub mod Counting

@@ -44,6 +44,7 @@ steps_by h sizes program before machine answers told telling (Moves s outs) is r
     machine_stands = subst (MachineStands h sizes program machine) (sym (state_is h sizes program before.taken s outs is)) stands;
     running = runs_longer h sizes program before.taken s outs a.running is;
     within = omega arith;
+    few = a.few;
     answers_right = right_answers;
   };
   tells = subst (λ m. TellsMore told telling (outs_in m)) (sym is) tells;

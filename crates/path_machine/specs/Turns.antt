@@ -1,5 +1,6 @@
 -- When the machine is at a step of a run, and what a turn has to be.
 use Rattle.std.specs.Prelude.{◌≡◌, ◌≤◌, ℕ, ◌+◌, Bool, Option, Some, None}
+use Rattle.foundation.specs.Limits.{most_steps}
 use Rattle.cxx_hierarchy.specs.declared.records.ClassId.{ClassId}
 use Rattle.cxx_hierarchy.specs.Classes.{Classes}
 use Rattle.cxx_program.specs.declared.program.TypedProgram.{TypedProgram}
@@ -34,11 +35,12 @@ ending_of (Refused rule line) = UndefinedAt rule line
 ending_of IsOutOfSteps = OutOfSteps
 ending_of (Limit limit) = LimitMet limit
 
--- the run has taken the machine's steps and has not ended, and the machine stands for the state behind them
+-- the run has taken the machine's steps, of which it may take no more than the limit on them, and has not ended, and the machine stands for the state behind them
 pub record IsAtStep (h : Classes) (sizes : ClassId → ℕ) (program : TypedProgram) (state : PathState) : Type 0 where
   pub machine_stands : MachineStands h sizes program state.machine (state_at h sizes program state.taken)
   pub running : IsRunning h sizes program state.taken
   pub within : state.taken ≤ state.budget
+  pub few : state.budget ≤ most_steps
   pub answers_right : AreAnswers h state.answers
 
 -- the run has ended with this answer

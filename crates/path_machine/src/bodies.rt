@@ -1,10 +1,11 @@
 //! The steps of bodies: the next statement, or the end of a body.
 
-ghost use Rattle.std.specs.Prelude.{◌≡◌, ◌+◌, ◌<◌, ◌^◌, ℕ, List, IfOk, IfSome, option_copied, slice_get};
+ghost use Rattle.std.specs.Prelude.{◌≡◌, ◌+◌, ◌<◌, ◌^◌, ℕ, List, IfOk, IfSome, option_copied, slice_get, length};
 ghost use Rattle.cxx_hierarchy.specs.declared.records.ClassId.{ClassId};
 ghost use Rattle.cxx_hierarchy.specs.Classes.{Classes};
 ghost use Rattle.cxx_overrider.specs.Functions.{return_of};
 ghost use Rattle.cxx_program.specs.declared.program.TypedProgram.{TypedProgram};
+ghost use Rattle.path_heap.specs.Rooms.{most_objects};
 ghost use Rattle.path_machine.specs.declared.telling.Telling.{Telling};
 ghost use Rattle.path_model.specs.Rules.{returns_value};
 ghost use Rattle.path_model.specs.States.{RunningBody, Frame as FrameOf, ProgramState, target_conversion};
@@ -103,6 +104,7 @@ fn declare(
     x: &Option<Converted>,
 ) -> Result<Next, NoMemory>
     requires setup { IsSetup run.now }
+    requires few { length machine.old.heap.objects.items < most_objects }
     requires answers { AreAnswers run.now.world.h.now answers.old }
     ensures answers { AreAnswers run.now.world.h.now answers.new }
     ensures agrees { IfOk result (DeclaresLocal run.now machine.old machine.new frame next n x.now outs.old outs.new) }
@@ -139,6 +141,7 @@ fn effect(
     statement: &TypedStatement,
 ) -> Result<Next, NoMemory>
     requires setup { IsSetup run.now }
+    requires few { length machine.old.heap.objects.items < most_objects }
     requires answers { AreAnswers run.now.world.h.now answers.old }
     ensures answers { AreAnswers run.now.world.h.now answers.new }
     ensures agrees { IfOk result (DoesEffect run.now machine.old machine.new frame after statement.now outs.old outs.new) }
@@ -264,6 +267,7 @@ fn asked_step(
     statement: &TypedStatement,
 ) -> Result<Next, NoMemory>
     requires setup { IsSetup run.now }
+    requires few { length machine.old.heap.objects.items < most_objects }
     requires answers { AreAnswers run.now.world.h.now answers.old }
     ensures answers { AreAnswers run.now.world.h.now answers.new }
     ensures agrees { IfOk result (DoesStatement run.now machine.old machine.new frame after statement.now outs.old outs.new) }
@@ -288,6 +292,7 @@ fn statement_step(
     statement: &TypedStatement,
 ) -> Result<Next, NoMemory>
     requires setup { IsSetup run.now }
+    requires few { length machine.old.heap.objects.items < most_objects }
     requires answers { AreAnswers run.now.world.h.now answers.old }
     ensures answers { AreAnswers run.now.world.h.now answers.new }
     ensures agrees { IfOk result (DoesStatement run.now machine.old machine.new frame after statement.now outs.old outs.new) }
@@ -403,6 +408,7 @@ pub(crate) fn body_step(
     frame: BodyBox,
 ) -> Result<Next, NoMemory>
     requires setup { IsSetup run.now }
+    requires few { length machine.old.heap.objects.items < most_objects }
     requires answers { AreAnswers run.now.world.h.now answers.old }
     ensures answers { AreAnswers run.now.world.h.now answers.new }
     ensures agrees { IfOk result (StepsBody run.now machine.old machine.new frame outs.old outs.new) }

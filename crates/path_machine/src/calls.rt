@@ -1,7 +1,8 @@
 //! Calls, `new` and `delete`: what opens a frame.
 
-ghost use Rattle.std.specs.Prelude.{◌≡◌, IfOk};
+ghost use Rattle.std.specs.Prelude.{◌≡◌, IfOk, ◌<◌, length};
 ghost use Rattle.path_tables.specs.Asked.{AreAnswers};
+ghost use Rattle.path_heap.specs.Rooms.{most_objects};
 ghost use Rattle.path_machine.specs.Frames.{target_of_code};
 ghost use Rattle.path_machine.specs.invariants.Steps.{size_in};
 ghost use Rattle.path_machine.specs.invariants.Setups.{IsSetup};
@@ -94,6 +95,7 @@ pub(crate) fn new_object(
     target: Option<Target>,
 ) -> Result<Next, NoMemory>
     requires setup { IsSetup run.now }
+    requires few { length machine.old.heap.objects.items < most_objects }
     ensures { IfOk result (OpensNew run.now machine.old machine.new frame next class (target_of_code target)) }
 {
     // never met: a typed `new` names a class of the hierarchy, by `runs_are_typed` of path_model

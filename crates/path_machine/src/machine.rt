@@ -11,6 +11,7 @@ ghost use Rattle.path_numbers.specs.Numbers.{AreClassNumbers};
 ghost use Rattle.path_model.specs.Effects.{with_new_object};
 ghost use Rattle.path_model.specs.Runs.{open_count, size_in_heap, heap_total, most_heap_bytes};
 ghost use Rattle.path_heap.specs.Points.{Points};
+ghost use Rattle.path_heap.specs.Rooms.{most_objects, HasFewParts};
 ghost use Rattle.path_heap.specs.Stands.{Means};
 ghost use Rattle.path_machine.specs.Machines.{MachineStands, PushesFrame};
 ghost use Rattle.path_machine.specs.invariants.Changes.{Pops};
@@ -64,7 +65,8 @@ impl Machine {
 
     /// Takes the frame on top, if there is one.
     pub fn pop(&mut self) -> Option<Frame>
-        ensures { (h : Classes) (sizes : ClassId → ℕ) (program : TypedProgram) (s : ProgramState) → MachineStands h sizes program self.old s → Pops h sizes program self.new s result s.frames }
+        ensures pops { (h : Classes) (sizes : ClassId → ℕ) (program : TypedProgram) (s : ProgramState) → MachineStands h sizes program self.old s → Pops h sizes program self.new s result s.frames }
+        ensures heap { self.new.heap ≡ self.old.heap }
     {
         let top = self.top.take();
         self.top = self.below.pop();
@@ -101,8 +103,10 @@ impl Machine {
     /// Makes a heap object of a class, of which nothing has begun: the number of its whole. Size is that of the class, in bytes.
     ///
     /// Errors: want of memory. The machine is then of no use.
-    pub fn make(&mut self, numbers: &Numbers, c: ClassId, size: u32) -> Result<u32, NoMemory>
+    pub fn make(&mut self, numbers: &Numbers, c: ClassId, size: u32) -> Result<u64, NoMemory>
         requires known { c.0 < length numbers.now }
+        requires few { length self.old.heap.objects.items < most_objects }
+        requires small { HasFewParts numbers.now c }
         requires room { self.old.bytes + size_in_heap size ≤ most_heap_bytes }
         ensures stands { IfOk result (λ n. (h : Classes) (sizes : ClassId → ℕ) (program : TypedProgram) (s : ProgramState) → AreClassNumbers h numbers.now → sizes c ≡ size → MachineStands h sizes program self.old s → MachineStands h sizes program self.new (with_objects s (with_new_object s.objects c))) }
         ensures whole { IfOk result (λ n. (h : Classes) (sizes : ClassId → ℕ) (program : TypedProgram) (s : ProgramState) → AreClassNumbers h numbers.now → MachineStands h sizes program self.old s → Points h (with_new_object s.objects c).classes n (whole_part (length s.objects.classes) c)) }

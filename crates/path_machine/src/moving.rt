@@ -1,7 +1,8 @@
 //! Where the machine goes: the step of the frame on top.
 
-ghost use Rattle.std.specs.Prelude.{IfOk};
+ghost use Rattle.std.specs.Prelude.{IfOk, ◌<◌, length};
 ghost use Rattle.path_tables.specs.Asked.{AreAnswers};
+ghost use Rattle.path_heap.specs.Rooms.{most_objects};
 ghost use Rattle.path_machine.specs.invariants.Setups.{IsSetup};
 ghost use Rattle.path_machine.specs.invariants.StatementSteps.{MovesOn};
 
@@ -25,6 +26,7 @@ pub(crate) fn move_on(
     outs: &mut Telling,
 ) -> Result<Next, NoMemory>
     requires setup { IsSetup run.now }
+    requires few { length machine.old.heap.objects.items < most_objects }
     requires answers { AreAnswers run.now.world.h.now answers.old }
     ensures answers { AreAnswers run.now.world.h.now answers.new }
     ensures agrees { IfOk result (MovesOn run.now machine.old machine.new outs.old outs.new) }

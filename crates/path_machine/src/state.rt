@@ -1,6 +1,7 @@
 //! The machine of a run.
 
-ghost use Rattle.std.specs.Prelude.{◌≡◌, ◌<◌, true, false, None, IfOk, OnOk, OnErr, IsErr};
+ghost use Rattle.std.specs.Prelude.{◌≡◌, ◌≤◌, ◌<◌, true, false, None, IfOk, OnOk, OnErr, IsErr};
+ghost use Rattle.foundation.specs.Limits.{most_steps};
 ghost use Rattle.path_model.specs.States.{is_body};
 ghost use Rattle.path_machine.specs.invariants.Steps.{size_in};
 ghost use Rattle.path_machine.specs.invariants.Setups.{IsSetup};
@@ -30,12 +31,13 @@ pub struct PathState {
 }
 
 impl PathState {
-    /// The machine at the start of a run of so many steps.
+    /// The machine at the start of a run of so many steps, which are no more than the limit on them.
     ///
     /// Errors: want of memory.
     pub fn new(run: &Run, budget: u32) -> Result<PathState, NoMemory>
         requires setup { IsSetup run.now }
         requires main { is_body run.now.program.now.main ≡ true }
+        requires budget { budget ≤ most_steps }
         ensures start { IfOk result (λ state. IsInRun run.now.world.h.now (size_in run.now.sizes.now) run.now.program.now state None) }
         ensures none { IfOk result (λ state. taken_by state ≡ 0) }
         ensures budget { IfOk result (λ state. budget_of state ≡ budget) }

@@ -1,8 +1,9 @@
 //! A variable that takes a right side.
 
-ghost use Rattle.std.specs.Prelude.{◌≡◌, IfOk};
+ghost use Rattle.std.specs.Prelude.{◌≡◌, IfOk, ◌<◌, length};
 ghost use Rattle.path_model.specs.Effects.{taker};
 ghost use Rattle.path_tables.specs.Asked.{AreAnswers};
+ghost use Rattle.path_heap.specs.Rooms.{most_objects};
 ghost use Rattle.path_machine.specs.Frames.{target_of_code};
 ghost use Rattle.path_machine.specs.invariants.Setups.{IsSetup};
 ghost use Rattle.path_machine.specs.invariants.StatementSteps.{TakesPlain, TakesSide};
@@ -84,6 +85,7 @@ pub(crate) fn take(
     x: &Converted,
 ) -> Result<Next, NoMemory>
     requires setup { IsSetup run.now }
+    requires few { length machine.old.heap.objects.items < most_objects }
     requires answers { AreAnswers run.now.world.h.now answers.old }
     ensures answers { AreAnswers run.now.world.h.now answers.new }
     ensures agrees { IfOk result (TakesSide run.now machine.old machine.new frame next variable x.now outs.old outs.new) }

@@ -72,7 +72,7 @@ leaf_told g hops more base m i k code value more_is means shows list list_is = r
 pub values_none : (g : DumpedObject) (hops : List Hop) (base : Subobject) (m k count : ℕ) (old : List DumpLeaf) → DumpsValues g hops base m k count 0 old old
 values_none g hops base m k count old = record { tells = λ s y c member t site place a type count_is. grows_none (IsDumped s) old }
 
-pub values_next : (g : DumpedObject) (hops : List Hop) (base : Subobject) (m k count i : ℕ) → i < count → (old mid new : List DumpLeaf) (told : DumpLeaf) → DumpsValues g hops base m k count i old mid → DumpsLeaf g hops base m i ((k + i) % 2 ^ 32) told → new ≡ mid ++ told ∷ []
+pub values_next : (g : DumpedObject) (hops : List Hop) (base : Subobject) (m k count i : ℕ) → i < count → (old mid new : List DumpLeaf) (told : DumpLeaf) → DumpsValues g hops base m k count i old mid → DumpsLeaf g hops base m i ((k + i) % 2 ^ 64) told → new ≡ mid ++ told ∷ []
     → DumpsValues g hops base m k count (i + 1) old new
 values_next g hops base m k count i lt old mid new told before one new_is = record {
   tells = λ s y c member t site place a type count_is.
@@ -100,7 +100,7 @@ site_of : (g : DumpedObject) (s : Objects) (p q : ObjectPart) → p.object ≡ q
 site_of g s p q e site = record { stands = site.stands; object = site.object ∙ ap (λ k. k + 1) e; class = site.class ∙ ap (object_class s) e }
 
 pub elements_next : (g : DumpedObject) (hops : List Hop) (base : Subobject) (m : ℕ) (d : ClassId) (k count i size : ℕ) → i < count → size ≡ sizes_of g.classes InFull d → (more : List Hop) → more ≡ hops ++ Inherit base ∷ MemberHop m i ∷ []
-    → (old mid new : List DumpLeaf) → DumpsElements g hops base m d k count i old mid → (list : List Hop) → list ≡ more → DumpsWhole g list d ((k + (i * size) % 2 ^ 32) % 2 ^ 32) mid new → DumpsElements g hops base m d k count (i + 1) old new
+    → (old mid new : List DumpLeaf) → DumpsElements g hops base m d k count i old mid → (list : List Hop) → list ≡ more → DumpsWhole g list d ((k + (i * size) % 2 ^ 64) % 2 ^ 64) mid new → DumpsElements g hops base m d k count (i + 1) old new
 elements_next g hops base m d k count i size lt size_is more more_is old mid new before list list_is one = record {
   tells = λ s y c member site place a type count_is.
       let h = g.classes in
@@ -127,15 +127,15 @@ pub members_none : (g : DumpedObject) (hops : List Hop) (base : Subobject) (c : 
 members_none g hops base c k old = record { tells = λ s y site place a. grows_none (IsDumped s) old }
 
 pub members_next : (g : DumpedObject) (hops : List Hop) (base : Subobject) (c : ClassId) (k m : ℕ) (member : Member ClassId) (offset : ℕ) → slice_get (members_of g.classes c) m ≡ Some member → offset ≡ member_offset g.classes (sizes_of g.classes) c m
-    → (old mid new : List DumpLeaf) → DumpsMembers g hops base c k m old mid → DumpsMember g hops base c m member ((k + offset) % 2 ^ 32) mid new → DumpsMembers g hops base c k (m + 1) old new
+    → (old mid new : List DumpLeaf) → DumpsMembers g hops base c k m old mid → DumpsMember g hops base c m member ((k + offset) % 2 ^ 64) mid new → DumpsMembers g hops base c k (m + 1) old new
 members_next g hops base c k m member offset listed offset_is old mid new before one = record {
   tells = λ s y site place a.
-      let there : IsMemberAt g.classes s.classes c ((k + offset) % 2 ^ 32) m member y = record {
+      let there : IsMemberAt g.classes s.classes c ((k + offset) % 2 ^ 64) m member y = record {
         few = a.few;
         at = a.at;
         class = a.class;
         listed = listed;
-        number = ap (λ t. (k + t) % 2 ^ 32) offset_is ∙ ap (λ t. (t + member_offset g.classes (sizes_of g.classes) c m) % 2 ^ 32) (sym a.number);
+        number = ap (λ t. (k + t) % 2 ^ 64) offset_is ∙ ap (λ t. (t + member_offset g.classes (sizes_of g.classes) c m) % 2 ^ 64) (sym a.number);
       } in
       grows_counted (IsDumped s) (leaves_in g.classes c y.part) m old mid new (before.tells s y site place a)
       (subst (λ (o : Option (Member ClassId)). Grows (IsDumped s) mid new (member_leaves (leaves_of g.classes) y.part m o)) (sym listed) (one.tells s y site place there));
@@ -147,7 +147,7 @@ pub bases_none : (g : DumpedObject) (hops : List Hop) (c : ClassId) (k : ℕ) (o
 bases_none g hops c k old = record { tells = λ s y site hops_are a full. grows_none (IsDumped s) old }
 
 bases_next : (g : DumpedObject) → IsHierarchy g.classes → (hops : List Hop) (c : ClassId) (k : ℕ) (list : List Subobject) (j : ℕ) (i : Subobject) → j < length list → IsSubobject g.classes c (get_or list j i) → (d : ClassId) → class_of (get_or list j i) ≡ Some d → (number : ℕ) → number ≡ subobject_number g.classes c (get_or list j i)
-    → (old mid new : List DumpLeaf) → DumpsBases g hops c k (take j list) old mid → DumpsOwn g hops (get_or list j i) d ((k + number) % 2 ^ 32) mid new → DumpsBases g hops c k (take (j + 1) list) old new
+    → (old mid new : List DumpLeaf) → DumpsBases g hops c k (take j list) old mid → DumpsOwn g hops (get_or list j i) d ((k + number) % 2 ^ 64) mid new → DumpsBases g hops c k (take (j + 1) list) old new
 bases_next g keeps hops c k list j i lt valid d class number number_told old mid new before one = record {
   tells = λ s y site hops_are a full.
       let h = g.classes in
@@ -162,13 +162,13 @@ bases_next g keeps hops c k list j i lt valid d class number number_told old mid
 }
 
 pub bases_step : (g : DumpedObject) → IsHierarchy g.classes → (hops : List Hop) (c : ClassId) (k : ℕ) (list : List Subobject) (j : ℕ) (x : Subobject) → list ≡ preorder g.classes c → j < length list → x ≡ get_or list j x → (d : ClassId) → ((e : ClassId) → class_of x ≡ Some e → d ≡ e) → (number : ℕ) → number ≡ subobject_number g.classes c x
-    → (old mid new : List DumpLeaf) → DumpsBases g hops c k (take j list) old mid → DumpsOwn g hops x d ((k + number) % 2 ^ 32) mid new → DumpsBases g hops c k (take (j + 1) list) old new
+    → (old mid new : List DumpLeaf) → DumpsBases g hops c k (take j list) old mid → DumpsOwn g hops x d ((k + number) % 2 ^ 64) mid new → DumpsBases g hops c k (take (j + 1) list) old new
 bases_step g keeps hops c k list j x is lt at d told number number_told old mid new before one =
     let h = g.classes in
     let valid = valid_at h c list j x is lt at in
     let class = class_found h c d x valid told in
     bases_next g keeps hops c k list j x lt (subst (λ (t : Subobject). IsSubobject h c t) at valid) d (ap class_of (sym at) ∙ class) number (number_told ∙ ap (subobject_number h c) at) old mid new before
-    (subst (λ (t : Subobject). DumpsOwn g hops t d ((k + number) % 2 ^ 32) mid new) at one)
+    (subst (λ (t : Subobject). DumpsOwn g hops t d ((k + number) % 2 ^ 64) mid new) at one)
 
 -- the whole heap object
 

@@ -41,17 +41,17 @@ use Rattle.path_places.specs.invariants.Leaves.{Grows, base_leaves, element_leav
 use Rattle.path_places.proofs.Growing.{zip_map, grows_none, grows_pushed, grows_next, grows_counted, flat_more}
 use Rattle.path_places.proofs.Opening.{leaves_open, leaves_past}
 
--- sums of 32 bits
-turned_two : (n a b k : ℕ) → n + (a + b) < 2 ^ 32 → k ≡ (n + a) % 2 ^ 32 → (k + b) % 2 ^ 32 ≡ n + (a + b)
+-- sums of 64 bits
+turned_two : (n a b k : ℕ) → n + (a + b) < 2 ^ 64 → k ≡ (n + a) % 2 ^ 64 → (k + b) % 2 ^ 64 ≡ n + (a + b)
 turned_two n a b k lt is = omega arith
 
-turned_inner : (n a b k : ℕ) → n + (a + b) < 2 ^ 32 → k ≡ (n + a) % 2 ^ 32 → (k + b % 2 ^ 32) % 2 ^ 32 ≡ n + (a + b)
+turned_inner : (n a b k : ℕ) → n + (a + b) < 2 ^ 64 → k ≡ (n + a) % 2 ^ 64 → (k + b % 2 ^ 64) % 2 ^ 64 ≡ n + (a + b)
 turned_inner n a b k lt is = omega arith
 
 -- a member that is a number or a pointer
 
 pub leaf_points : (h : Classes) → IsHierarchy h → (classes : List ClassId) (c : ClassId) (k m : ℕ) (member : Member ClassId) (y : Node) → IsMemberAt h classes c k m member y → (t : ValueType ClassId) → member.ty ≡ ValueField t → (i : ℕ) → i < elements_of member.count
-    → PointsLeaf h classes ((k + i) % 2 ^ 32) (leaf y.part m i)
+    → PointsLeaf h classes ((k + i) % 2 ^ 64) (leaf y.part m i)
 leaf_points h keeps classes c k m member y a t type i lt =
     let size = sizes_of h in
     let listed : slice_get (members_of h y.class) m ≡ Some member = subst (λ (d : ClassId). slice_get (members_of h d) m ≡ Some member) (sym a.class) a.listed in
@@ -60,7 +60,7 @@ leaf_points h keeps classes c k m member y a t type i lt =
     let high = (leaf_own h size (sizes_are h keeps) y m i n exact).high in
     let within = at_within h size (sizes_are h keeps) classes y a.at in
     let few = a.few in
-    let k_is : k ≡ (y.number + member_offset h size y.class m) % 2 ^ 32 = a.number ∙ ap (λ (d : ClassId). (y.number + member_offset h size d m) % 2 ^ 32) (sym a.class) in
+    let k_is : k ≡ (y.number + member_offset h size y.class m) % 2 ^ 64 = a.number ∙ ap (λ (d : ClassId). (y.number + member_offset h size d m) % 2 ^ 64) (sym a.class) in
     record {
       node = y;
       at = a.at;
@@ -68,21 +68,21 @@ leaf_points h keeps classes c k m member y a t type i lt =
       leaf = record { member = member; type = t; listed = listed; leaf = type; within = lt; is = turned_two y.number (member_offset h size y.class m) i k (omega arith) k_is };
     }
 
-pub values_listed : (h : Classes) → IsHierarchy h → (c : ClassId) (member : Member ClassId) (t : ValueType ClassId) → member.ty ≡ ValueField t → (k count : ℕ) → count ≡ elements_of member.count → (old new : List ℕ) → new ≡ old ++ map (λ i. (k + i) % 2 ^ 32) (upto count)
+pub values_listed : (h : Classes) → IsHierarchy h → (c : ClassId) (member : Member ClassId) (t : ValueType ClassId) → member.ty ≡ ValueField t → (k count : ℕ) → count ≡ elements_of member.count → (old new : List ℕ) → new ≡ old ++ map (λ i. (k + i) % 2 ^ 64) (upto count)
     → ListsMember h c member k old new
 values_listed h keeps c member t type k count count_is old new is = record {
   lists = λ classes y m a.
       let n = elements_of member.count in
       subst (λ (ty : FieldType ClassId). Grows (PointsLeaf h classes) old new (typed_leaves (leaves_of h) y.part m (upto n) ty)) (sym type)
-      (grows_pushed (PointsLeaf h classes) old new (map (λ i. (k + i) % 2 ^ 32) (upto n)) (map (leaf y.part m) (upto n)) (is ∙ ap (λ j. old ++ map (λ i. (k + i) % 2 ^ 32) (upto j)) count_is)
-      (zip_map (PointsLeaf h classes) (λ i. (k + i) % 2 ^ 32) (leaf y.part m) (upto n) (λ i has. leaf_points h keeps classes c k m member y a t type i (let r = has_count 0 n i has in omega (arith, r.1)))));
+      (grows_pushed (PointsLeaf h classes) old new (map (λ i. (k + i) % 2 ^ 64) (upto n)) (map (leaf y.part m) (upto n)) (is ∙ ap (λ j. old ++ map (λ i. (k + i) % 2 ^ 64) (upto j)) count_is)
+      (zip_map (PointsLeaf h classes) (λ i. (k + i) % 2 ^ 64) (leaf y.part m) (upto n) (λ i has. leaf_points h keeps classes c k m member y a t type i (let r = has_count 0 n i has in omega (arith, r.1)))));
 }
 
 -- a member that is an object
 
 pub record ElementThere (h : Classes) (classes : List ClassId) (d : ClassId) (k i size : ℕ) (p : ObjectPart) : Type 0 where
   pub node : Node
-  pub numbered : IsNumberedPart h classes d ((k + (i * size) % 2 ^ 32) % 2 ^ 32) node
+  pub numbered : IsNumberedPart h classes d ((k + (i * size) % 2 ^ 64) % 2 ^ 64) node
   pub full : node.form ≡ InFull
   pub is_part : node.part ≡ p
 
@@ -95,7 +95,7 @@ element_there h keeps classes c d k m member y a type i unit lt unit_is =
     let z_at = at_below h classes y z a.at (deeper y z (element_kid m i d member listed type lt refl) (here z refl)) in
     let less = at_less h keeps classes z z_at in
     let few = a.few in
-    let k_is : k ≡ (y.number + member_offset h size y.class m) % 2 ^ 32 = a.number ∙ ap (λ (e : ClassId). (y.number + member_offset h size e m) % 2 ^ 32) (sym a.class) in
+    let k_is : k ≡ (y.number + member_offset h size y.class m) % 2 ^ 64 = a.number ∙ ap (λ (e : ClassId). (y.number + member_offset h size e m) % 2 ^ 64) (sym a.class) in
     let product : i * unit ≡ i * size InFull d = ap (λ t. i * t) unit_is in
     record {
       node = z;
@@ -112,7 +112,7 @@ element_there h keeps classes c d k m member y a type i unit lt unit_is =
 pub elements_none : (h : Classes) (d : ClassId) (k count : ℕ) (old : List ℕ) → ListsElements h d k count 0 old old
 elements_none h d k count old = record { lists = λ classes y c m member a type count_is. grows_none (PointsLeaf h classes) old }
 
-pub elements_next : (h : Classes) → IsHierarchy h → (d : ClassId) (k count i size : ℕ) → i < count → size ≡ sizes_of h InFull d → (old mid new : List ℕ) → ListsElements h d k count i old mid → ListsWhole h d ((k + (i * size) % 2 ^ 32) % 2 ^ 32) mid new → ListsElements h d k count (i + 1) old new
+pub elements_next : (h : Classes) → IsHierarchy h → (d : ClassId) (k count i size : ℕ) → i < count → size ≡ sizes_of h InFull d → (old mid new : List ℕ) → ListsElements h d k count i old mid → ListsWhole h d ((k + (i * size) % 2 ^ 64) % 2 ^ 64) mid new → ListsElements h d k count (i + 1) old new
 elements_next h keeps d k count i size lt size_is old mid new before one = record {
   lists = λ classes y c m member a type count_is.
       let z = element_there h keeps classes c d k m member y a type i size (omega arith) size_is in
@@ -133,16 +133,16 @@ objects_listed h c d member type k count count_is old new told = record {
 pub members_none : (h : Classes) (c : ClassId) (k : ℕ) (old : List ℕ) → ListsMembers h c k 0 old old
 members_none h c k old = record { lists = λ classes y a. grows_none (PointsLeaf h classes) old }
 
-pub members_next : (h : Classes) (c : ClassId) (k m : ℕ) (member : Member ClassId) (offset : ℕ) → slice_get (members_of h c) m ≡ Some member → offset ≡ member_offset h (sizes_of h) c m → (old mid new : List ℕ) → ListsMembers h c k m old mid → ListsMember h c member ((k + offset) % 2 ^ 32) mid new
+pub members_next : (h : Classes) (c : ClassId) (k m : ℕ) (member : Member ClassId) (offset : ℕ) → slice_get (members_of h c) m ≡ Some member → offset ≡ member_offset h (sizes_of h) c m → (old mid new : List ℕ) → ListsMembers h c k m old mid → ListsMember h c member ((k + offset) % 2 ^ 64) mid new
     → ListsMembers h c k (m + 1) old new
 members_next h c k m member offset listed offset_is old mid new before one = record {
   lists = λ classes y a.
-      let there : IsMemberAt h classes c ((k + offset) % 2 ^ 32) m member y = record {
+      let there : IsMemberAt h classes c ((k + offset) % 2 ^ 64) m member y = record {
         few = a.few;
         at = a.at;
         class = a.class;
         listed = listed;
-        number = ap (λ t. (k + t) % 2 ^ 32) offset_is ∙ ap (λ t. (t + member_offset h (sizes_of h) c m) % 2 ^ 32) (sym a.number);
+        number = ap (λ t. (k + t) % 2 ^ 64) offset_is ∙ ap (λ t. (t + member_offset h (sizes_of h) c m) % 2 ^ 64) (sym a.number);
       } in
       grows_counted (PointsLeaf h classes) (leaves_in h c y.part) m old mid new (before.lists classes y a)
       (subst (λ (o : Option (Member ClassId)). Grows (PointsLeaf h classes) mid new (member_leaves (leaves_of h) y.part m o)) (sym listed) (one.lists classes y m there));
@@ -170,7 +170,7 @@ pub record BaseThere (h : Classes) (classes : List ClassId) (d : ClassId) (k : �
   pub is_part : node.part ≡ inner_part p i
 
 pub base_there : (h : Classes) → IsHierarchy h → (classes : List ClassId) (c d : ClassId) (k : ℕ) (y : Node) → IsNumberedPart h classes c k y → y.form ≡ InFull → (s : Subobject) → IsSubobject h c s → class_of s ≡ Some d → (number : ℕ) → number ≡ subobject_number h c s
-    → BaseThere h classes d ((k + number) % 2 ^ 32) y.part s
+    → BaseThere h classes d ((k + number) % 2 ^ 64) y.part s
 base_there h keeps classes c d k y a full s valid class number number_told =
     let good = at_good h (sizes_of h) classes y a.at in
     let valid_y = subst (λ (t : ClassId). IsSubobject h t s) (sym a.class) valid in
@@ -195,7 +195,7 @@ base_there h keeps classes c d k y a full s valid class number number_told =
     }
 
 bases_next : (h : Classes) → IsHierarchy h → (c : ClassId) (k : ℕ) (list : List Subobject) (j : ℕ) (i : Subobject) → j < length list → IsSubobject h c (get_or list j i) → (d : ClassId) → class_of (get_or list j i) ≡ Some d → (number : ℕ) → number ≡ subobject_number h c (get_or list j i)
-    → (old mid new : List ℕ) → ListsBases h c k (take j list) old mid → ListsOwn h d ((k + number) % 2 ^ 32) mid new → ListsBases h c k (take (j + 1) list) old new
+    → (old mid new : List ℕ) → ListsBases h c k (take j list) old mid → ListsOwn h d ((k + number) % 2 ^ 64) mid new → ListsBases h c k (take (j + 1) list) old new
 bases_next h keeps c k list j i lt valid d class number number_told old mid new before one = record {
   lists = λ classes y a full.
       let s = get_or list j i in
@@ -204,7 +204,7 @@ bases_next h keeps c k list j i lt valid d class number number_told old mid new 
 }
 
 pub bases_step : (h : Classes) → IsHierarchy h → (c : ClassId) (k : ℕ) (list : List Subobject) (j : ℕ) (x : Subobject) → list ≡ preorder h c → j < length list → x ≡ get_or list j x → (d : ClassId) → ((e : ClassId) → class_of x ≡ Some e → d ≡ e) → (number : ℕ) → number ≡ subobject_number h c x
-    → (old mid new : List ℕ) → ListsBases h c k (take j list) old mid → ListsOwn h d ((k + number) % 2 ^ 32) mid new → ListsBases h c k (take (j + 1) list) old new
+    → (old mid new : List ℕ) → ListsBases h c k (take j list) old mid → ListsOwn h d ((k + number) % 2 ^ 64) mid new → ListsBases h c k (take (j + 1) list) old new
 bases_step h keeps c k list j x is lt at d told number number_told old mid new before one =
     let valid = valid_at h c list j x is lt at in
     let class = class_found h c d x valid told in

@@ -1,5 +1,5 @@
 -- The walk from the whole of a heap object names the part of a number.
-use Rattle.std.proofs.Common.{◌≡◌, ℕ, ℤ, ◌+◌, ◌-◌, ◌%◌, ◌^◌, ◌<◌, ◌≤◌, true, Option, Some, [], ◌∷◌, List, refl, ap, subst, sym, ◌∙◌, arith}
+use Rattle.std.proofs.Common.{◌≡◌, ℕ, ℤ, ◌+◌, ◌-◌, ◌^◌, ◌<◌, ◌≤◌, true, Option, Some, [], ◌∷◌, List, refl, ap, subst, sym, ◌∙◌, arith}
 use Rattle.std.specs.Prelude.{slice_get}
 use Rattle.cxx_hierarchy.specs.declared.records.ClassId.{ClassId}
 use Rattle.cxx_hierarchy.specs.Classes.{Classes}
@@ -14,7 +14,7 @@ use Rattle.path_numbers.specs.Sizes.{sizes_of}
 use Rattle.path_numbers.specs.Nodes.{Node, Under}
 use Rattle.path_numbers.specs.Heap.{root_at}
 use Rattle.path_numbers.proofs.Sized.{sizes_are}
-use Rattle.path_numbers.proofs.Intervals.{under_lies}
+use Rattle.path_numbers.proofs.Intervals.{size_some, under_lies}
 use Rattle.path_numbers.proofs.Heap.{at_object, heap_number}
 use Rattle.path_model.specs.declared.outs.Value.{Value as Shown}
 use Rattle.path_model.specs.declared.outs.Value.TheVariants.{Unset as ShownUnset, Number as ShownNumber, Null as ShownNull, Pointer as ShownPointer}
@@ -26,7 +26,6 @@ use Rattle.path_heap.specs.declared.heap.Heap.{Heap}
 use Rattle.path_heap.specs.Points.{Points}
 use Rattle.path_heap.specs.Stands.{HeapStands, Means}
 use Rattle.path_heap.proofs.Asking.{root_is_at}
-use Rattle.path_heap.proofs.Reaching.{at_small}
 use Rattle.path_places.specs.declared.locations.Spot.{Spot}
 use Rattle.path_places.specs.invariants.Walks.{full_or_base, IsSpot, Walks}
 
@@ -38,7 +37,7 @@ pub record InRoot (h : Classes) (s : Objects) (n start : ℕ) (p : ObjectPart) (
   pub number : node.number ≡ n
   pub root : (root_at (sizes_of h) s.classes p.object c).number ≡ start
   pub above : start ≤ n
-  pub small : n < 2 ^ 32
+  pub near : n < start + 2 ^ 32
 
 pub in_root : (h : Classes) (heap : Heap) (s : Objects) → HeapStands h heap s → (n start : ℕ) (p : ObjectPart) (c : ClassId) → Points h s.classes n p → slice_get s.classes p.object ≡ Some c → Points h s.classes start (whole_part p.object c) → InRoot h s n start p c
 in_root h heap s stands n start p c q listed w =
@@ -49,21 +48,24 @@ in_root h heap s stands n start p c q listed w =
     (subst (λ k. Under h (sizes_of h) q.node (root_at (sizes_of h) s.classes k q.at.class)) e q.at.under) in
     let same = heap_number h (sizes_of h) stands.hierarchy s.classes w.node (root_at (sizes_of h) s.classes p.object c) w.at (root_is_at h s.classes p.object c listed) w.is_part in
     let root : (root_at (sizes_of h) s.classes p.object c).number ≡ start = ap (λ (t : Node). t.number) (sym same) ∙ w.is_number in
-    let low = (under_lies h (sizes_of h) (sizes_are h stands.hierarchy) q.node (root_at (sizes_of h) s.classes p.object c) under).low in
-    let small = at_small h heap s stands q.node q.at in
+    let lies = under_lies h (sizes_of h) (sizes_are h stands.hierarchy) q.node (root_at (sizes_of h) s.classes p.object c) under in
+    let low = lies.low in
+    let high = lies.high in
+    let some = size_some h (sizes_of h) (sizes_are h stands.hierarchy) q.node.form q.node.class in
+    let limit = stands.counts.small p.object c listed in
     let number = q.is_number in
-    record { node = q.node; is_part = q.is_part; under = under; number = number; root = root; above = omega arith; small = omega arith }
+    record { node = q.node; is_part = q.is_part; under = under; number = number; root = root; above = omega arith; near = omega arith }
 
 -- a location by its parts
 abbrev pub located_at : ℕ → ClassId → List Hop → Location
 located_at object c hops = record { object = object; class = c; hops = hops }
 
--- a difference of numbers of 32 bits
-pub turned_back : (n start : ℕ) → start ≤ n → n < 2 ^ 32 → n ≡ start + (n + (4294967296 - start)) % 4294967296
-turned_back n start low high = omega arith
+-- a number behind another one, by what tells how far
+pub turned_back : (n start rest : ℕ) → ((k : ℕ) → k < 2 ^ 32 → n ≡ start + k → rest ≡ k) → start ≤ n → n < start + 2 ^ 32 → n ≡ start + rest
+turned_back n start rest told low near = let e = told (n - start) (omega arith) (omega arith) in omega arith
 
 pub located : (h : Classes) (heap : Heap) (s : Objects) → HeapStands h heap s → (n start : ℕ) (p : ObjectPart) (c : ClassId) → Points h s.classes n p → slice_get s.classes p.object ≡ Some c → Points h s.classes start (whole_part p.object c)
-    → (object rest : ℕ) → p.object ≡ object → (start ≤ n → n < 2 ^ 32 → n ≡ start + rest) → (whole : Spot) → whole.class ≡ c → whole.is_full ≡ true → whole.root ≡ Whole → whole.path.items ≡ c ∷ []
+    → (object rest : ℕ) → p.object ≡ object → (start ≤ n → n < start + 2 ^ 32 → n ≡ start + rest) → (whole : Spot) → whole.class ≡ c → whole.is_full ≡ true → whole.root ≡ Whole → whole.path.items ≡ c ∷ []
     → (none hops : List Hop) → none ≡ [] → Walks h whole rest none hops → (list : List Hop) → list ≡ hops → located_at (object + 1) c list ≡ location_of s p
 located h heap s stands n start p c q listed w object rest object_is rest_is whole class full root path none hops none_is walks list list_is =
     let r = in_root h heap s stands n start p c q listed w in
@@ -73,7 +75,7 @@ located h heap s stands n start p c q listed w object rest object_is rest_is who
       form = ap full_or_base (sym full);
       is_at = ap (λ (t : List ClassId). subobject Whole t) (sym path) ∙ ap (λ k. subobject k whole.path.items) (sym root);
     } in
-    let n_is = rest_is r.above r.small in
+    let n_is = rest_is r.above r.near in
     let number = r.number in
     let start_is = r.root in
     let e = walks.leads x r.node spot r.under (omega arith) none_is in

@@ -14,7 +14,7 @@ use path_tables::{PartList, World};
 use std::alloc::Global;
 
 /// The values of some leaves.
-fn values_of(alloc: Global, heap: &Heap, leaves: &[u32]) -> Result<Vec<Value>, NoMemory>
+fn values_of(alloc: Global, heap: &Heap, leaves: &[u64]) -> Result<Vec<Value>, NoMemory>
     ensures { IfOk result (λ values. ReadsAll heap.now leaves.now values.items) }
 {
     let mut values = Vec::with_capacity(alloc, leaves.len())?;
@@ -27,7 +27,7 @@ fn values_of(alloc: Global, heap: &Heap, leaves: &[u32]) -> Result<Vec<Value>, N
 /// Gives each leaf its value, the last one first.
 ///
 /// Errors: want of memory.
-fn store_all(heap: &mut Heap, leaves: &[u32], values: &[Value]) -> Result<(), NoMemory>
+fn store_all(heap: &mut Heap, leaves: &[u64], values: &[Value]) -> Result<(), NoMemory>
     ensures { IfOk result (λ _. StoresAll heap.old heap.new leaves.now values.now) }
 {
     let mut i = leaves.len().min(values.len());
@@ -47,8 +47,8 @@ pub fn copy(
     world: &World,
     heap: &mut Heap,
     c: ClassId,
-    to: u32,
-    from: u32,
+    to: u64,
+    from: u64,
     list: &PartList,
 ) -> Result<(), NoMemory>
     requires world { IsWorld world.now }

@@ -89,7 +89,7 @@ fn dump_leaf(
     place: &Place,
     member: u32,
     index: u32,
-    k: u32,
+    k: u64,
 ) -> Result<DumpLeaf, NoMemory>
     requires { IsWorld site.now.world.now }
     ensures { IfOk result (DumpsLeaf (dumped_object site.now.world.now.h.now site.now.heap.now site.now.object site.now.class) place.now.hops.now.items place.now.base.now member index k) }
@@ -113,7 +113,7 @@ fn dump_values(
     site: &Site,
     place: &Place,
     m: u32,
-    k: u32,
+    k: u64,
     count: u32,
     out: &mut Vec<DumpLeaf>,
 ) -> Result<(), NoMemory>
@@ -121,7 +121,7 @@ fn dump_values(
     ensures { OnOk result (DumpsValues (dumped_object site.now.world.now.h.now site.now.heap.now site.now.object site.now.class) place.now.hops.now.items place.now.base.now m k count count out.old.items out.new.items) }
 {
     for i in 0..count {
-        out.push(dump_leaf(alloc, site, place, m, i, k.wrapping_add(i))?)?;
+        out.push(dump_leaf(alloc, site, place, m, i, k.wrapping_add(i as u64))?)?;
     }
     Ok(())
 }
@@ -175,7 +175,7 @@ fn dump_elements(
     place: &Place,
     m: u32,
     d: ClassId,
-    k: u32,
+    k: u64,
     count: u32,
     out: &mut Vec<DumpLeaf>,
 ) -> Result<(), NoMemory>
@@ -183,11 +183,11 @@ fn dump_elements(
     requires known { d.0 < length site.now.world.now.h.now }
     ensures { OnOk result (DumpsElements (dumped_object site.now.world.now.h.now site.now.heap.now site.now.object site.now.class) place.now.hops.now.items place.now.base.now m d k count count out.old.items out.new.items) }
 {
-    let size = in_full(site, d);
+    let size = in_full(site, d) as u64;
     let mut hops = Vec::new(alloc);
     for i in 0..count {
         put_hops(alloc, place, m, i, &mut hops)?;
-        let start = k.wrapping_add(i.wrapping_mul(size));
+        let start = k.wrapping_add((i as u64).wrapping_mul(size));
         dump_whole(alloc, site, &hops, d, start, out)?;
     }
     Ok(())
@@ -202,7 +202,7 @@ fn dump_member(
     c: ClassId,
     m: u32,
     member: &Member<ClassId>,
-    k: u32,
+    k: u64,
     out: &mut Vec<DumpLeaf>,
 ) -> Result<(), NoMemory>
     requires world { IsWorld site.now.world.now }
@@ -225,7 +225,7 @@ fn dump_own(
     site: &Site,
     place: &Place,
     c: ClassId,
-    k: u32,
+    k: u64,
     out: &mut Vec<DumpLeaf>,
 ) -> Result<(), NoMemory>
     requires world { IsWorld site.now.world.now }
@@ -236,7 +236,7 @@ fn dump_own(
     let count = site.world.h.class(c).members.len() as u32;
     for m in 0..count {
         let member = member_of(site.world.h, c, m);
-        let start = k.wrapping_add(member_offset(site, c, m));
+        let start = k.wrapping_add(member_offset(site, c, m) as u64);
         dump_member(alloc, site, place, c, m, member, start, out)?;
     }
     Ok(())
@@ -249,7 +249,7 @@ fn dump_whole(
     site: &Site,
     hops: &Vec<Hop>,
     c: ClassId,
-    k: u32,
+    k: u64,
     out: &mut Vec<DumpLeaf>,
 ) -> Result<(), NoMemory>
     requires world { IsWorld site.now.world.now }
@@ -261,7 +261,7 @@ fn dump_whole(
     put_subobjects(alloc, site.world.h, c, &mut bases)?;
     for base in bases.as_slice() {
         let d = class_or_first(base);
-        let start = k.wrapping_add(number_in(site, c, base));
+        let start = k.wrapping_add(number_in(site, c, base) as u64);
         let place = Place { hops, base };
         dump_own(alloc, site, &place, d, start, out)?;
     }
@@ -271,7 +271,7 @@ fn dump_whole(
 /// The dump of the whole heap object of a part: its number from 1, its class, and each of its leaves with its value.
 ///
 /// Errors: want of memory.
-pub fn dump(alloc: Global, world: &World, heap: &Heap, n: u32) -> Result<Out, NoMemory>
+pub fn dump(alloc: Global, world: &World, heap: &Heap, n: u64) -> Result<Out, NoMemory>
     requires { IsWorld world.now }
     ensures { IfOk result (λ told. (s : Objects) (p : ObjectPart) → HeapStands world.now.h.now heap.now s → Points world.now.h.now s.classes n p → Some told ≡ object_out world.now.h.now s p.object (slice_get s.classes p.object)) }
 {

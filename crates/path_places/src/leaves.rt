@@ -35,11 +35,11 @@ pub(crate) fn class_or_first(base: &Subobject) -> ClassId
 
 /// Puts so many numbers from k on behind the others.
 #[inline(never)]
-fn push_numbers(k: u32, count: u32, leaves: &mut Vec<u32>) -> Result<(), NoMemory>
-    ensures { OnOk result (leaves.new.items ≡ leaves.old.items ++ map (λ i. (k + i) % 2 ^ 32) (upto count)) }
+fn push_numbers(k: u64, count: u32, leaves: &mut Vec<u64>) -> Result<(), NoMemory>
+    ensures { OnOk result (leaves.new.items ≡ leaves.old.items ++ map (λ i. (k + i) % 2 ^ 64) (upto count)) }
 {
     for i in 0..count {
-        leaves.push(k.wrapping_add(i))?;
+        leaves.push(k.wrapping_add(i as u64))?;
     }
     Ok(())
 }
@@ -50,17 +50,17 @@ fn push_elements(
     alloc: Global,
     world: &World,
     class: ClassId,
-    k: u32,
+    k: u64,
     count: u32,
-    leaves: &mut Vec<u32>,
+    leaves: &mut Vec<u64>,
 ) -> Result<(), NoMemory>
     requires world { IsWorld world.now }
     requires known { class.0 < length world.now.h.now }
     ensures { OnOk result (ListsElements world.now.h.now class k count count leaves.old.items leaves.new.items) }
 {
-    let size = world.numbers.in_full(class);
+    let size = world.numbers.in_full(class) as u64;
     for i in 0..count {
-        let start = k.wrapping_add(i.wrapping_mul(size));
+        let start = k.wrapping_add((i as u64).wrapping_mul(size));
         push_whole(alloc, world, class, start, leaves)?;
     }
     Ok(())
@@ -73,8 +73,8 @@ fn push_member(
     world: &World,
     c: ClassId,
     member: &Member<ClassId>,
-    k: u32,
-    leaves: &mut Vec<u32>,
+    k: u64,
+    leaves: &mut Vec<u64>,
 ) -> Result<(), NoMemory>
     requires world { IsWorld world.now }
     requires known { c.0 < length world.now.h.now }
@@ -93,8 +93,8 @@ fn push_own(
     alloc: Global,
     world: &World,
     c: ClassId,
-    k: u32,
-    leaves: &mut Vec<u32>,
+    k: u64,
+    leaves: &mut Vec<u64>,
 ) -> Result<(), NoMemory>
     requires world { IsWorld world.now }
     requires known { c.0 < length world.now.h.now }
@@ -103,7 +103,7 @@ fn push_own(
     world.h.keeps();
     let members = world.h.class(c).members.as_slice();
     for (m, member) in members.iter().enumerate() {
-        let start = k.wrapping_add(world.numbers.member_offset(c, m));
+        let start = k.wrapping_add(world.numbers.member_offset(c, m) as u64);
         push_member(alloc, world, c, member, start, leaves)?;
     }
     Ok(())
@@ -115,8 +115,8 @@ fn push_whole(
     alloc: Global,
     world: &World,
     c: ClassId,
-    k: u32,
-    leaves: &mut Vec<u32>,
+    k: u64,
+    leaves: &mut Vec<u64>,
 ) -> Result<(), NoMemory>
     requires world { IsWorld world.now }
     requires known { c.0 < length world.now.h.now }
@@ -127,7 +127,7 @@ fn push_whole(
     put_subobjects(alloc, world.h, c, &mut bases)?;
     for base in bases.as_slice() {
         let d = class_or_first(base);
-        let start = k.wrapping_add(world.numbers.number_in(world.h, c, base));
+        let start = k.wrapping_add(world.numbers.number_in(world.h, c, base) as u64);
         push_own(alloc, world, d, start, leaves)?;
     }
     Ok(())
@@ -148,10 +148,10 @@ pub fn leaf_numbers(
     alloc: Global,
     world: &World,
     heap: &Heap,
-    n: u32,
+    n: u64,
     c: ClassId,
     list: &PartList,
-) -> Result<Vec<u32>, NoMemory>
+) -> Result<Vec<u64>, NoMemory>
     requires world { IsWorld world.now }
     requires list { IsPartList world.now.h.now c list.now }
     ensures { IfOk result (λ leaves. (s : Objects) (p : ObjectPart) → HeapStands world.now.h.now heap.now s → Points world.now.h.now s.classes n p → HasBegun s p → class_of p.at ≡ Some c → AllZip (PointsLeaf world.now.h.now s.classes) leaves.items (leaves_of world.now.h.now c p)) }

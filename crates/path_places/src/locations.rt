@@ -18,6 +18,7 @@ use foundation::{NoMemory, Sequence};
 use path_heap::{Heap, Value};
 use path_model::Value as Shown;
 use path_tables::World;
+use path_values::behind;
 use std::alloc::Global;
 
 /// A part on the way: its class, whether it is a complete object, and which subobject of its complete object it is.
@@ -104,13 +105,13 @@ fn walk(
 /// The location of a part.
 ///
 /// Errors: want of memory.
-pub fn location(alloc: Global, world: &World, heap: &Heap, n: u32) -> Result<Location, NoMemory>
+pub fn location(alloc: Global, world: &World, heap: &Heap, n: u64) -> Result<Location, NoMemory>
     requires { IsWorld world.now }
     ensures { IfOk result (λ location. (s : Objects) (p : ObjectPart) → HeapStands world.now.h.now heap.now s → Points world.now.h.now s.classes n p → location ≡ location_of s p) }
 {
     let object = heap.object(n);
     let class = heap.object_class(n);
-    let rest = n.wrapping_sub(heap.heap_object(n));
+    let rest = behind(heap.heap_object(n), n);
     let whole = complete(alloc, class)?;
     let mut hops = Vec::new(alloc);
     walk(alloc, world, whole, rest, &mut hops)?;

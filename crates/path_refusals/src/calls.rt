@@ -32,7 +32,7 @@ use path_values::{Scene, goes_to, is_pure, to_base, value};
 /// What a dispatched call on a part breaks: the final overrider is pure (ISO C++03 10.4 p6).
 ///
 /// Errors: want of memory.
-fn part_taken(moment: &Moment, answers: &mut Answers, n: u32, f: FunctionId) -> Refusal
+fn part_taken(moment: &Moment, answers: &mut Answers, n: u64, f: FunctionId) -> Refusal
     requires world { IsWorld moment.now.world }
     requires answers { AreAnswers moment.now.world.h.now answers.old }
     ensures answers { AreAnswers moment.now.world.h.now answers.new }

@@ -30,7 +30,7 @@ use path_values::{cast, down};
 fn part_down(
     moment: &Moment,
     answers: &mut Answers,
-    n: u32,
+    n: u64,
     target: ClassId,
     i: &Subobject,
 ) -> Refusal
@@ -128,7 +128,7 @@ pub(crate) fn cast_rule(
 fn part_cast(
     moment: &Moment,
     answers: &mut Answers,
-    n: u32,
+    n: u64,
     how: &TypedCast,
 ) -> Result<Value, NoMemory>
     requires world { IsWorld moment.now.world }
@@ -167,7 +167,7 @@ fn part_cast(
 fn part_cast_converted(
     moment: &Moment,
     answers: &mut Answers,
-    n: u32,
+    n: u64,
     how: &TypedCast,
     c: &Conversion,
 ) -> Refusal

@@ -43,7 +43,7 @@ fn member_at(members: &[Member<ClassId>], i: usize) -> &Member<ClassId>
 
 /// Whether an element of class d is ready, and the class members in it.
 #[cycle(covers)]
-fn is_element_covered(moment: &Moment, e: u32, d: ClassId) -> bool
+fn is_element_covered(moment: &Moment, e: u64, d: ClassId) -> bool
     requires world { IsWorld moment.now.world }
     ensures { IsElementCovered moment.now.world.h.now moment.now.heap.now e d result }
 {
@@ -55,7 +55,7 @@ fn is_element_covered(moment: &Moment, e: u32, d: ClassId) -> bool
 
 /// Whether all elements of a member of a part that is ready are covered.
 #[cycle(covers)]
-fn is_member_covered(moment: &Moment, n: u32, c: ClassId, m: u32, member: &Member<ClassId>) -> bool
+fn is_member_covered(moment: &Moment, n: u64, c: ClassId, m: u32, member: &Member<ClassId>) -> bool
     requires world { IsWorld moment.now.world }
     requires listed { slice_get (members_of moment.now.world.h.now c) m ≡ Some member.now }
     ensures { (s : Objects) (p : ObjectPart) (k : ℕ) → IsReadyPart moment.now.world.h.now moment.now.heap.now s n p c → c.0 ≤ k → TellsReadiness moment.now.world.h.now s result (member_uses (asked_covers moment.now.world.h.now k) p m (Some member.now)) }
@@ -79,7 +79,7 @@ fn is_member_covered(moment: &Moment, n: u32, c: ClassId, m: u32, member: &Membe
 /// Whether the class members are ready that a part of class c has which is ready, and the class members in these. In what is
 /// complete all are.
 #[cycle(covers)]
-fn is_covered(moment: &Moment, n: u32, c: ClassId) -> bool
+fn is_covered(moment: &Moment, n: u64, c: ClassId) -> bool
     requires world { IsWorld moment.now.world }
     ensures { (s : Objects) (p : ObjectPart) (k : ℕ) → IsReadyPart moment.now.world.h.now moment.now.heap.now s n p c → c.0 < k → TellsReadiness moment.now.world.h.now s result (asked_covers moment.now.world.h.now k c p) }
 {

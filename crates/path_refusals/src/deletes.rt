@@ -54,21 +54,21 @@ pub(crate) fn is_complete(phase: Phase) -> bool
 }
 
 /// Whether a part that has begun is the whole of its complete object.
-fn is_whole(heap: &Heap, n: u32) -> bool
+fn is_whole(heap: &Heap, n: u64) -> bool
     ensures { (h : Classes) (s : Objects) (p : ObjectPart) → HeapStands h heap.now s → Points h s.classes n p → HasBegun s p → is_no_whole h s p ≡ not result }
 {
     heap.whole(n) == n
 }
 
 /// Whether the heap object of a part is not complete.
-fn is_incomplete(heap: &Heap, n: u32) -> bool
+fn is_incomplete(heap: &Heap, n: u64) -> bool
     ensures { (h : Classes) (s : Objects) (p : ObjectPart) → HeapStands h heap.now s → Points h s.classes n p → is_incomplete s p ≡ result }
 {
     !is_complete(heap.phase(heap.heap_object(n)))
 }
 
 /// What a `delete` of a part that is ready breaks, through a virtual destructor.
-fn owned(heap: &Heap, n: u32) -> Option<Undefined>
+fn owned(heap: &Heap, n: u64) -> Option<Undefined>
     ensures { (h : Classes) → ReadyRefuses h heap.now n (λ p. Deletes (Pointer p) true ∷ []) result }
 {
     if !heap.is_in_heap_object(n) {
@@ -82,7 +82,7 @@ fn owned(heap: &Heap, n: u32) -> Option<Undefined>
 }
 
 /// What a `delete` of a part that is ready breaks (ISO C++03 5.3.5 p3).
-fn deleted(heap: &Heap, n: u32, is_virtual: bool) -> Option<Undefined>
+fn deleted(heap: &Heap, n: u64, is_virtual: bool) -> Option<Undefined>
     ensures { (h : Classes) → ReadyRefuses h heap.now n (λ p. Deletes (Pointer p) is_virtual ∷ []) result }
 {
     if is_virtual {
@@ -124,7 +124,7 @@ pub(crate) fn delete(moment: &Moment, answers: &mut Answers, v: Value, c: ClassI
 }
 
 /// What a dump of a part breaks.
-fn dumped(heap: &Heap, n: u32) -> Option<Undefined>
+fn dumped(heap: &Heap, n: u64) -> Option<Undefined>
     ensures { (h : Classes) → PartRefuses h heap.now n (λ p. Reads (Pointer p) ∷ Follows (Pointer p) ∷ Dumps (Pointer p) ∷ []) result }
 {
     if heap.is_closed(n) {

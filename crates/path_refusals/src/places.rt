@@ -24,7 +24,7 @@ use path_values::passed_number;
 
 /// What the class members on a path break, from a part that is ready: the first one that is not. Those behind a virtual base
 /// are ready.
-fn members(moment: &Moment, n: u32, path: &[PassedMember]) -> Option<Undefined>
+fn members(moment: &Moment, n: u64, path: &[PassedMember]) -> Option<Undefined>
     requires world { IsWorld moment.now.world }
     ensures { (s : Objects) (p : ObjectPart) (c : ClassId) (last : Subobject) → IsReadyPart moment.now.world.h.now moment.now.heap.now s n p c → IsPath moment.now.world.h.now c path.now last → result ≡ refused moment.now.world.h.now s (asked_members p path.now) }
 {

@@ -25,14 +25,14 @@ fn is_ready(phase: Phase) -> bool
 }
 
 /// Whether a part is not ready.
-pub(crate) fn is_unready(heap: &Heap, n: u32) -> bool
+pub(crate) fn is_unready(heap: &Heap, n: u64) -> bool
     ensures { (h : Classes) (s : Objects) (p : ObjectPart) → HeapStands h heap.now s → Points h s.classes n p → is_unready s p ≡ result }
 {
     !is_ready(heap.phase(n))
 }
 
 /// What the reading of a pointer breaks: its heap object is closed (ISO C++03 3.8 p5).
-fn closed(heap: &Heap, n: u32) -> Option<Undefined>
+fn closed(heap: &Heap, n: u64) -> Option<Undefined>
     ensures { (h : Classes) → PartRefuses h heap.now n (λ p. Reads (Pointer p) ∷ []) result }
 {
     if heap.is_closed(n) {
@@ -55,7 +55,7 @@ pub(crate) fn reads(heap: &Heap, v: Value) -> Option<Undefined>
 }
 
 /// What a guarded use breaks, such as a conversion to a base: the part is not ready (ISO C++03 12.7 p2).
-pub(crate) fn unready(heap: &Heap, n: u32) -> Option<Undefined>
+pub(crate) fn unready(heap: &Heap, n: u64) -> Option<Undefined>
     ensures { (h : Classes) → PartRefuses h heap.now n (λ p. Guards (Pointer p) ∷ []) result }
 {
     if is_unready(heap, n) {
@@ -66,7 +66,7 @@ pub(crate) fn unready(heap: &Heap, n: u32) -> Option<Undefined>
 }
 
 /// What reading and guarding break, of a part.
-fn closed_or_unready(heap: &Heap, n: u32) -> Option<Undefined>
+fn closed_or_unready(heap: &Heap, n: u64) -> Option<Undefined>
     ensures read { (h : Classes) → PartRefuses h heap.now n (λ p. Reads (Pointer p) ∷ Guards (Pointer p) ∷ []) result }
     ensures arrow { (h : Classes) → PartRefuses h heap.now n (λ p. arrow (Pointer p)) result }
 {

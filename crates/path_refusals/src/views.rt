@@ -29,7 +29,7 @@ pub(crate) fn is_shared(i: &Subobject) -> bool
 /// What a part breaks that is ready, where its view is needed: it lies outside of the view (ISO C++03 12.7).
 ///
 /// Errors: want of memory.
-pub(crate) fn view(moment: &Moment, answers: &mut Answers, n: u32, needed: bool) -> Refusal
+pub(crate) fn view(moment: &Moment, answers: &mut Answers, n: u64, needed: bool) -> Refusal
     requires world { IsWorld moment.now.world }
     requires answers { AreAnswers moment.now.world.h.now answers.old }
     ensures answers { AreAnswers moment.now.world.h.now answers.new }
@@ -65,7 +65,7 @@ pub(crate) fn view_of(moment: &Moment, answers: &mut Answers, v: Value, needed: 
 /// What a guarded use of a part breaks, where its view may be needed too.
 ///
 /// Errors: want of memory.
-pub(crate) fn guard_view(moment: &Moment, answers: &mut Answers, n: u32, needed: bool) -> Refusal
+pub(crate) fn guard_view(moment: &Moment, answers: &mut Answers, n: u64, needed: bool) -> Refusal
     requires world { IsWorld moment.now.world }
     requires answers { AreAnswers moment.now.world.h.now answers.old }
     ensures answers { AreAnswers moment.now.world.h.now answers.new }

@@ -42,6 +42,7 @@ fn run_all<L: SoundLayout>(
     requires setup { IsSetup run.now }
     requires main { is_body run.now.program.now.main ≡ true }
     requires sizes { size_in run.now.sizes.now ≡ (places_of run.now.world.h.now (L.rows layout.now)).size }
+    requires budget { steps ≤ most_steps }
     ensures { IfOk result (λ ran. IsRun run.now.world.h.now (places_of run.now.world.h.now (L.rows layout.now)) run.now.program.now trace steps ran.text ran.end) }
 {
     let mut state = PathState::new(run, steps)?;

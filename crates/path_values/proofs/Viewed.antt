@@ -77,7 +77,7 @@ view_valid h c (Some v) None k y e = absurd k
 view_valid h c (Some v) (Some x) k y e = let same : x ≡ y = cc in subst (λ (t : Subobject). IsSubobject h c t) same k.valid
 
 -- a subobject of the complete object, by the number that the code makes
-pub points_to : (h : Classes) (heap : Heap) (s : Objects) → HeapStands h heap s → (p : ObjectPart) (at : Standing) → IsStanding h s p at → (x : Subobject) (k : ℕ) → IsSubobject h at.class x → k ≡ (at.whole + subobject_number h at.class x) % 2 ^ 32
+pub points_to : (h : Classes) (heap : Heap) (s : Objects) → HeapStands h heap s → (p : ObjectPart) (at : Standing) → IsStanding h s p at → (x : Subobject) (k : ℕ) → IsSubobject h at.class x → k ≡ (at.whole + subobject_number h at.class x) % 2 ^ 64
     → Points h s.classes k (part p.object p.owner x)
 points_to h heap s stands p at is x k valid e =
     let q = points_behind h stands.hierarchy s.classes p at.whole at.class is.complete x valid in
@@ -85,14 +85,14 @@ points_to h heap s stands p at is x k valid e =
     subst (λ n. Points h s.classes n (part p.object p.owner x)) (sym (e ∙ mod-eq_of_lt lt)) q
 
 runs_told : (h : Classes) (heap : Heap) (s : Objects) → HeapStands h heap s → (p : ObjectPart) (at : Standing) → IsStanding h s p at → (o : Option Overrider) → ((a : Overrider) → o ≡ Some a → IsSubobject h at.class a.at) → (found : FinalAt) (this : ℕ) → Some found ≡ numbered_overrider h at.class o
-    → this ≡ (at.whole + found.at) % 2 ^ 32 → RunsByView h s.classes (Some (record { this = this; function = found.function })) (option_map (at_part p) o)
+    → this ≡ (at.whole + found.at) % 2 ^ 64 → RunsByView h s.classes (Some (record { this = this; function = found.function })) (option_map (at_part p) o)
 runs_told h heap s stands p at is None valid found this e told = absurd (cc)
 runs_told h heap s stands p at is (Some o) valid found this e told =
     let same : found ≡ record { at = subobject_number h at.class o.at; function = o.function } = cc in
-    (points_to h heap s stands p at is o.at this (valid o refl) (told ∙ ap (λ (t : FinalAt). (at.whole + t.at) % 2 ^ 32) same), ap (λ (t : FinalAt). t.function) same)
+    (points_to h heap s stands p at is o.at this (valid o refl) (told ∙ ap (λ (t : FinalAt). (at.whole + t.at) % 2 ^ 64) same), ap (λ (t : FinalAt). t.function) same)
 
 pub dispatched_some : (h : Classes) (heap : Heap) (s : Objects) → HeapStands h heap s → (p : ObjectPart) (at : Standing) → IsStanding h s p at → (f : FunctionId) (found : FinalAt) (this : ℕ) → Some found ≡ numbered_overrider h at.class (overrider_by h (view_of h s p) p.at f)
-    → this ≡ (at.whole + found.at) % 2 ^ 32 → RunsByView h s.classes (Some (record { this = this; function = found.function })) (overrider_in_view h s p f)
+    → this ≡ (at.whole + found.at) % 2 ^ 64 → RunsByView h s.classes (Some (record { this = this; function = found.function })) (overrider_in_view h s p f)
 dispatched_some h heap s stands p at is f found this e told =
     runs_told h heap s stands p at is (overrider_by h (view_of h s p) p.at f) (λ o k. overrider_valid h stands.hierarchy at.class (view_of h s p) p.at f o (view_valid h at.class at.view (view_of h s p) is.view) k) found this e told
 
@@ -113,7 +113,7 @@ pub value_told : (h : Classes) (heap : Heap) (s : Objects) → HeapStands h heap
     → (code : ValueCode) (other : Value) → Means h s.classes code other → Means h s.classes (pointer_or at.whole found code) (value_or p other t)
 value_told h heap s stands p at is None valid found e code other means = subst (λ (k : Option ℕ). Means h s.classes (pointer_or at.whole k code) other) (sym e) means
 value_told h heap s stands p at is (Some x) valid found e code other means =
-    subst (λ (k : Option ℕ). Means h s.classes (pointer_or at.whole k code) (Pointer (part p.object p.owner x))) (sym e) (points_to h heap s stands p at is x ((at.whole + subobject_number h at.class x) % 2 ^ 32) (valid x refl) refl)
+    subst (λ (k : Option ℕ). Means h s.classes (pointer_or at.whole k code) (Pointer (part p.object p.owner x))) (sym e) (points_to h heap s stands p at is x ((at.whole + subobject_number h at.class x) % 2 ^ 64) (valid x refl) refl)
 
 pub cast_outside : (h : Classes) (s : Objects) (p : ObjectPart) (at : Standing) (m : ℕ) (target : ClassId) (inside : Bool) → IsStanding h s p at → at.view ≡ Some m → ((x y : Subobject) → IsNumbered h at.class m x → IsNumbered h at.class at.part y → inside ≡ is_within h x y) → inside ≡ false
     → Means h s.classes UnsetCode (dynamic_value h s target (Pointer p))

@@ -32,4 +32,5 @@ pub use crate::numbers::{stored, wrap};
 pub use crate::operands::{constant, value};
 pub use crate::places::{address_number, end_number, leaf_number, passed_number};
 pub use crate::scene::Scene;
+pub use crate::standing::behind;
 pub use crate::views::{Found, cast, conversion, dispatched, down, is_outside, is_pure, view_type};

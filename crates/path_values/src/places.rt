@@ -17,7 +17,7 @@ use path_heap::Heap;
 use path_tables::World;
 
 /// The number of the class member that a path passes through, from the part of number n.
-pub fn passed_number(world: &World, heap: &Heap, n: u32, x: &PassedMember) -> u32
+pub fn passed_number(world: &World, heap: &Heap, n: u64, x: &PassedMember) -> u64
     requires world { IsWorld world.now }
     ensures { (s : Objects) (p : ObjectPart) (c : ClassId) → HeapStands world.now.h.now heap.now s → Points world.now.h.now s.classes n p → OpensTo world.now.h.now s p c x.now.base → IsPassed world.now.h.now c x.now → Points world.now.h.now s.classes result (passed_part p x.now) }
 {
@@ -26,7 +26,7 @@ pub fn passed_number(world: &World, heap: &Heap, n: u32, x: &PassedMember) -> u3
 }
 
 /// The number of the part behind all class members of a path.
-pub fn end_number(world: &World, heap: &Heap, n: u32, passed: &[PassedMember]) -> u32
+pub fn end_number(world: &World, heap: &Heap, n: u64, passed: &[PassedMember]) -> u64
     requires world { IsWorld world.now }
     ensures { (s : Objects) (p : ObjectPart) (c : ClassId) (last : Subobject) → HeapStands world.now.h.now heap.now s → Points world.now.h.now s.classes n p → IsOpen world.now.h.now s p c passed.now last → Points world.now.h.now s.classes result (end_part p passed.now) }
 {
@@ -37,7 +37,7 @@ pub fn end_number(world: &World, heap: &Heap, n: u32, passed: &[PassedMember]) -
 }
 
 /// The number of the leaf to which a place leads from the part of number n.
-pub fn leaf_number(world: &World, heap: &Heap, n: u32, place: &TypedPlace) -> u32
+pub fn leaf_number(world: &World, heap: &Heap, n: u64, place: &TypedPlace) -> u64
     requires world { IsWorld world.now }
     ensures { IsLeafNumber world.now.h.now heap.now n place.now result }
 {
@@ -53,7 +53,7 @@ pub fn leaf_number(world: &World, heap: &Heap, n: u32, place: &TypedPlace) -> u3
 }
 
 /// The number of the class member that a place is, from the part of number n.
-pub fn address_number(world: &World, heap: &Heap, n: u32, place: &TypedPlace) -> u32
+pub fn address_number(world: &World, heap: &Heap, n: u64, place: &TypedPlace) -> u64
     requires world { IsWorld world.now }
     ensures { IsAddressNumber world.now.h.now heap.now n place.now result }
 {

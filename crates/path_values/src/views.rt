@@ -28,7 +28,7 @@ use std::alloc::Global;
 /// A function, and the number of the part that is its `this`.
 #[derive(Clone, Copy)]
 pub struct Found {
-    pub this: u32,
+    pub this: u64,
     pub function: FunctionId,
 }
 
@@ -44,7 +44,7 @@ fn is_pure_function(h: &Hierarchy, f: FunctionId) -> bool
 }
 
 /// A pointer to the part that stands this far behind a complete object, or another value.
-fn pointer_or(whole: u32, found: Option<u32>, other: Value) -> Value
+fn pointer_or(whole: u64, found: Option<u32>, other: Value) -> Value
     ensures { result ≡ pointer_or whole found other }
 {
     match found {
@@ -73,7 +73,7 @@ fn overrider_at(
 }
 
 /// The class that a part's complete object has at this time, if it has one: that of the view (ISO C++03 5.2.8 p2, 12.7 p4).
-pub fn view_type(heap: &Heap, n: u32) -> Option<ClassId>
+pub fn view_type(heap: &Heap, n: u64) -> Option<ClassId>
     ensures { (h : Classes) (s : Objects) (p : ObjectPart) → IsPartAt h heap.now s n p → result ≡ typeid_class h s p }
 {
     match heap.view(n) {
@@ -90,7 +90,7 @@ pub fn is_outside(
     world: &World,
     heap: &Heap,
     answers: &mut Answers,
-    n: u32,
+    n: u64,
 ) -> Result<bool, NoMemory>
     requires world { IsWorld world.now }
     requires answers { AreAnswers world.now.h.now answers.old }
@@ -115,7 +115,7 @@ pub fn is_pure(
     world: &World,
     heap: &Heap,
     answers: &mut Answers,
-    n: u32,
+    n: u64,
     f: FunctionId,
 ) -> Result<bool, NoMemory>
     requires world { IsWorld world.now }
@@ -138,7 +138,7 @@ pub fn dispatched(
     world: &World,
     heap: &Heap,
     answers: &mut Answers,
-    n: u32,
+    n: u64,
     f: FunctionId,
 ) -> Result<Option<Found>, NoMemory>
     requires world { IsWorld world.now }
@@ -164,7 +164,7 @@ pub fn cast(
     world: &World,
     heap: &Heap,
     answers: &mut Answers,
-    n: u32,
+    n: u64,
     target: ClassId,
 ) -> Result<Value, NoMemory>
     requires world { IsWorld world.now }
@@ -195,7 +195,7 @@ pub fn down(
     world: &World,
     heap: &Heap,
     answers: &mut Answers,
-    n: u32,
+    n: u64,
     target: ClassId,
     i: &Subobject,
 ) -> Result<Value, NoMemory>

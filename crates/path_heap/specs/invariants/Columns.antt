@@ -1,6 +1,7 @@
 -- What a call changes in the columns of the heap, over numbers alone.
 use Rattle.std.specs.Prelude.{◌≡◌, ◌≤◌, ◌^◌, ◌+◌, ℕ, true, false, nat_eq, if◌then◌else◌, Option, Some, None, [], ◌∷◌, ◌++◌, length, replicate, slice_get, slice_set}
 use Rattle.cxx_hierarchy.specs.declared.records.ClassId.{ClassId}
+use Rattle.cxx_subobject.specs.Parts.{most_parts}
 use Rattle.path_heap.specs.declared.state.Phase.{Phase}
 use Rattle.path_heap.specs.declared.state.Phase.TheVariants.{Raw, InBases, ReadyBuilding, Complete, ReadyEnding, EndingBases, Ended}
 use Rattle.path_heap.specs.declared.state.Value.{Value}
@@ -95,7 +96,8 @@ pub record Closed (old new : Heap) (part : Part) : Type 0 where
 -- behind the others there are an object of class c, and for each of its numbers a cell and a leaf
 pub record Made (old new : Heap) (c : ClassId) (size start : ℕ) : Type 0 where
   pub start_is : start ≡ length old.cells.items
-  pub fits : length old.cells.items + size ≤ 2 ^ 32
+  pub fits : length old.cells.items + size ≤ 2 ^ 64
+  pub small : size ≤ most_parts
   pub cells : new.cells.items ≡ old.cells.items ++ replicate size no_cell
   pub leaves : new.leaves.items ≡ old.leaves.items ++ replicate size Unset
   pub objects : new.objects.items ≡ old.objects.items ++ record { class = c; start = start; is_closed = false } ∷ []

@@ -10,9 +10,9 @@ use Rattle.path_numbers.specs.Numbers.{base_number, shared_number, path_number}
 abbrev pub IsBaseDistance : Classes → ClassId → ClassId → ℕ → Type 0
 IsBaseDistance h c b n = IsDirectBase h c false b → n ≡ base_number h c b
 
--- along a path, up to whole turns of 32 bits, where it is one
+-- along a path, up to whole turns of 64 bits, where it is one
 abbrev pub IsPathDistance : Classes → ClassId → List ClassId → ℕ → Type 0
-IsPathDistance h c path n = Leads h c path → n ≡ path_number h c path % 2 ^ 32
+IsPathDistance h c path n = Leads h c path → n ≡ path_number h c path % 2 ^ 64
 
 -- to a virtual base, where v is one of class c
 abbrev pub IsSharedDistance : Classes → ClassId → ClassId → ℕ → Type 0

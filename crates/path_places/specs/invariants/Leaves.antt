@@ -36,9 +36,9 @@ element_leaves h p m d i = leaves_of h d (element p m i d)
 abbrev pub leaves_in : Classes → ClassId → ObjectPart → ℕ → List Leaf
 leaves_in h c p m = member_leaves (leaves_of h) p m (slice_get (members_of h c) m)
 
--- a part of class c with the number k, over objects whose numbers have 32 bits
+-- a part of class c with the number k, over objects whose numbers have 64 bits
 pub record IsNumberedPart (h : Classes) (classes : List ClassId) (c : ClassId) (k : ℕ) (y : Node) : Type 0 where
-  pub few : total (sizes_of h InFull) classes ≤ 2 ^ 32
+  pub few : total (sizes_of h InFull) classes ≤ 2 ^ 64
   pub at : IsAt h (sizes_of h) classes y
   pub class : y.class ≡ c
   pub number : y.number ≡ k
@@ -53,11 +53,11 @@ pub record ListsMembers (h : Classes) (c : ClassId) (k n : ℕ) (old new : List 
 
 -- the member m of a part of class c, whose element 0 has the number k
 pub record IsMemberAt (h : Classes) (classes : List ClassId) (c : ClassId) (k m : ℕ) (member : Member ClassId) (y : Node) : Type 0 where
-  pub few : total (sizes_of h InFull) classes ≤ 2 ^ 32
+  pub few : total (sizes_of h InFull) classes ≤ 2 ^ 64
   pub at : IsAt h (sizes_of h) classes y
   pub class : y.class ≡ c
   pub listed : slice_get (members_of h c) m ≡ Some member
-  pub number : k ≡ (y.number + member_offset h (sizes_of h) c m) % 2 ^ 32
+  pub number : k ≡ (y.number + member_offset h (sizes_of h) c m) % 2 ^ 64
 
 -- those of a member
 pub record ListsMember (h : Classes) (c : ClassId) (member : Member ClassId) (k : ℕ) (old new : List ℕ) : Type 0 where

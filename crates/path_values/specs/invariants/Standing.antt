@@ -1,5 +1,5 @@
 -- Where a part and its view stand in their complete object.
-use Rattle.std.specs.Prelude.{◌≡◌, ◌+◌, ◌%◌, ◌^◌, ℕ, Option, Some, None, List}
+use Rattle.std.specs.Prelude.{◌≡◌, ◌<◌, ◌+◌, ◌%◌, ◌^◌, ℕ, Option, Some, None, List}
 use Rattle.cxx_hierarchy.specs.declared.records.ClassId.{ClassId}
 use Rattle.cxx_hierarchy.specs.Classes.{Classes}
 use Rattle.cxx_subobject.specs.declared.Subobject.{Subobject}
@@ -15,12 +15,12 @@ use Rattle.path_heap.specs.declared.state.Value.TheVariants.{Pointer}
 use Rattle.path_tables.specs.Parts.{IsNumbered}
 use Rattle.path_values.specs.declared.standing.Standing.{Standing}
 
--- how far a number that may be there stands behind another
+-- how far a number that may be there stands behind another, within 32 bits
 abbrev pub IsBehind : ℕ → Option ℕ → Option ℕ → Type 0
 IsBehind whole None None = Unit {0}
 IsBehind whole None (Some k) = ⊥
 IsBehind whole (Some n) None = ⊥
-IsBehind whole (Some n) (Some k) = (m : ℕ) → n ≡ whole + m → k ≡ m
+IsBehind whole (Some n) (Some k) = (m : ℕ) → m < 2 ^ 32 → n ≡ whole + m → k ≡ m
 
 -- the number and the class of the complete object that p belongs to
 pub record IsWholeOf (h : Classes) (classes : List ClassId) (whole : ℕ) (c : ClassId) (p : ObjectPart) : Type 0 where
@@ -49,4 +49,4 @@ pub record IsStanding (h : Classes) (s : Objects) (p : ObjectPart) (at : Standin
 -- a pointer to the part that stands this far behind a complete object, or another value
 abbrev pub pointer_or : ℕ → Option ℕ → Value → Value
 pointer_or whole None other = other
-pointer_or whole (Some n) other = Pointer ((whole + n) % 2 ^ 32)
+pointer_or whole (Some n) other = Pointer ((whole + n) % 2 ^ 64)

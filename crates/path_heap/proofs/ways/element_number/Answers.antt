@@ -24,9 +24,9 @@ pub returns-clause-object : goal.returns-clause-object
 returns-clause-object c = λ d e.
     let known : c.args.c.0 < length c.args.h.now = search rules in
     slot_object c.args.h.now c.keeps.ensures c.args.c c.args.member c.args.index d known e c.as_slice-members.result.now c.member_at-field.result.now (members_are c.args.h.now c.args.c c.class.result.now c.as_slice-members.result.now c.class.ensures c.as_slice-members.ensures) c.member_at-field.ensures
-    c.args.n c.member_offset.result c.unit_size-unit.result (c.member_offset.ensures c.args.h.now c.requires) c.unit_size-unit.ensures.object
+    c.args.n c.member_offset-offset.result c.unit_size-unit.result (c.member_offset-offset.ensures c.args.h.now c.requires) c.unit_size-unit.ensures.object
 
 pub returns-clause-value : goal.returns-clause-value
 returns-clause-value c = λ t e.
     slot_value c.args.h.now c.args.c c.args.member c.args.index t e c.as_slice-members.result.now c.member_at-field.result.now (members_are c.args.h.now c.args.c c.class.result.now c.as_slice-members.result.now c.class.ensures c.as_slice-members.ensures) c.member_at-field.ensures
-    c.args.n c.member_offset.result c.unit_size-unit.result (c.member_offset.ensures c.args.h.now c.requires) c.unit_size-unit.ensures.value
+    c.args.n c.member_offset-offset.result c.unit_size-unit.result (c.member_offset-offset.ensures c.args.h.now c.requires) c.unit_size-unit.ensures.value

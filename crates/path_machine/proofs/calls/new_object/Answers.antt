@@ -1,8 +1,9 @@
-use Rattle.std.proofs.Common.{◌∷◌, length, refl, sym, ◌∙◌, ap}
+use Rattle.std.proofs.Common.{◌∷◌, ◌<◌, length, refl, rules, sym, ◌∙◌, ap}
 use Rattle.foundation.proofs.Places.{get_last}
 use Rattle.path_model.specs.States.{InBody, at_statement, with_frames, with_objects}
 use Rattle.path_model.specs.Effects.{with_new_object, building}
 use Rattle.path_model.specs.Runs.{limit_of, asks_object}
+use Rattle.path_numbers.proofs.Counting.{are_small}
 use Rattle.path_machine.specs.declared.frames.Frame.TheVariants.{Body}
 use Rattle.path_machine.specs.Frames.{target_of_code}
 use Rattle.path_machine.proofs.Changing.{frame_grown}
@@ -61,3 +62,9 @@ returns c = λ s f below outs taken known.
     (c.in_ok-begin_plan.ensures sizes (with_frames after frames) (length before) d (c.in_ok-go_on.ensures h sizes program after f below now) listed
     (c.whole_at.ensures h (with_new_object s.objects d).classes (length before) world.hierarchy listed points)
     (counts_more plan frames c.get.result.now.depth counts refl))
+
+pub make-requires-clause-small : goal.make-requires-clause-small
+make-requires-clause-small c =
+    let world = c.requires.setup.world in
+    let known : c.args.class.0 < length c.args.run.now.world.h.now = search rules in
+    record { classes = c.args.run.now.world.h.now; are_numbers = world.are_numbers; few = (are_small c.args.run.now.world.h.now world.hierarchy world.limits).each c.args.class known }

@@ -16,3 +16,7 @@ pub returns-clause-items : goal.returns-clause-items
 returns-clause-items g c =
     listed_set (item_at c.self.inside.slots) (item_at c.set.new.self) c.self.inside.len c.args.n c.args.item c.in_ok-set.ensures.set
     ∙ ap (λ (t : Column _). slice_set t.items c.args.n c.args.item) c.self.view_is
+
+pub returns-clause-length : goal.returns-clause-length
+returns-clause-length g c =
+    listed_length (item_at c.set.new.self) c.self.inside.len ∙ (sym (listed_length (item_at c.self.inside.slots) c.self.inside.len) ∙ ap (λ (t : Column _). length t.items) c.self.view_is)

@@ -2,6 +2,7 @@ use Rattle.std.proofs.Common.{◌≡◌, refl}
 use Rattle.path_model.specs.Runs.{IsWrong, move, state_at}
 use Rattle.path_machine.specs.invariants.Steps.{size_in}
 use Rattle.path_machine.proofs.Running.{GoesOn}
+use Rattle.path_machine.proofs.Counting.{objects_few}
 use Rattle.path_machine.proofs.Turning.{leaves, next_at}
 use Rattle.path_machine.proofs.state.PathState.move_on.Goals as goal
 
@@ -29,3 +30,7 @@ returns c =
       failed = refl;
       leaves = leaves h sizes program before c.move_on.new.machine c.move_on.new.answers c.args.outs.now c.move_on.new.outs c.in_ok-next.next right goes c.requires.at c.requires.room c.in_ok-next.ensures.answers agrees;
     }
+
+pub move_on-requires-clause-few : goal.move_on-requires-clause-few
+move_on-requires-clause-few c =
+    objects_few c.args.run.now.world.h.now (size_in c.args.run.now.sizes.now) c.args.run.now.program.now c.args.self.now c.requires.at c.requires.room
