@@ -16,3 +16,4 @@ pub mod Containing
 pub mod Transfer
 pub mod Keeping
 pub mod Distances
+pub mod Directly

@@ -1,5 +1,6 @@
 pub mod Rule
 pub mod Graph
 pub mod Casts
+pub mod Known
 pub mod invariants
 pub mod ReadLaws

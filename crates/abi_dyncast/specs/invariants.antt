@@ -4,3 +4,4 @@ pub mod Walks
 pub mod Searches
 pub mod Deciding
 pub mod Hinting
+pub mod Direct

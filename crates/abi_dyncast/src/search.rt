@@ -1,15 +1,16 @@
 //! The search for one part of a view.
 
-ghost use Rattle.std.specs.Prelude.{◌≡◌, false};
+ghost use Rattle.std.specs.Prelude.{◌≡◌, false, true};
 ghost use Rattle.byte_code.specs.Images.{word_at};
 ghost use Rattle.byte_code.specs.Readers.{image_of};
 ghost use Rattle.abi_dyncast.specs.Graph.{graph_of};
+ghost use Rattle.abi_dyncast.specs.invariants.Direct.{LeadsDirectly};
 ghost use Rattle.abi_dyncast.specs.invariants.Searches.{MayBeginSearch, MayDescend, LeadsOnlyTo, Searched, TellsOfSource};
 
 use crate::parts::{Part, edge_at, is_virtual, moved, offset_word};
 use crate::walk::is_source;
 use crate::work::{Found, Goal, WorkList};
-use byte_code::BaseReader;
+use byte_code::{BaseReader, ImageBytes};
 use byte_memory::Memory;
 
 /// That nothing was found.
@@ -89,5 +90,35 @@ pub(crate) fn leads_to_source<M: Memory>(
         }
     }
     work.add(part, info.class, nothing());
+    false
+}
+
+/// Whether bases that are not virtual lead from a part to the source. Nothing of the memory is read, and no part is met twice.
+pub(crate) fn leads_directly<M: Memory>(
+    image: &ImageBytes,
+    _memory: &M,
+    goal: Goal,
+    part: Part,
+) -> bool
+    requires { MayDescend (word_at image.now) (M.meaning _memory.now) part }
+    ensures { result ≡ true → LeadsDirectly (word_at image.now) goal part }
+{
+    let info = image.info(part.info);
+    if info.class <= goal.class {
+        return is_source(goal, part.at, info.class);
+    }
+    for number in 0..info.bases {
+        let base = image.base(info.first + 16 * number as u64);
+        if !is_virtual(base) {
+            let next = Part {
+                at: moved(part.at, offset_word(base)),
+                info: base.info,
+            };
+            let found = leads_directly(image, _memory, goal, next);
+            if found {
+                return found;
+            }
+        }
+    }
     false
 }

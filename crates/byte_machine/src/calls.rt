@@ -31,7 +31,7 @@ fn call_entry<M: Memory>(
 ) -> Result<Option<u8>, NoMemory>
     requires { CanDo setup.now (λ f s. entry_called f s entry arguments.now outcome.now this) running.old }
     ensures did { IfOk result (λ limit. DidAs setup.now (λ f s. entry_called f s entry arguments.now outcome.now this) running.old running.new (limited limit)) }
-    ensures kept { KeepsRoomAndOuts running.old running.new }
+    ensures kept { KeepsRoomAndOuts setup.now.image running.old running.new }
 {
     if running.calls >= MOST_CALLS {
         return Ok(Some(10));
@@ -55,7 +55,7 @@ fn call_record<M: Memory>(
     requires place { table_word setup.now.image (M.meaning running.old.heap.memory) this (8 * entry) ≡ Some place }
     requires allowed { CanDo setup.now (λ f s. entry_called f s entry arguments.now outcome.now this) running.old }
     ensures did { IfOk result (λ limit. DidAs setup.now (λ f s. entry_called f s entry arguments.now outcome.now this) running.old running.new (limited limit)) }
-    ensures kept { KeepsRoomAndOuts running.old running.new }
+    ensures kept { KeepsRoomAndOuts setup.now.image running.old running.new }
 {
     if running.calls >= MOST_CALLS {
         return Ok(Some(10));
@@ -80,7 +80,7 @@ pub fn call_with_code<M: Memory>(
 ) -> Result<Option<Stop>, NoMemory>
     requires allowed { CanDoAll setup.now (code_call this entry arguments.now outcome.now) running.old }
     ensures did { IfOk result (λ stop. DidAllAs setup.now (code_call this entry arguments.now outcome.now) running.old running.new (stopped stop)) }
-    ensures kept { KeepsRoomAndOuts running.old running.new }
+    ensures kept { KeepsRoomAndOuts setup.now.image running.old running.new }
 {
     let at = running.register(this).unwrap();
     if at == 0 {
@@ -116,7 +116,7 @@ fn call_code<M: Memory>(
 ) -> Result<Option<u8>, NoMemory>
     requires { CanDo setup.now (λ f s. code_called f s block arguments.now outcome.now this) running.old }
     ensures did { IfOk result (λ limit. DidAs setup.now (λ f s. code_called f s block arguments.now outcome.now this) running.old running.new (limited limit)) }
-    ensures kept { KeepsRoomAndOuts running.old running.new }
+    ensures kept { KeepsRoomAndOuts setup.now.image running.old running.new }
 {
     if running.calls >= MOST_CALLS {
         return Ok(Some(10));
@@ -137,7 +137,7 @@ fn make<M: Memory>(
 ) -> Result<Option<u8>, NoMemory>
     requires { CanDo setup.now (λ f s. new_effect f s size class block outcome.now) running.old }
     ensures did { IfOk result (λ limit. DidAs setup.now (λ f s. new_effect f s size class block outcome.now) running.old running.new (limited limit)) }
-    ensures kept { KeepsRoomAndOuts running.old running.new }
+    ensures kept { KeepsRoomAndOuts setup.now.image running.old running.new }
 {
     if running.heap.is_full(size) {
         return Ok(Some(8));
@@ -171,7 +171,7 @@ fn delete_entry<M: Memory>(
 ) -> Result<Option<u8>, NoMemory>
     requires { CanDo setup.now (λ f s. deleted_unless_null this s (entry_called f s entry [] nothing_used this)) running.old }
     ensures did { IfOk result (λ limit. DidAs setup.now (λ f s. deleted_unless_null this s (entry_called f s entry [] nothing_used this)) running.old running.new (limited limit)) }
-    ensures kept { KeepsRoomAndOuts running.old running.new }
+    ensures kept { KeepsRoomAndOuts setup.now.image running.old running.new }
 {
     if this == 0 {
         return Ok(None);
@@ -190,7 +190,7 @@ fn delete_code<M: Memory>(
 ) -> Result<Option<u8>, NoMemory>
     requires { CanDo setup.now (λ f s. deleted_unless_null this s (code_called f s block [] nothing_used this)) running.old }
     ensures did { IfOk result (λ limit. DidAs setup.now (λ f s. deleted_unless_null this s (code_called f s block [] nothing_used this)) running.old running.new (limited limit)) }
-    ensures kept { KeepsRoomAndOuts running.old running.new }
+    ensures kept { KeepsRoomAndOuts setup.now.image running.old running.new }
 {
     if this == 0 {
         return Ok(None);
@@ -211,7 +211,7 @@ pub fn run_call<M: Memory>(
     requires kind { op_kind op.now ≡ OfCalls }
     requires allowed { CanDo setup.now (λ f s. effect_of f op.now s) running.old }
     ensures did { IfOk result (λ limit. DidAs setup.now (λ f s. effect_of f op.now s) running.old running.new (limited limit)) }
-    ensures kept { KeepsRoomAndOuts running.old running.new }
+    ensures kept { KeepsRoomAndOuts setup.now.image running.old running.new }
 {
     let limit = match op {
         Op::CallEntry {
@@ -254,7 +254,7 @@ pub fn run_delete<M: Memory>(
     requires kind { op_kind op.now ≡ OfDeletes }
     requires allowed { CanDo setup.now (λ f s. effect_of f op.now s) running.old }
     ensures did { IfOk result (λ limit. DidAs setup.now (λ f s. effect_of f op.now s) running.old running.new (limited limit)) }
-    ensures kept { KeepsRoomAndOuts running.old running.new }
+    ensures kept { KeepsRoomAndOuts setup.now.image running.old running.new }
 {
     let limit = match op {
         Op::DeleteEntry { this, entry } => {

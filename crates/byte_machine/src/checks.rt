@@ -2,6 +2,7 @@
 
 ghost use Rattle.std.specs.Prelude.{◌≡◌, if◌then◌else◌};
 ghost use Rattle.abi_dyncast.specs.Casts.{room};
+ghost use Rattle.abi_dyncast.specs.Known.{TellsTruth};
 ghost use Rattle.byte_machine.specs.Running.{Goes};
 ghost use Rattle.byte_machine.specs.Checks.{checked, view_checked};
 ghost use Rattle.byte_machine.specs.invariants.States.{running_of, CanDo, DidAs, KeepsRoomAndOuts, refusal_stop};
@@ -11,7 +12,6 @@ ghost use Rattle.byte_code.specs.declared.op.Check.TheVariants.{Fits, SetLeaf};
 use crate::numbers::fits;
 use crate::running::{Running, Setup};
 use crate::words::{moved, table_word};
-use abi_dyncast::is_within;
 use byte_code::{ArithKind, Check, Phase, Width};
 use byte_memory::Memory;
 
@@ -157,16 +157,17 @@ pub fn check_view<M: Memory>(
 ) -> Option<u8>
     requires allowed { CanDo setup.now (λ f s. view_checked s at class (Goes s)) running.old }
     requires room { room running.old.work ≡ setup.now.parts }
+    requires known { TellsTruth setup.now.image running.old.known }
     ensures did { DidAs setup.now (λ f s. view_checked s at class (Goes s)) running.old running.old (refusal_stop running.old.line result) }
     ensures same { running_of running.new ≡ running_of running.old }
-    ensures kept { KeepsRoomAndOuts running.old running.new }
+    ensures kept { KeepsRoomAndOuts setup.now.image running.old running.new }
 {
     let owner = running.shadow.owner(at, class).unwrap();
     let view = running.shadow.view(owner.0, owner.1).unwrap();
     if view.0 == at && view.1 == class {
         return None;
     }
-    let inside = is_within(
+    let inside = running.known.is_within(
         &setup.image,
         running.heap.memory(),
         &mut running.work,
@@ -184,8 +185,9 @@ fn check_owners<M: Memory>(setup: &Setup, running: &mut Running<M>, check: &Chec
     requires kind { check_kind check.now ≡ OfOwners }
     requires allowed { CanDo setup.now (λ f s. checked f check.now s) running.old }
     requires room { room running.old.work ≡ setup.now.parts }
+    requires known { TellsTruth setup.now.image running.old.known }
     ensures did { DidAs setup.now (λ f s. checked f check.now s) running.old running.new (refusal_stop running.old.line result) }
-    ensures kept { KeepsRoomAndOuts running.old running.new }
+    ensures kept { KeepsRoomAndOuts setup.now.image running.old running.new }
 {
     match check {
         Check::InView {
@@ -223,8 +225,9 @@ fn check_owners<M: Memory>(setup: &Setup, running: &mut Running<M>, check: &Chec
 pub fn run_check<M: Memory>(setup: &Setup, running: &mut Running<M>, check: &Check) -> Option<u8>
     requires allowed { CanDo setup.now (λ f s. checked f check.now s) running.old }
     requires room { room running.old.work ≡ setup.now.parts }
+    requires known { TellsTruth setup.now.image running.old.known }
     ensures did { DidAs setup.now (λ f s. checked f check.now s) running.old running.new (refusal_stop running.old.line result) }
-    ensures kept { KeepsRoomAndOuts running.old running.new }
+    ensures kept { KeepsRoomAndOuts setup.now.image running.old running.new }
 {
     match check {
         Check::SetRegister { register } => unless(running.register(*register).is_some(), 5),

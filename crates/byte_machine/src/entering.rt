@@ -35,7 +35,7 @@ fn spare_registers<M: Memory>(
 ) -> Result<Vec<Option<u64>>, NoMemory>
     ensures none { IfOk result (λ registers. registers.items ≡ []) }
     ensures same { running_of running.new ≡ running_of running.old }
-    ensures kept { KeepsRoomAndOuts running.old running.new }
+    ensures kept { KeepsRoomAndOuts setup.now.image running.old running.new }
 {
     match running.spare.pop() {
         Some(mut registers) => {
@@ -58,7 +58,7 @@ pub fn enter<M: Memory>(
 ) -> Result<Vec<Option<u64>>, NoMemory>
     ensures registers { IfOk result (λ registers. registers.items ≡ entry_registers setup.now.size this (register_words (running_of running.old) arguments.now)) }
     ensures same { running_of running.new ≡ running_of running.old }
-    ensures kept { KeepsRoomAndOuts running.old running.new }
+    ensures kept { KeepsRoomAndOuts setup.now.image running.old running.new }
 {
     let mut registers = spare_registers(setup, running)?;
     registers.push(Some(this))?;
@@ -102,7 +102,7 @@ pub fn open_call<M: Memory>(
 ) -> Result<(), NoMemory>
     requires { running.old.calls < most_calls }
     ensures did { IfOk result (λ _. running_of running.new ≡ calling (frame_at (fixed_by setup.now) block this (register_words (running_of running.old) arguments.now) (kept_of kept)) (running_of running.old)) }
-    ensures kept { KeepsRoomAndOuts running.old running.new }
+    ensures kept { KeepsRoomAndOuts setup.now.image running.old running.new }
 {
     let registers = enter(setup, running, this, arguments)?;
     let frame = Frame {

@@ -2,6 +2,7 @@
 
 ghost use Rattle.std.specs.Prelude.{◌≡◌};
 ghost use Rattle.abi_dyncast.specs.Casts.{room};
+ghost use Rattle.abi_dyncast.specs.Known.{TellsTruth};
 ghost use Rattle.byte_machine.specs.Effects.{finish_effect};
 ghost use Rattle.byte_machine.specs.invariants.States.{CanDo, DidAs, KeepsRoomAndOuts, refusal_stop};
 
@@ -18,8 +19,9 @@ use byte_memory::Memory;
 pub fn run_finish<M: Memory>(setup: &Setup, running: &mut Running<M>, finish: &Finish) -> Option<u8>
     requires allowed { CanDo setup.now (λ f s. finish_effect f finish.now s) running.old }
     requires room { room running.old.work ≡ setup.now.parts }
+    requires known { TellsTruth setup.now.image running.old.known }
     ensures did { DidAs setup.now (λ f s. finish_effect f finish.now s) running.old running.new (refusal_stop running.old.line result) }
-    ensures kept { KeepsRoomAndOuts running.old running.new }
+    ensures kept { KeepsRoomAndOuts setup.now.image running.old running.new }
 {
     match finish {
         Finish::Check(check) => {
@@ -32,7 +34,7 @@ pub fn run_finish<M: Memory>(setup: &Setup, running: &mut Running<M>, finish: &F
                 Some(0) => Some(0),
                 Some(at) => Some(moved(at, *offset)),
             };
-            running.put(*to, word);
+            running.put(setup, *to, word);
             None
         }
         Finish::AddVbase { to, base, word } => {
@@ -44,12 +46,12 @@ pub fn run_finish<M: Memory>(setup: &Setup, running: &mut Running<M>, finish: &F
                 None => None,
                 Some(word) => Some(convert(*kind, word)),
             };
-            running.put(*to, word);
+            running.put(setup, *to, word);
             None
         }
         Finish::Move { to, from } => {
             let word = running.register(*from);
-            running.put(*to, word);
+            running.put(setup, *to, word);
             None
         }
         Finish::WriteGlobal { global, from } => {

@@ -3,6 +3,7 @@
 ghost use Rattle.std.specs.Prelude.{◌≡◌, ◌+◌, ◌<◌, ◌^◌, length, []};
 ghost use Rattle.byte_machine.specs.invariants.Flat.{AreFlatBlocks};
 ghost use Rattle.abi_dyncast.specs.Casts.{room};
+ghost use Rattle.abi_dyncast.specs.Known.{TellsTruth};
 
 use crate::entering::{enter_main, same_words};
 use crate::flat::FlatBlock;
@@ -11,7 +12,7 @@ use crate::heap::{Heap, Opened};
 use crate::running::{Running, Setup};
 use crate::step::run_step;
 use crate::turn::{MachineTurn, RawOutList, goes_on};
-use abi_dyncast::WorkList;
+use abi_dyncast::{KnownParts, WorkList};
 use byte_code::{Code, ImageBytes};
 use byte_memory::Memory;
 use byte_shadow::Shadow;
@@ -33,6 +34,7 @@ pub struct Machine<M: Memory> {
     ghost few: { length code.blocks < 2 ^ 32 },
     ghost size: { setup.size ≡ code.registers },
     ghost room: { room running.work ≡ setup.parts },
+    ghost known: { TellsTruth setup.image running.known },
     ghost flats: { length flat.items ≡ length code.blocks },
     ghost same: { AreFlatBlocks code.blocks flat.items },
     ghost settled: { length running.opened.items ≡ 0 },
@@ -71,6 +73,7 @@ impl<M: Memory> Machine<M> {
             heap: Heap::new(alloc, memory),
             shadow: Shadow::new(alloc),
             work: WorkList::reserve(alloc, largest)?,
+            known: KnownParts::reserve(alloc)?,
             globals: same_words(alloc, code.globals, Some(0))?,
             spare: Vec::new(alloc),
             opened: Vec::new(alloc),

@@ -2,6 +2,7 @@
 
 ghost use Rattle.std.specs.Prelude.{◌≡◌, None, IfOk};
 ghost use Rattle.abi_dyncast.specs.Casts.{room};
+ghost use Rattle.abi_dyncast.specs.Known.{TellsTruth};
 ghost use Rattle.byte_machine.specs.Effects.{effect_of};
 ghost use Rattle.byte_machine.specs.invariants.OpKinds.{op_kind, OfJumps, NeverStops};
 ghost use Rattle.byte_machine.specs.invariants.States.{CanDo, DidAs, KeepsRoomAndOuts, refusal_stop, stopped};
@@ -35,7 +36,7 @@ fn run_jump<M: Memory>(_setup: &Setup, running: &mut Running<M>, op: &Op)
     requires kind { op_kind op.now ≡ OfJumps }
     requires allowed { CanDo _setup.now (λ f s. effect_of f op.now s) running.old }
     ensures did { DidAs _setup.now (λ f s. effect_of f op.now s) running.old running.new None }
-    ensures kept { KeepsRoomAndOuts running.old running.new }
+    ensures kept { KeepsRoomAndOuts _setup.now.image running.old running.new }
 {
     match op {
         Op::Jump { block } => running.top.block = *block,
@@ -54,7 +55,7 @@ fn run_plain<M: Memory>(setup: &Setup, running: &mut Running<M>, op: &Op) -> Res
     requires allowed { CanDo setup.now (λ f s. effect_of f op.now s) running.old }
     requires room { room running.old.work ≡ setup.now.parts }
     ensures did { IfOk result (λ _. DidAs setup.now (λ f s. effect_of f op.now s) running.old running.new None) }
-    ensures kept { KeepsRoomAndOuts running.old running.new }
+    ensures kept { KeepsRoomAndOuts setup.now.image running.old running.new }
 {
     match op {
         Op::Const { .. }
@@ -89,8 +90,9 @@ pub fn run_op<M: Memory>(
 ) -> Result<Option<Stop>, NoMemory>
     requires allowed { CanDo setup.now (λ f s. effect_of f op.now s) running.old }
     requires room { room running.old.work ≡ setup.now.parts }
+    requires known { TellsTruth setup.now.image running.old.known }
     ensures did { IfOk result (λ stop. DidAs setup.now (λ f s. effect_of f op.now s) running.old running.new (stopped stop)) }
-    ensures kept { KeepsRoomAndOuts running.old running.new }
+    ensures kept { KeepsRoomAndOuts setup.now.image running.old running.new }
 {
     match op {
         Op::Does(finish) => {

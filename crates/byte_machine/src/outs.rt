@@ -17,7 +17,7 @@ pub fn run_out<M: Memory>(_setup: &Setup, running: &mut Running<M>, op: &Op) -> 
     requires kind { op_kind op.now ≡ OfOuts }
     requires allowed { CanDo _setup.now (λ f s. effect_of f op.now s) running.old }
     ensures did { IfOk result (λ _. DidAs _setup.now (λ f s. effect_of f op.now s) running.old running.new None) }
-    ensures kept { KeepsRoomAndOuts running.old running.new }
+    ensures kept { KeepsRoomAndOuts _setup.now.image running.old running.new }
 {
     let out = match op {
         Op::Print { from, what } => {

@@ -26,7 +26,7 @@ fn open_part<M: Memory>(
 ) -> Result<(), NoMemory>
     requires { CanDo setup.now (λ f s. part_opened f s how how.count this) running.old }
     ensures did { IfOk result (λ _. DidAs setup.now (λ f s. part_opened f s how how.count this) running.old running.new None) }
-    ensures kept { KeepsRoomAndOuts running.old running.new }
+    ensures kept { KeepsRoomAndOuts setup.now.image running.old running.new }
 {
     if how.count == 0 {
         return Ok(());
@@ -58,7 +58,7 @@ fn open_part<M: Memory>(
 fn set_table<M: Memory>(setup: &Setup, running: &mut Running<M>, how: Setting, this: u64)
     requires { CanDo setup.now (λ f s. table_set f s how this) running.old }
     ensures did { DidAs setup.now (λ f s. table_set f s how this) running.old running.new None }
-    ensures kept { KeepsRoomAndOuts running.old running.new }
+    ensures kept { KeepsRoomAndOuts setup.now.image running.old running.new }
 {
     let handed = running.top.handed;
     let point = source_word(setup, handed, how.source).unwrap();
@@ -95,7 +95,7 @@ fn set_phase<M: Memory>(
 )
     requires { CanDo _setup.now (λ f s. part_phased s class phase this) running.old }
     ensures did { DidAs _setup.now (λ f s. part_phased s class phase this) running.old running.new None }
-    ensures kept { KeepsRoomAndOuts running.old running.new }
+    ensures kept { KeepsRoomAndOuts _setup.now.image running.old running.new }
 {
     running.shadow.set_phase(this, class, phase);
     if is_ended(phase) && is_object(this, class, running.heap.opened(this)) {
@@ -108,7 +108,7 @@ pub fn run_plan<M: Memory>(setup: &Setup, running: &mut Running<M>, op: &Op) -> 
     requires kind { op_kind op.now ≡ OfPlans }
     requires allowed { CanDo setup.now (λ f s. effect_of f op.now s) running.old }
     ensures did { IfOk result (λ _. DidAs setup.now (λ f s. effect_of f op.now s) running.old running.new None) }
-    ensures kept { KeepsRoomAndOuts running.old running.new }
+    ensures kept { KeepsRoomAndOuts setup.now.image running.old running.new }
 {
     if let Op::ViewBack = op {
         let handed = running.top.handed;

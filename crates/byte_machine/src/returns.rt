@@ -2,6 +2,7 @@
 
 ghost use Rattle.std.specs.Prelude.{◌≡◌, ◌<◌, ◌-◌, Some, IsSome, length, if◌then◌else◌};
 ghost use Rattle.abi_dyncast.specs.Casts.{room};
+ghost use Rattle.abi_dyncast.specs.Known.{TellsTruth};
 ghost use Rattle.byte_machine.specs.Frames.{next_element};
 ghost use Rattle.byte_machine.specs.Running.{Goes, Returned, moved, register};
 ghost use Rattle.byte_machine.specs.Calls.{resumed_frame, operand, result_checked, result_moved, return_effect, returned_to};
@@ -55,9 +56,10 @@ fn check_result<M: Memory>(
 ) -> Option<u8>
     requires allowed { CanDo setup.now (λ f s. result_checked s word s.top.kept.class class (Goes s)) running.old }
     requires room { room running.old.work ≡ setup.now.parts }
+    requires known { TellsTruth setup.now.image running.old.known }
     ensures did { DidAs setup.now (λ f s. result_checked s word s.top.kept.class class (Goes s)) running.old running.old (refusal_stop running.old.line result) }
     ensures same { running_of running.new ≡ running_of running.old }
-    ensures kept { KeepsRoomAndOuts running.old running.new }
+    ensures kept { KeepsRoomAndOuts setup.now.image running.old running.new }
 {
     let at = word?;
     if at == 0 {
@@ -79,11 +81,11 @@ fn check_result<M: Memory>(
 }
 
 /// The frame of the next element of an array.
-fn enter_next<M: Memory>(running: &mut Running<M>, this: u64)
+fn enter_next<M: Memory>(_setup: &Setup, running: &mut Running<M>, this: u64)
     requires some { 0 < running.old.top.again }
     requires registers { 0 < length running.old.top.registers.items }
     ensures next { running_of running.new ≡ record (running_of running.old) { top = next_element (running_of running.old).top this (running.old.top.again - 1) } }
-    ensures kept { KeepsRoomAndOuts running.old running.new }
+    ensures kept { KeepsRoomAndOuts _setup.now.image running.old running.new }
 {
     running.top.registers.fill(None);
     running.top.registers[0] = Some(this);
@@ -116,7 +118,7 @@ fn left_calls(calls: u32, is_call: bool) -> u32
 fn leave<M: Memory>(_setup: &Setup, running: &mut Running<M>, word: Option<u64>) -> FinishList
     requires { CanDo _setup.now (λ f s. returned_to s word s.below) running.old }
     ensures did { DidAs _setup.now (λ f s. returned_to s word s.below) running.old running.new (Some (Returned result)) }
-    ensures kept { KeepsRoomAndOuts running.old running.new }
+    ensures kept { KeepsRoomAndOuts _setup.now.image running.old running.new }
 {
     let mut under = running.below.pop().unwrap();
     give(&mut under, running.top.kept.to, word);
@@ -136,12 +138,13 @@ pub fn run_return<M: Memory>(
 ) -> Option<Stop>
     requires allowed { CanDo setup.now (λ f s. return_effect f s from class s.opened) running.old }
     requires room { room running.old.work ≡ setup.now.parts }
+    requires known { TellsTruth setup.now.image running.old.known }
     ensures did { DidAs setup.now (λ f s. return_effect f s from class s.opened) running.old running.new (stopped result) }
-    ensures kept { KeepsRoomAndOuts running.old running.new }
+    ensures kept { KeepsRoomAndOuts setup.now.image running.old running.new }
 {
     if running.top.again > 0 {
         let this = running.register(0).unwrap();
-        enter_next(running, moved(this, running.top.stride));
+        enter_next(setup, running, moved(this, running.top.stride));
         return None;
     }
     let word = operand(running, from);

@@ -5,7 +5,7 @@ ghost use Rattle.std.specs.Prelude.{◌≡◌};
 use crate::frames::Frame;
 use crate::heap::Heap;
 use crate::turn::{MachineTurn, RawOutList};
-use abi_dyncast::WorkList;
+use abi_dyncast::{KnownParts, WorkList};
 use byte_code::{FinishList, ImageBytes};
 use byte_memory::Memory;
 use byte_shadow::Shadow;
@@ -26,6 +26,8 @@ pub struct Running<M: Memory> {
     pub heap: Heap<M>,
     pub shadow: Shadow,
     pub work: WorkList,
+    /// What was told of the image, on containment.
+    pub known: KnownParts,
     pub globals: Vec<Option<u64>>,
     /// The registers of frames that were left, for frames that are opened later.
     pub spare: Vec<Vec<Option<u64>>>,
@@ -63,10 +65,10 @@ impl<M: Memory> Running<M> {
     }
 
     /// Sets or unsets a register of the frame.
-    pub fn put(&mut self, number: u32, word: Option<u64>)
+    pub fn put(&mut self, _setup: &Setup, number: u32, word: Option<u64>)
         requires { number < length self.old.top.registers.items }
         ensures put { running_of self.new ≡ with_register (running_of self.old) number word }
-        ensures kept { KeepsRoomAndOuts self.old self.new }
+        ensures kept { KeepsRoomAndOuts _setup.now.image self.old self.new }
     {
         self.top.registers[number as usize] = word;
     }

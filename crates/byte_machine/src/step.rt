@@ -4,6 +4,7 @@ ghost use Rattle.std.specs.Prelude.{◌≡◌, ◌<◌, ◌^◌, IfOk, OnErr, le
 ghost use Rattle.std.specs.List.{AllZip};
 ghost use Rattle.byte_machine.specs.invariants.Flat.{IsFlatOf};
 ghost use Rattle.abi_dyncast.specs.Casts.{room};
+ghost use Rattle.abi_dyncast.specs.Known.{TellsTruth};
 ghost use Rattle.byte_machine.specs.invariants.States.{fixed_by, running_of, KeepsRoomAndOuts};
 ghost use Rattle.byte_machine.specs.invariants.Steps.{settled_frames, with_outs, HasNext, RanNext};
 
@@ -17,10 +18,10 @@ use foundation::NoMemory;
 
 /// The frames that a block opened go over the one that opened them. Errors: want of memory.
 #[inline(always)]
-fn settle<M: Memory>(running: &mut Running<M>) -> Result<(), NoMemory>
+fn settle<M: Memory>(_setup: &Setup, running: &mut Running<M>) -> Result<(), NoMemory>
     ensures settles { IfOk result (λ _. running_of running.new ≡ settled_frames (running_of running.old)) }
     ensures opened { IfOk result (λ _. length running.new.opened.items ≡ 0) }
-    ensures kept { KeepsRoomAndOuts running.old running.new }
+    ensures kept { KeepsRoomAndOuts _setup.now.image running.old running.new }
 {
     let Some(next) = running.opened.pop() else {
         return Ok(());
@@ -43,9 +44,10 @@ fn run_next<M: Memory>(
     requires few { length code.now.blocks < 2 ^ 32 }
     requires flat { AllZip IsFlatOf code.now.blocks flat.now }
     requires room { room running.old.work ≡ setup.now.parts }
+    requires known { TellsTruth setup.now.image running.old.known }
     ensures ran { IfOk result (λ turn. RanNext (fixed_by setup.now) code.now (running_of running.old) (running_of running.new) turn) }
     ensures opened { IfOk result (λ _. length running.new.opened.items ≡ 0) }
-    ensures kept { KeepsRoomAndOuts running.old running.new }
+    ensures kept { KeepsRoomAndOuts setup.now.image running.old running.new }
 {
     let number = running.top.block as usize;
     let Some(block) = code.blocks.as_slice().get(number) else {
@@ -57,7 +59,7 @@ fn run_next<M: Memory>(
     running.top.block += 1;
     running.line = block.line;
     let turn = run_block(setup, running, block.ops.as_slice(), flat.ops.as_slice())?;
-    settle(running)?;
+    settle(setup, running)?;
     Ok(turn)
 }
 
@@ -88,11 +90,13 @@ pub fn run_step<M: Memory>(
     requires few { length code.now.blocks < 2 ^ 32 }
     requires flat { AllZip IsFlatOf code.now.blocks flat.now }
     requires room { room running.old.work ≡ setup.now.parts }
+    requires known { TellsTruth setup.now.image running.old.known }
     requires told { running.old.outs ≡ [] }
     ensures ran { IfOk result (λ turn. RanNext (fixed_by setup.now) code.now (with_outs (running_of running.old) outs.old) (with_outs (running_of running.new) outs.new) turn) }
     ensures outs { OnErr result (outs.new ≡ outs.old) }
     ensures opened { length running.new.opened.items ≡ 0 }
     ensures room { room running.new.work ≡ room running.old.work }
+    ensures known { TellsTruth setup.now.image running.new.known }
     ensures told { running.new.outs ≡ [] }
 {
     let was = outs.len();

@@ -16,7 +16,7 @@ fn run_bits<M: Memory>(_setup: &Setup, running: &mut Running<M>, op: &Op)
     requires kind { moves_bits op.now ≡ true }
     requires allowed { CanDo _setup.now (λ f s. effect_of f op.now s) running.old }
     ensures did { DidAs _setup.now (λ f s. effect_of f op.now s) running.old running.new None }
-    ensures kept { KeepsRoomAndOuts running.old running.new }
+    ensures kept { KeepsRoomAndOuts _setup.now.image running.old running.new }
 {
     match op {
         Op::LoadBits {
@@ -31,7 +31,7 @@ fn run_bits<M: Memory>(_setup: &Setup, running: &mut Running<M>, op: &Op)
                 .heap
                 .load_bits(moved(at, *offset as u64), *first, width.bits)
                 .unwrap();
-            running.put(*to, Some(width.extend(number)));
+            running.put(_setup, *to, Some(width.extend(number)));
         }
         Op::StoreBits {
             from,
@@ -70,13 +70,13 @@ pub fn run_value<M: Memory>(_setup: &Setup, running: &mut Running<M>, op: &Op)
     requires kind { op_kind op.now ≡ OfValues }
     requires allowed { CanDo _setup.now (λ f s. effect_of f op.now s) running.old }
     ensures did { DidAs _setup.now (λ f s. effect_of f op.now s) running.old running.new None }
-    ensures kept { KeepsRoomAndOuts running.old running.new }
+    ensures kept { KeepsRoomAndOuts _setup.now.image running.old running.new }
 {
     match op {
-        Op::Const { to, value } => running.put(*to, Some(*value)),
+        Op::Const { to, value } => running.put(_setup, *to, Some(*value)),
         Op::ReadGlobal { to, global } => {
             let word = running.globals[*global as usize];
-            running.put(*to, word);
+            running.put(_setup, *to, word);
         }
         Op::Load {
             to,

@@ -24,7 +24,7 @@ const INFO_WORD: u64 = 0xffff_ffff_ffff_fff8;
 pub fn add_word<M: Memory>(setup: &Setup, running: &mut Running<M>, to: u32, base: u32, bytes: u64)
     requires { CanDo setup.now (λ f s. passed to s (register s base) (λ at. with_some_word (table_word f.image s.memory at bytes) (λ by. put_register to (Some (moved at by)) s))) running.old }
     ensures did { DidAs setup.now (λ f s. passed to s (register s base) (λ at. with_some_word (table_word f.image s.memory at bytes) (λ by. put_register to (Some (moved at by)) s))) running.old running.new None }
-    ensures kept { KeepsRoomAndOuts running.old running.new }
+    ensures kept { KeepsRoomAndOuts setup.now.image running.old running.new }
 {
     let word = match running.register(base) {
         None => None,
@@ -34,7 +34,7 @@ pub fn add_word<M: Memory>(setup: &Setup, running: &mut Running<M>, to: u32, bas
             Some(moved(at, by))
         }
     };
-    running.put(to, word);
+    running.put(setup, to, word);
 }
 
 /// The answer of a cast as an address, 0 where it has none.
@@ -60,7 +60,7 @@ fn put_cast<M: Memory>(
     requires allowed { CanDo setup.now (λ f s. Casts at class target hint (λ answer. put_register to (Some (or_null answer)) s)) running.old }
     requires room { room running.old.work ≡ setup.now.parts }
     ensures did { DidAs setup.now (λ f s. Casts at class target hint (λ answer. put_register to (Some (or_null answer)) s)) running.old running.new None }
-    ensures kept { KeepsRoomAndOuts running.old running.new }
+    ensures kept { KeepsRoomAndOuts setup.now.image running.old running.new }
 {
     let mut reader = BaseReader::new(&setup.image);
     let found = cast_hinted(
@@ -72,7 +72,7 @@ fn put_cast<M: Memory>(
         target,
         hint,
     );
-    running.put(to, Some(or_null(found)));
+    running.put(setup, to, Some(or_null(found)));
 }
 
 /// Runs an op that looks at a view.
@@ -81,14 +81,14 @@ pub fn run_view<M: Memory>(setup: &Setup, running: &mut Running<M>, op: &Op)
     requires allowed { CanDo setup.now (λ f s. effect_of f op.now s) running.old }
     requires room { room running.old.work ≡ setup.now.parts }
     ensures did { DidAs setup.now (λ f s. effect_of f op.now s) running.old running.new None }
-    ensures kept { KeepsRoomAndOuts running.old running.new }
+    ensures kept { KeepsRoomAndOuts setup.now.image running.old running.new }
 {
     match op {
         Op::TypeOf { to, base } => {
             let at = running.register(*base).unwrap();
             let info = table_word(&setup.image, &running.heap, at, INFO_WORD).unwrap();
             let class = setup.image.number(info).unwrap();
-            running.put(*to, Some(class));
+            running.put(setup, *to, Some(class));
         }
         Op::Top { to, base } => add_word(setup, running, *to, *base, TOP_WORD),
         Op::Cast {
@@ -98,8 +98,8 @@ pub fn run_view<M: Memory>(setup: &Setup, running: &mut Running<M>, op: &Op)
             target,
             hint,
         } => match running.register(*base) {
-            None => running.put(*to, None),
-            Some(0) => running.put(*to, Some(0)),
+            None => running.put(setup, *to, None),
+            Some(0) => running.put(setup, *to, Some(0)),
             Some(at) => put_cast(setup, running, *to, at, *class, *target, *hint),
         },
         _ => unreachable!(),

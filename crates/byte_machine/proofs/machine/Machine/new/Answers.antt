@@ -14,3 +14,6 @@ pub invariant_of-result-clause-same : goal.invariant_of-result-clause-same
 invariant_of-result-clause-same g c =
     let all = subst (λ (bs : List Block). AllZip IsFlatOf bs c.in_ok-flat.flat.items) c.as_slice.ensures c.in_ok-flat.ensures in
     zip_each c.args.code.blocks c.in_ok-flat.flat.items all
+
+pub invariant_of-result-clause-known : goal.invariant_of-result-clause-known
+invariant_of-result-clause-known g c = c.in_ok-reserve-2.ensures c.args.image
