@@ -7,19 +7,19 @@ use Rattle.std.proofs.lemmas.List.{get_or_append_left, get_or-set_same, get_or-s
 use Rattle.std.proofs.Math.Seq.{get_or-append_seam}
 use Rattle.foundation.proofs.Truth.{split}
 use Rattle.foundation.proofs.Places.{any_default, contains_first, contains_later}
-use Rattle.abi_dyncast.specs.declared.parts.Part.{Part}
+use Rattle.abi_dyncast.specs.declared.parts.TypedPart.{TypedPart}
 use Rattle.abi_dyncast.specs.declared.work.Found.{Found}
 use Rattle.abi_dyncast.specs.declared.work.Entry.{Entry}
 use Rattle.abi_dyncast.specs.invariants.Chain.{bucket, part_entry, is_at, no_entry, part_entry_at, IsMet, Reach, here, on, IsChained, link_for}
 
-same_part : (p q : Part) → p.at ≡ q.at → p.info ≡ q.info → p ≡ q
-same_part p q a b = let make : ℕ → ℕ → Part = λ x y. record { at = x; info = y } in let e : make p.at p.info ≡ make q.at q.info = ap (λ x. make x p.info) a ∙ ap (λ y. make q.at y) b in e
+same_part : (p q : TypedPart) → p.at ≡ q.at → p.info ≡ q.info → p ≡ q
+same_part p q a b = let make : ℕ → ℕ → TypedPart = λ x y. record { at = x; info = y } in let e : make p.at p.info ≡ make q.at q.info = ap (λ x. make x p.info) a ∙ ap (λ y. make q.at y) b in e
 
 -- the test of a part
-pub at_part : (part : Part) (e : Entry) → is_at part e ≡ true → e.part ≡ part
+pub at_part : (part : TypedPart) (e : Entry) → is_at part e ≡ true → e.part ≡ part
 at_part part e t = let b = and_parts (nat_eq e.part.at part.at) (nat_eq e.part.info part.info) t in same_part e.part part (eqb-true e.part.at part.at b.0) (eqb-true e.part.info part.info b.1)
 
-pub part_at : (part : Part) (e : Entry) → e.part ≡ part → is_at part e ≡ true
+pub part_at : (part : TypedPart) (e : Entry) → e.part ≡ part → is_at part e ≡ true
 part_at part e t = subst (λ p. is_at p e ≡ true) t (and_from (nat_eq e.part.at e.part.at) (nat_eq e.part.info e.part.info) (eq-eqb e.part.at e.part.at refl) (eq-eqb e.part.info e.part.info refl))
 
 pub entry_has : (es : List Entry) (i : ℕ) → i < length es → Contains es (part_entry_at es i)
@@ -28,12 +28,12 @@ entry_has (x ∷ xs) zero lt = contains_first x xs
 entry_has (x ∷ xs) (suc i) lt = contains_later x xs (part_entry_at xs i) (entry_has xs i (omega arith))
 
 -- where a met part stands
-pub record Stands (es : List Entry) (part : Part) : Type 0 where
+pub record Stands (es : List Entry) (part : TypedPart) : Type 0 where
   pub place : ℕ
   pub below : place < length es
   pub is : (part_entry_at es place).part ≡ part
 
-pub met_stands : (es : List Entry) (part : Part) → IsMet es part → Stands es part
+pub met_stands : (es : List Entry) (part : TypedPart) → IsMet es part → Stands es part
 met_stands es part m = record {
   place = m.has.0;
   below = m.has.1;
@@ -65,18 +65,18 @@ lift es ys _ _ (on from i to f l r) =
     let same : part_entry_at (es ++ ys) i ≡ part_entry_at es i = get_or_append_left es ys no_entry i l in
     on from i to f (omega arith) (subst (λ (x : Entry). Reach (es ++ ys) x.next to) (sym same) (lift es ys (part_entry_at es i).next to r))
 
-link_small : (heads : List ℕ) (es : List Entry) (part : Part) → link_for heads es part ≤ length es
+link_small : (heads : List ℕ) (es : List Entry) (part : TypedPart) → link_for heads es part ≤ length es
 link_small heads es part = split (nat_le (get_or heads (bucket part (length heads)) 0) (length es)) (λ b. (if b then get_or heads (bucket part (length heads)) 0 else 0) ≤ length es)
     (λ t. grind (arith, nat_tests))
     (λ f. omega arith)
 
 -- a new entry's link leads where the head of its bucket led
-link_reach : (heads : List ℕ) (es : List Entry) (part : Part) (j : ℕ) → j < length es → Reach es (get_or heads (bucket part (length heads)) 0) (j + 1) → Reach es (link_for heads es part) (j + 1)
+link_reach : (heads : List ℕ) (es : List Entry) (part : TypedPart) (j : ℕ) → j < length es → Reach es (get_or heads (bucket part (length heads)) 0) (j + 1) → Reach es (link_for heads es part) (j + 1)
 link_reach heads es part j lt r = split (nat_le (get_or heads (bucket part (length heads)) 0) (length es)) (λ b. Reach es (if b then get_or heads (bucket part (length heads)) 0 else 0) (j + 1))
     (λ t. r)
     (λ f. absurd (ends es (get_or heads (bucket part (length heads)) 0) j (inr (grind (arith, nat_tests))) lt r))
 
-pub chained_add : (heads : List ℕ) (es : List Entry) (part : Part) (class : ℕ) (found : Found) (b : ℕ) → IsChained heads es → b ≡ bucket part (length heads) → b < length heads → IsChained (set heads b (length es + 1)) (es ++ part_entry part class found (link_for heads es part) ∷ [])
+pub chained_add : (heads : List ℕ) (es : List Entry) (part : TypedPart) (class : ℕ) (found : Found) (b : ℕ) → IsChained heads es → b ≡ bucket part (length heads) → b < length heads → IsChained (set heads b (length es + 1)) (es ++ part_entry part class found (link_for heads es part) ∷ [])
 chained_add heads es part class found b chained is below =
     let x = part_entry part class found (link_for heads es part) in
     let long : length (es ++ x ∷ []) ≡ length es + 1 = length-append es (x ∷ []) in
@@ -123,12 +123,12 @@ chained_add heads es part class found b chained is below =
             subst (λ f. Reach (es ++ part_entry part class found (link_for heads es part) ∷ []) f (j + 1)) (sym at) (lift es (part_entry part class found (link_for heads es part) ∷ []) (get_or heads c 0) (j + 1) r))
 
 -- the link as the code chooses it
-pub link_then : (heads : List ℕ) (es : List Entry) (part : Part) (head next : ℕ) → head ≡ get_or heads (bucket part (length heads)) 0 → head ≤ length es → next ≡ head → next ≡ link_for heads es part
+pub link_then : (heads : List ℕ) (es : List Entry) (part : TypedPart) (head next : ℕ) → head ≡ get_or heads (bucket part (length heads)) 0 → head ≤ length es → next ≡ head → next ≡ link_for heads es part
 link_then heads es part head next is le e =
     let t : nat_le (get_or heads (bucket part (length heads)) 0) (length es) ≡ true = grind (arith, nat_tests) in
     e ∙ (is ∙ sym (ap (λ b. if b then get_or heads (bucket part (length heads)) 0 else 0) t))
 
-pub link_else : (heads : List ℕ) (es : List Entry) (part : Part) (head next : ℕ) → head ≡ get_or heads (bucket part (length heads)) 0 → length es < head → next ≡ 0 → next ≡ link_for heads es part
+pub link_else : (heads : List ℕ) (es : List Entry) (part : TypedPart) (head next : ℕ) → head ≡ get_or heads (bucket part (length heads)) 0 → length es < head → next ≡ 0 → next ≡ link_for heads es part
 link_else heads es part head next is lt e =
     let f : nat_le (get_or heads (bucket part (length heads)) 0) (length es) ≡ false = grind (arith, nat_tests) in
     e ∙ sym (ap (λ b. if b then get_or heads (bucket part (length heads)) 0 else 0) f)

@@ -3,7 +3,7 @@ use Rattle.std.proofs.Common.{◌≡◌, inl, inr, ⊎_elim, Bool, true, Some, N
 use Rattle.std.specs.Prelude.{filter, Contains}
 use Rattle.foundation.proofs.Members.{Has, EachOnce, contains_from_has, has_from_contains}
 use Rattle.foundation.proofs.Chosen.{has_filter, filter_has}
-use Rattle.abi_dyncast.specs.declared.parts.Part.{Part}
+use Rattle.abi_dyncast.specs.declared.parts.TypedPart.{TypedPart}
 use Rattle.abi_dyncast.specs.declared.work.Entry.{Entry}
 use Rattle.foundation.specs.Only.{IsOnly}
 use Rattle.abi_dyncast.specs.invariants.Chain.{IsEachOnce}
@@ -12,9 +12,9 @@ use Rattle.abi_dyncast.proofs.OnceLists.{each_once, once_chosen}
 use Rattle.abi_dyncast.proofs.Entries.{part_in}
 
 -- exactly the parts of which Q holds are those of the entries that pass the test
-pub record Matches (entries : List Entry) (test : Entry → Bool) (Q : Part → Type 0) : Type 0 where
+pub record Matches (entries : List Entry) (test : Entry → Bool) (Q : TypedPart → Type 0) : Type 0 where
   pub sound : (e : Entry) → Contains entries e → test e ≡ true → Q e.part
-  pub complete : (part : Part) → Q part → (e : Entry) × Contains entries e × (e.part ≡ part) × (test e ≡ true)
+  pub complete : (part : TypedPart) → Q part → (e : Entry) × Contains entries e × (e.part ≡ part) × (test e ≡ true)
 
 chosen : (entries : List Entry) (test : Entry → Bool) (e : Entry) → Contains entries e → test e ≡ true → Has (filter test entries) e
 chosen entries test e h t = filter_has test entries e (has_from_contains entries e h) t
@@ -22,7 +22,7 @@ chosen entries test e h t = filter_has test entries e (has_from_contains entries
 from_chosen : (entries : List Entry) (test : Entry → Bool) (e : Entry) → Has (filter test entries) e → Contains entries e × (test e ≡ true)
 from_chosen entries test e h = let r = has_filter test entries e h in (contains_from_has entries e r.0, r.1)
 
-pub found_only : (entries : List Entry) (test : Entry → Bool) (Q : Part → Type 0) (x : Entry) → Matches entries test Q → only_of (filter test entries) ≡ Some x → Contains entries x × IsOnly Q x.part
+pub found_only : (entries : List Entry) (test : Entry → Bool) (Q : TypedPart → Type 0) (x : Entry) → Matches entries test Q → only_of (filter test entries) ≡ Some x → Contains entries x × IsOnly Q x.part
 found_only entries test Q x m e = by_list (filter test entries) refl e
   where
     by_list : (xs : List Entry) → filter test entries ≡ xs → only_of xs ≡ Some x → Contains entries x × IsOnly Q x.part
@@ -41,7 +41,7 @@ found_only entries test Q x m e = by_list (filter test entries) refl e
         )
     by_list (y ∷ z ∷ xs) is e = absurd (cc)
 
-pub found_none : (entries : List Entry) (test : Entry → Bool) (Q : Part → Type 0) → IsEachOnce entries → Matches entries test Q → only_of (filter test entries) ≡ None → (part : Part) → IsOnly Q part → ⊥
+pub found_none : (entries : List Entry) (test : Entry → Bool) (Q : TypedPart → Type 0) → IsEachOnce entries → Matches entries test Q → only_of (filter test entries) ≡ None → (part : TypedPart) → IsOnly Q part → ⊥
 found_none entries test Q once m e part only = by_list (filter test entries) refl e (once_chosen part_in test entries (each_once part_in entries once))
   where
     by_list : (xs : List Entry) → filter test entries ≡ xs → only_of xs ≡ None → EachOnce (map part_in (filter test entries)) → ⊥

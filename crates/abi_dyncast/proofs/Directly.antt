@@ -4,7 +4,7 @@ use Rattle.std.specs.Prelude.{Contains}
 use Rattle.std.proofs.lemmas.Bool.{cases_order}
 use Rattle.byte_memory.specs.Store.{Store}
 use Rattle.byte_code.specs.declared.image.BaseRecord.{BaseRecord}
-use Rattle.abi_dyncast.specs.declared.parts.Part.{Part}
+use Rattle.abi_dyncast.specs.declared.parts.TypedPart.{TypedPart}
 use Rattle.abi_dyncast.specs.declared.work.Goal.{Goal}
 use Rattle.abi_dyncast.specs.declared.kept.KnownPart.{KnownPart}
 use Rattle.abi_dyncast.specs.Graph.{Graph, moved, graph_of, word_in, info_at, any_edge, base_record, has_virtual_flag, offset_word, LeadsByEdges, stays, steps, LeadsToSome}
@@ -20,51 +20,51 @@ moved_twice : (x a d : ℕ) → moved (moved x a) d ≡ moved x (moved a d)
 moved_twice x a d = omega arith
 
 -- a part as far on
-abbrev shifted : ℕ → Part → Part
+abbrev shifted : ℕ → TypedPart → TypedPart
 shifted x part = record { at = moved x part.at; info = part.info }
 
 -- a way is one from each other place
-goes_shifted : (image : ℕ → Option ℕ) (x : ℕ) (part end : Part) → GoesDirectly image part end → GoesDirectly image (shifted x part) (shifted x end)
+goes_shifted : (image : ℕ → Option ℕ) (x : ℕ) (part end : TypedPart) → GoesDirectly image part end → GoesDirectly image (shifted x part) (shifted x end)
 goes_shifted image x _ _ (arrived part) = arrived (shifted x part)
 goes_shifted image x _ _ (goes part end i lt plain way) =
     goes (shifted x part) (shifted x end) i lt plain
     (subst (λ a. GoesDirectly image (record { at = a; info = (base_record image part i).info }) (shifted x end)) (sym (moved_twice x part.at (offset_word (base_record image part i)))) (goes_shifted image x (plain_base image part i) end way))
 
 -- it is one along edges
-goes_by_edges : (image : ℕ → Option ℕ) (memory : Store) (part end : Part) → GoesDirectly image part end → LeadsByEdges (graph_of image memory) any_edge part end
+goes_by_edges : (image : ℕ → Option ℕ) (memory : Store) (part end : TypedPart) → GoesDirectly image part end → LeadsByEdges (graph_of image memory) any_edge part end
 goes_by_edges image memory _ _ (arrived part) = stays part
 goes_by_edges image memory _ _ (goes part end i lt plain way) =
     steps part end i lt refl
     (subst (λ p. LeadsByEdges (graph_of image memory) any_edge p end) (plain_part image memory part i (base_record image part i) (offset_word (base_record image part i)) (moved part.at (offset_word (base_record image part i))) refl plain refl refl) (goes_by_edges image memory (plain_base image part i) end way))
 
 -- the source itself
-pub itself_directly : (image : ℕ → Option ℕ) (memory : Store) (goal : Goal) (part : Part) (class : ℕ) → class ≡ (info_at image part.info).class → is_source goal part.at class ≡ true → LeadsDirectly image goal part
+pub itself_directly : (image : ℕ → Option ℕ) (memory : Store) (goal : Goal) (part : TypedPart) (class : ℕ) → class ≡ (info_at image part.info).class → is_source goal part.at class ≡ true → LeadsDirectly image goal part
 itself_directly image memory goal part class is found =
     let q = (source_test (graph_of image memory) goal part).0 (sym (ap (is_source goal part.at) is) ∙ found) in
     record { end = part; way = arrived part; same_place = q.same_place; same_class = q.same_class }
 
 -- where it lies, as it is read
-pub next_is : (image : ℕ → Option ℕ) (part : Part) (i : ℕ) (base : BaseRecord) (far at : ℕ) → base ≡ base_record image part i → far ≡ offset_word base → at ≡ moved part.at far → record { at = at; info = base.info } ≡ plain_base image part i
+pub next_is : (image : ℕ → Option ℕ) (part : TypedPart) (i : ℕ) (base : BaseRecord) (far at : ℕ) → base ≡ base_record image part i → far ≡ offset_word base → at ≡ moved part.at far → record { at = at; info = base.info } ≡ plain_base image part i
 next_is image part i base far at is offset place =
-    let make : BaseRecord → Part = λ b. record { at = moved part.at (offset_word b); info = b.info } in
-    let put : ℕ → Part = λ a. record { at = a; info = base.info } in
+    let make : BaseRecord → TypedPart = λ b. record { at = moved part.at (offset_word b); info = b.info } in
+    let put : ℕ → TypedPart = λ a. record { at = a; info = base.info } in
     ap put (place ∙ ap (moved part.at) offset) ∙ ap make is
 
 -- a base that is not virtual, from which bases that are not virtual lead on
-pub goes_on_directly : (image : ℕ → Option ℕ) (goal : Goal) (part next : Part) (i : ℕ) → i < (info_at image part.info).bases → has_virtual_flag (base_record image part i) ≡ false → next ≡ plain_base image part i → LeadsDirectly image goal next → LeadsDirectly image goal part
+pub goes_on_directly : (image : ℕ → Option ℕ) (goal : Goal) (part next : TypedPart) (i : ℕ) → i < (info_at image part.info).bases → has_virtual_flag (base_record image part i) ≡ false → next ≡ plain_base image part i → LeadsDirectly image goal next → LeadsDirectly image goal part
 goes_on_directly image goal part next i lt plain is found =
     let f = subst (λ p. LeadsDirectly image goal p) is found in
     record { end = f.end; way = goes part f.end i lt plain f.way; same_place = f.same_place; same_class = f.same_class }
 
 -- a part of a class is found, or is not below a part
-abbrev Decided : Graph → Goal → Part → Type 0
+abbrev Decided : Graph → Goal → TypedPart → Type 0
 Decided g goal part = LeadsToSome g any_edge (IsSource g goal) part ⊎ (LeadsToSome g any_edge (IsSource g goal) part → ⊥)
 
 -- no edge of the first k leads there
-abbrev PastEdges : Graph → Goal → Part → ℕ → Type 0
+abbrev PastEdges : Graph → Goal → TypedPart → ℕ → Type 0
 PastEdges g goal part k = (i : ℕ) → i < k → LeadsToSome g any_edge (IsSource g goal) (g.edge part i).part → ⊥
 
-by_edges : (g : Graph) (goal : Goal) (part : Part) → ((i : ℕ) → i < g.count part → Decided g goal (g.edge part i).part) → (k : ℕ) → k ≤ g.count part → LeadsToSome g any_edge (IsSource g goal) part ⊎ PastEdges g goal part k
+by_edges : (g : Graph) (goal : Goal) (part : TypedPart) → ((i : ℕ) → i < g.count part → Decided g goal (g.edge part i).part) → (k : ℕ) → k ≤ g.count part → LeadsToSome g any_edge (IsSource g goal) part ⊎ PastEdges g goal part k
 by_edges g goal part each zero low = inr (λ i less l. omega arith)
 by_edges g goal part each (suc k) low = ⊎_elim
     (λ found. inl found)
@@ -74,15 +74,15 @@ by_edges g goal part each (suc k) low = ⊎_elim
     (each k (omega arith)))
     (by_edges g goal part each k (omega arith))
 
-leads_nowhere : (g : Graph) (goal : Goal) (part end : Part) → LeadsByEdges g any_edge part end → IsSource g goal end → is_source goal part.at (g.class part) ≡ false → PastEdges g goal part (g.count part) → ⊥
+leads_nowhere : (g : Graph) (goal : Goal) (part end : TypedPart) → LeadsByEdges g any_edge part end → IsSource g goal end → is_source goal part.at (g.class part) ≡ false → PastEdges g goal part (g.count part) → ⊥
 leads_nowhere g goal _ _ (stays part) q off past = let on = (source_test g goal part).1 q in let both : true ≡ false = sym on ∙ off in cc
 leads_nowhere g goal _ _ (steps part end i less a l) q off past = past i less (record { end = end; leads = l; is = q })
 
-by_test : (g : Graph) (goal : Goal) (part : Part) → ((i : ℕ) → i < g.count part → Decided g goal (g.edge part i).part) → (b : Bool) → is_source goal part.at (g.class part) ≡ b → Decided g goal part
+by_test : (g : Graph) (goal : Goal) (part : TypedPart) → ((i : ℕ) → i < g.count part → Decided g goal (g.edge part i).part) → (b : Bool) → is_source goal part.at (g.class part) ≡ b → Decided g goal part
 by_test g goal part each true e = inl (record { end = part; leads = stays part; is = (source_test g goal part).0 e })
 by_test g goal part each false e = ⊎_elim (λ l. inl l) (λ past. inr (λ l. leads_nowhere g goal part l.end l.leads l.is e past)) (by_edges g goal part each (g.count part) (omega arith))
 
-decided : (g : Graph) (goal : Goal) (parts : List Part) → AreClosedParts g parts → (n : ℕ) (part : Part) → g.class part < n → Contains parts part → Decided g goal part
+decided : (g : Graph) (goal : Goal) (parts : List TypedPart) → AreClosedParts g parts → (n : ℕ) (part : TypedPart) → g.class part < n → Contains parts part → Decided g goal part
 decided g goal parts are zero part lt has = absurd (omega arith)
 decided g goal parts are (suc n) part lt has = by_test g goal part (λ i less. let falls = are.falls part i has less in decided g goal parts are n (g.edge part i).part (omega arith) (are.inside part i has less)) (is_source goal part.at (g.class part)) refl
 
@@ -113,7 +113,7 @@ known_tells image base memory room view_at view_class at class distance can know
     let walk = can.walk known.dynamic in
     let g : Graph = graph_of image memory in
     let goal : Goal = record { at = at; class = class; target = class } in
-    let view : Part = complete_view_at image base view_at view_class in
+    let view : TypedPart = complete_view_at image base view_at view_class in
     let named : LeadsToSome g any_edge (IsPartAtAddress g at class) view = ⊎_elim
     (λ l. l)
     (λ absent. absurd (known.named memory view_at low (subst (λ a. LeadsToSome g any_edge (IsPartAtAddress g a class) view → ⊥) (sym place) absent)))

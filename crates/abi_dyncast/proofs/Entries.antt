@@ -4,23 +4,23 @@ use Rattle.std.specs.Prelude.{Contains}
 use Rattle.std.proofs.lemmas.List.Elements.{Contains-append_left, Contains-append_right, Contains-append_cases}
 use Rattle.foundation.proofs.Members.{Has, from_map, contains_from_has, has_from_contains}
 use Rattle.foundation.proofs.Places.{contains_first, contains_at, get_pushed}
-use Rattle.abi_dyncast.specs.declared.parts.Part.{Part}
+use Rattle.abi_dyncast.specs.declared.parts.TypedPart.{TypedPart}
 use Rattle.abi_dyncast.specs.declared.work.Entry.{Entry}
 use Rattle.abi_dyncast.specs.invariants.Chain.{IsMet, IsEachOnce}
 
-abbrev pub part_in : Entry → Part
+abbrev pub part_in : Entry → TypedPart
 part_in e = e.part
 
 pub met_entry : (entries : List Entry) (e : Entry) → Contains entries e → IsMet entries e.part
 met_entry entries e h = record { entry = e; has = h; is = refl }
 
-pub met_left : (xs ys : List Entry) (part : Part) → IsMet xs part → IsMet (xs ++ ys) part
+pub met_left : (xs ys : List Entry) (part : TypedPart) → IsMet xs part → IsMet (xs ++ ys) part
 met_left xs ys part m = record { entry = m.entry; has = Contains-append_left xs ys m.entry m.has; is = m.is }
 
-pub met_right : (xs ys : List Entry) (part : Part) → IsMet ys part → IsMet (xs ++ ys) part
+pub met_right : (xs ys : List Entry) (part : TypedPart) → IsMet ys part → IsMet (xs ++ ys) part
 met_right xs ys part m = record { entry = m.entry; has = Contains-append_right xs ys m.entry m.has; is = m.is }
 
-pub met_cases : (xs ys : List Entry) (part : Part) → IsMet (xs ++ ys) part → IsMet xs part ⊎ IsMet ys part
+pub met_cases : (xs ys : List Entry) (part : TypedPart) → IsMet (xs ++ ys) part → IsMet xs part ⊎ IsMet ys part
 met_cases xs ys part m = ⊎_elim
     (λ h. inl (record { entry = m.entry; has = h; is = m.is }))
     (λ h. inr (record { entry = m.entry; has = h; is = m.is }))
@@ -30,19 +30,19 @@ met_cases xs ys part m = ⊎_elim
 pub none_there : (e : Entry) → Contains [] e → ⊥
 none_there e (k, lt, is) = omega arith
 
-pub none_met : (part : Part) → IsMet [] part → ⊥
+pub none_met : (part : TypedPart) → IsMet [] part → ⊥
 none_met part m = none_there m.entry m.has
 
 pub one_there : (e x : Entry) → Contains (x ∷ []) e → x ≡ e
 one_there e x h = ⊎_elim (λ same. same) (λ z. absurd z) (has_from_contains (x ∷ []) e h)
 
-pub one_met : (x : Entry) (part : Part) → IsMet (x ∷ []) part → x.part ≡ part
+pub one_met : (x : Entry) (part : TypedPart) → IsMet (x ∷ []) part → x.part ≡ part
 one_met x part m = ap part_in (one_there m.entry x m.has) ∙ m.is
 
 pub last_met : (xs : List Entry) (x : Entry) → IsMet (xs ++ x ∷ []) x.part
 last_met xs x = met_right xs (x ∷ []) x.part (met_entry (x ∷ []) x (contains_first x []))
 
-pub met_part : (entries : List Entry) (part : Part) → Has (map part_in entries) part → IsMet entries part
+pub met_part : (entries : List Entry) (part : TypedPart) → Has (map part_in entries) part → IsMet entries part
 met_part entries part h = let m = from_map part_in entries part h in record { entry = m.0; has = contains_from_has entries m.0 m.1; is = m.2 }
 
 -- a part that was not met is put behind the others

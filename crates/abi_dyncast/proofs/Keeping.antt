@@ -8,7 +8,7 @@ use Rattle.byte_code.specs.Numbers.{signed_of}
 use Rattle.byte_code.specs.Records.{HasSmall, IsInfoAt, HasBaseRecord, IsTableWord}
 use Rattle.byte_code.specs.declared.image.InfoRecord.{InfoRecord}
 use Rattle.byte_code.specs.declared.image.BaseRecord.{BaseRecord}
-use Rattle.abi_dyncast.specs.declared.parts.Part.{Part}
+use Rattle.abi_dyncast.specs.declared.parts.TypedPart.{TypedPart}
 use Rattle.abi_dyncast.specs.declared.parts.Edge.{Edge}
 use Rattle.abi_dyncast.specs.Rule.{AnswersCast}
 use Rattle.abi_dyncast.specs.Graph.{moved}
@@ -18,19 +18,19 @@ use Rattle.abi_dyncast.proofs.Ways.{leads_inside}
 use Rattle.abi_dyncast.proofs.Transfer.{Corresponds, made, transfer}
 
 -- two graphs are the same on parts that no edge leaves
-record AreSame (g h : Graph) (parts : List Part) : Type 0 where
-  class : (part : Part) → Contains parts part → h.class part ≡ g.class part
-  count : (part : Part) → Contains parts part → h.count part ≡ g.count part
-  edge : (part : Part) (i : ℕ) → Contains parts part → i < g.count part → h.edge part i ≡ g.edge part i
+record AreSame (g h : Graph) (parts : List TypedPart) : Type 0 where
+  class : (part : TypedPart) → Contains parts part → h.class part ≡ g.class part
+  count : (part : TypedPart) → Contains parts part → h.count part ≡ g.count part
+  edge : (part : TypedPart) (i : ℕ) → Contains parts part → i < g.count part → h.edge part i ≡ g.edge part i
 
-are_back : (g h : Graph) (parts : List Part) → AreSame g h parts → AreSame h g parts
+are_back : (g h : Graph) (parts : List TypedPart) → AreSame g h parts → AreSame h g parts
 are_back g h parts same = record {
   class = λ part has. sym (same.class part has);
   count = λ part has. sym (same.count part has);
   edge = λ part i has lt. sym (same.edge part i has (subst (λ n. i < n) (same.count part has) lt));
 }
 
-parts_there : (g h : Graph) (parts : List Part) → AreSame g h parts → AreClosedParts g parts → AreClosedParts h parts
+parts_there : (g h : Graph) (parts : List TypedPart) → AreSame g h parts → AreClosedParts g parts → AreClosedParts h parts
 parts_there g h parts same are = record {
   inside = λ part i has lt.
       let l = subst (λ n. i < n) (same.count part has) lt in
@@ -44,31 +44,31 @@ parts_there g h parts same are = record {
       subst (λ n. h.class (h.edge part i).part < n) (sym here) (subst (λ m. m < g.class part) (sym below) less);
 }
 
-leads_there : (g h : Graph) (parts : List Part) → AreSame g h parts → AreClosedParts g parts → (allow : Edge → Bool) (part end : Part) → LeadsByEdges g allow part end → Contains parts part → LeadsByEdges h allow part end
+leads_there : (g h : Graph) (parts : List TypedPart) → AreSame g h parts → AreClosedParts g parts → (allow : Edge → Bool) (part end : TypedPart) → LeadsByEdges g allow part end → Contains parts part → LeadsByEdges h allow part end
 leads_there g h parts same are allow _ _ (stays part) has = stays part
 leads_there g h parts same are allow _ _ (steps part end i lt a l) has =
     let e = sym (same.edge part i has lt) in
     steps part end i (subst (λ n. i < n) (sym (same.count part has)) lt) (subst (λ (w : Edge). allow w ≡ true) e a)
     (subst (λ (w : Edge). LeadsByEdges h allow w.part end) e (leads_there g h parts same are allow (g.edge part i).part end l (are.inside part i has lt)))
 
-some_there : (g h : Graph) (parts : List Part) → AreSame g h parts → AreClosedParts g parts → (allow : Edge → Bool) (at class : ℕ) (part : Part) → Contains parts part → LeadsToSome g allow (IsPartAtAddress g at class) part → LeadsToSome h allow (IsPartAtAddress h at class) part
+some_there : (g h : Graph) (parts : List TypedPart) → AreSame g h parts → AreClosedParts g parts → (allow : Edge → Bool) (at class : ℕ) (part : TypedPart) → Contains parts part → LeadsToSome g allow (IsPartAtAddress g at class) part → LeadsToSome h allow (IsPartAtAddress h at class) part
 some_there g h parts same are allow at class part has way = record {
   end = way.end;
   leads = leads_there g h parts same are allow part way.end way.leads has;
   is = record { same_place = way.is.same_place; same_class = same.class way.end (leads_inside g allow parts part way.end are way.leads has) ∙ way.is.same_class };
 }
 
-target_there : (g h : Graph) (parts : List Part) → AreSame g h parts → AreClosedParts g parts → (target : ℕ) (view part : Part) → Contains parts view → IsTargetPart g target view part → IsTargetPart h target view part
+target_there : (g h : Graph) (parts : List TypedPart) → AreSame g h parts → AreClosedParts g parts → (target : ℕ) (view part : TypedPart) → Contains parts view → IsTargetPart g target view part → IsTargetPart h target view part
 target_there g h parts same are target view part has t = record {
   below = leads_there g h parts same are any_edge view part t.below has;
   class = same.class part (leads_inside g any_edge parts view part are t.below has) ∙ t.class;
 }
 
-corresponds : (g h : Graph) (parts : List Part) → AreSame g h parts → AreClosedParts g parts → (view : Part) → Contains parts view → (at class target : ℕ) → Corresponds (parts_below g view at class target) (parts_below h view at class target) (λ part. part)
+corresponds : (g h : Graph) (parts : List TypedPart) → AreSame g h parts → AreClosedParts g parts → (view : TypedPart) → Contains parts view → (at class target : ℕ) → Corresponds (parts_below g view at class target) (parts_below h view at class target) (λ part. part)
 corresponds g h parts same are view has at class target =
     let back = are_back g h parts same in
     let there = parts_there g h parts same are in
-    let within : (part : Part) → IsTargetPart g target view part → Contains parts part = λ part t. leads_inside g any_edge parts view part are t.below has in
+    let within : (part : TypedPart) → IsTargetPart g target view part → Contains parts part = λ part t. leads_inside g any_edge parts view part are t.below has in
     record {
       to = λ part t. target_there g h parts same are target view part has t;
       from = λ part t. (part, target_there h g parts back there target view part has t, refl);
@@ -79,12 +79,12 @@ corresponds g h parts same are view has at class target =
       reached = λ part t. (λ l. leads_there g h parts same are _ view part l has, λ l. leads_there h g parts back there _ view part l has);
     }
 
-same_made : (answer : Option Part) → made (λ (part : Part). part) answer ≡ answer
+same_made : (answer : Option TypedPart) → made (λ (part : TypedPart). part) answer ≡ answer
 same_made None = refl
 same_made (Some part) = refl
 
 -- the rule gives the same in both
-cast_there : (g h : Graph) (parts : List Part) → AreSame g h parts → AreClosedParts g parts → (view : Part) → Contains parts view → (at class target : ℕ) (answer : Option Part) → AnswersCast (parts_below h view at class target) answer → AnswersCast (parts_below g view at class target) answer
+cast_there : (g h : Graph) (parts : List TypedPart) → AreSame g h parts → AreClosedParts g parts → (view : TypedPart) → Contains parts view → (at class target : ℕ) (answer : Option TypedPart) → AnswersCast (parts_below h view at class target) answer → AnswersCast (parts_below g view at class target) answer
 cast_there g h parts same are view has at class target answer rule =
     let t = transfer (parts_below g view at class target) (parts_below h view at class target) (λ part. part) (corresponds g h parts same are view has at class target) answer rule in
     subst (λ a. AnswersCast (parts_below g view at class target) a) (sym (same_made t.answer) ∙ t.is) t.rule
@@ -152,7 +152,7 @@ edge_kept image other memory next at base pointer word =
     ap (λ d. make (edge_by image memory at base).is_public d base.info) far
 
 -- the graphs are the same
-same_graphs : (image other : ℕ → Option ℕ) (memory next : Store) (parts : List Part) → CanReadParts image memory parts → KeepsReads image other memory next parts → AreSame (graph_of image memory) (graph_of other next) parts
+same_graphs : (image other : ℕ → Option ℕ) (memory next : Store) (parts : List TypedPart) → CanReadParts image memory parts → KeepsReads image other memory next parts → AreSame (graph_of image memory) (graph_of other next) parts
 same_graphs image other memory next parts read keeps = record {
   class = λ part has. ap (λ (i : InfoRecord). i.class) (same_info part has);
   count = λ part has. ap (λ (i : InfoRecord). i.bases) (same_info part has);
@@ -164,10 +164,10 @@ same_graphs image other memory next parts read keeps = record {
       ∙ edge_kept image other memory next part.at (base_record image part i) (λ v. ap loaded_or_zero (keeps.pointers part has)) (λ v. kept image other keeps.words (vbase_at memory part.at (base_record image part i)) (s.word v));
 }
   where
-    same_info : (part : Part) → Contains parts part → info_at other part.info ≡ info_at image part.info
+    same_info : (part : TypedPart) → Contains parts part → info_at other part.info ≡ info_at image part.info
     same_info part has = info_read other part.info (info_at image part.info) (info_kept image other keeps.words part.info (info_at image part.info) (read.info part has))
 
-step_kept : (image other : ℕ → Option ℕ) (memory next : Store) (part : Part) (i : ℕ) → ((at word : ℕ) → image at ≡ Some word → other at ≡ Some word) → load_of next part.at 8 ≡ load_of memory part.at 8 → info_at other part.info ≡ info_at image part.info → CanStep image memory part i → CanStep other next part i
+step_kept : (image other : ℕ → Option ℕ) (memory next : Store) (part : TypedPart) (i : ℕ) → ((at word : ℕ) → image at ≡ Some word → other at ≡ Some word) → load_of next part.at 8 ≡ load_of memory part.at 8 → info_at other part.info ≡ info_at image part.info → CanStep image memory part i → CanStep other next part i
 step_kept image other memory next part i words load info s =
     let at : record_at other part i ≡ record_at image part i = ap (λ (r : InfoRecord). r.first + 16 * i) info in
     let there = base_kept image other words (record_at image part i) (base_record image part i) s.base in
@@ -186,18 +186,18 @@ step_kept image other memory next part i words load info s =
           subst (λ n. IsTableWord other n) (sym where_is) (table_kept image other words (vbase_at memory part.at (base_record image part i)) (s.table old));
     }
 
-read_kept : (image other : ℕ → Option ℕ) (memory next : Store) (parts : List Part) → CanReadParts image memory parts → KeepsReads image other memory next parts → CanReadParts other next parts
+read_kept : (image other : ℕ → Option ℕ) (memory next : Store) (parts : List TypedPart) → CanReadParts image memory parts → KeepsReads image other memory next parts → CanReadParts other next parts
 read_kept image other memory next parts read keeps = record {
   info = λ part has. subst (λ i. IsInfoAt other part.info i) (sym (same_info part has)) (info_kept image other keeps.words part.info (info_at image part.info) (read.info part has));
   steps = λ part i has lt. step_kept image other memory next part i keeps.words (keeps.pointers part has) (same_info part has) (read.steps part i has (subst (λ (r : InfoRecord). i < r.bases) (same_info part has) lt));
 }
   where
-    same_info : (part : Part) → Contains parts part → info_at other part.info ≡ info_at image part.info
+    same_info : (part : TypedPart) → Contains parts part → info_at other part.info ≡ info_at image part.info
     same_info part has = info_read other part.info (info_at image part.info) (info_kept image other keeps.words part.info (info_at image part.info) (read.info part has))
 
 view_kept : (image other : ℕ → Option ℕ) (memory next : Store) (at : ℕ) → ((at word : ℕ) → image at ≡ Some word → other at ≡ Some word) → load_of next at 8 ≡ load_of memory at 8 → IsSome (image (pointer_at memory at - 16)) → IsSome (image (pointer_at memory at - 8)) → view_at_address other next at ≡ view_at_address image memory at
 view_kept image other memory next at words load top info =
-    let make : ℕ → ℕ → Part = λ x y. record { at = moved at x; info = y } in
+    let make : ℕ → ℕ → TypedPart = λ x y. record { at = moved at x; info = y } in
     let pointer : pointer_at next at ≡ pointer_at memory at = ap loaded_or_zero load in
     let a : word_in (other (pointer_at next at - 16)) ≡ word_in (image (pointer_at memory at - 16)) = ap (λ p. word_in (other (p - 16))) pointer ∙ ap word_in (kept image other words (pointer_at memory at - 16) top) in
     let b : word_in (other (pointer_at next at - 8)) ≡ word_in (image (pointer_at memory at - 8)) = ap (λ p. word_in (other (p - 8))) pointer ∙ ap word_in (kept image other words (pointer_at memory at - 8) info) in

@@ -5,7 +5,7 @@ use Rattle.std.proofs.lemmas.List.Sums.{sum_by_push, sum_by-cons}
 use Rattle.foundation.proofs.Truth.{split}
 use Rattle.foundation.proofs.Members.{has_from_contains}
 use Rattle.byte_code.specs.Readers.{raised}
-use Rattle.abi_dyncast.specs.declared.parts.Part.{Part}
+use Rattle.abi_dyncast.specs.declared.parts.TypedPart.{TypedPart}
 use Rattle.abi_dyncast.specs.declared.work.Goal.{Goal}
 use Rattle.abi_dyncast.specs.declared.work.Entry.{Entry}
 use Rattle.abi_dyncast.specs.Graph.{Graph}
@@ -65,7 +65,7 @@ edges_in_parts g (x ∷ xs) =
     omega arith
 
 -- a whole walk over a view
-pub reads_at_most : (g : Graph) (goal : Goal) (view : Part) (old entries : List Entry) (before after : ℕ) → old ≡ [] → IsEachOnce entries → Visited g goal view old entries → HasRead g old entries before after → ReadsAtMost g view before after
+pub reads_at_most : (g : Graph) (goal : Goal) (view : TypedPart) (old entries : List Entry) (before after : ℕ) → old ≡ [] → IsEachOnce entries → Visited g goal view old entries → HasRead g old entries before after → ReadsAtMost g view before after
 reads_at_most g goal view old entries before after empty once v h =
     let visited = subst (λ xs. Visited g goal view xs entries) empty v in
     let read = subst (λ xs. HasRead g xs entries before after) empty h in

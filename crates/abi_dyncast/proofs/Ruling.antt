@@ -4,7 +4,7 @@ use Rattle.std.specs.Prelude.{nat_eq, not, ◌&&◌, ◌||◌, if◌then◌else�
 use Rattle.std.proofs.lemmas.Bool.{eqb-true, eq-eqb, and_parts, and_from, or_cases, or_left, or_right}
 use Rattle.foundation.proofs.Truth.{split}
 use Rattle.byte_memory.specs.Store.{Store}
-use Rattle.abi_dyncast.specs.declared.parts.Part.{Part}
+use Rattle.abi_dyncast.specs.declared.parts.TypedPart.{TypedPart}
 use Rattle.abi_dyncast.specs.declared.work.Goal.{Goal}
 use Rattle.abi_dyncast.specs.declared.work.Found.{Found}
 use Rattle.abi_dyncast.specs.declared.work.Entry.{Entry}
@@ -21,18 +21,18 @@ use Rattle.abi_dyncast.proofs.Ways.{leads_any}
 use Rattle.abi_dyncast.proofs.Choosing.{Matches, found_only, found_none}
 
 -- the rule's questions for a goal
-abbrev asked : Graph → Goal → Part → Parts Part
+abbrev asked : Graph → Goal → TypedPart → Parts TypedPart
 asked g goal view = parts_below g view goal.at goal.class goal.target
 
 -- a whole walk from a view
-record IsWalked (g : Graph) (goal : Goal) (view : Part) (found : Found) (entries : List Entry) : Type 0 where
+record IsWalked (g : Graph) (goal : Goal) (view : TypedPart) (found : Found) (entries : List Entry) : Type 0 where
   done : AreDone g goal entries
   once : IsEachOnce entries
-  met : (end : Part) → LeadsByEdges g any_edge view end → IsOfTarget g goal end → IsMet entries end
-  below : (part : Part) → IsMet entries part → LeadsByEdges g any_edge view part
+  met : (end : TypedPart) → LeadsByEdges g any_edge view end → IsOfTarget g goal end → IsMet entries end
+  below : (part : TypedPart) → IsMet entries part → LeadsByEdges g any_edge view part
   tells : TellsBelow g goal view found
 
-walked : (g : Graph) (goal : Goal) (view : Part) (found : Found) (entries : List Entry) → IsEachOnce entries → Visited g goal view [] entries → TellsBelow g goal view found → IsWalked g goal view found entries
+walked : (g : Graph) (goal : Goal) (view : TypedPart) (found : Found) (entries : List Entry) → IsEachOnce entries → Visited g goal view [] entries → TellsBelow g goal view found → IsWalked g goal view found entries
 walked g goal view found entries once v tells = record {
   done = v.done;
   once = once;
@@ -41,7 +41,7 @@ walked g goal view found entries once v tells = record {
   tells = tells;
 }
 
-target_matches : (g : Graph) (goal : Goal) (view : Part) (found : Found) (entries : List Entry) → IsWalked g goal view found entries → Matches entries (is_candidate goal.target false) (IsTargetPart g goal.target view)
+target_matches : (g : Graph) (goal : Goal) (view : TypedPart) (found : Found) (entries : List Entry) → IsWalked g goal view found entries → Matches entries (is_candidate goal.target false) (IsTargetPart g goal.target view)
 target_matches g goal view found entries w = record {
   sound = λ e h t. record {
     below = w.below e.part (met_entry entries e h);
@@ -53,7 +53,7 @@ target_matches g goal view found entries w = record {
       (m.entry, m.has, m.is, and_from (nat_eq m.entry.class goal.target) (m.entry.found.source || not false) (eq-eqb m.entry.class goal.target class) (or_right m.entry.found.source (not false) refl));
 }
 
-over_matches : (g : Graph) (goal : Goal) (view : Part) (found : Found) (entries : List Entry) → IsWalked g goal view found entries → Matches entries (is_candidate goal.target true) (IsOver (asked g goal view))
+over_matches : (g : Graph) (goal : Goal) (view : TypedPart) (found : Found) (entries : List Entry) → IsWalked g goal view found entries → Matches entries (is_candidate goal.target true) (IsOver (asked g goal view))
 over_matches g goal view found entries w = let all = target_matches g goal view found entries w in record {
   sound = λ e h t.
       let both = and_parts (nat_eq e.class goal.target) (e.found.source || not true) t in
@@ -69,7 +69,7 @@ over_matches g goal view found entries w = let all = target_matches g goal view 
 }
 
 -- where it leads not down
-across_rule : (g : Graph) (goal : Goal) (view : Part) (found : Found) (entries : List Entry) → IsWalked g goal view found entries → ((other : Part) → IsDown (asked g goal view) other → ⊥) →
+across_rule : (g : Graph) (goal : Goal) (view : TypedPart) (found : Found) (entries : List Entry) → IsWalked g goal view found entries → ((other : TypedPart) → IsDown (asked g goal view) other → ⊥) →
     (all : Option Entry) → only_candidate entries goal.target false ≡ all → AnswersCast (asked g goal view) (across_by all found)
 across_rule g goal view found entries w none None e = nowhere none (λ part a. found_none entries (is_candidate goal.target false) (IsTargetPart g goal.target view) w.once (target_matches g goal view found entries w) e part a.target)
 across_rule g goal view found entries w none (Some x) e =
@@ -86,7 +86,7 @@ across_rule g goal view found entries w none (Some x) e =
     let both = and_from found.public_source found.public_target one two in cc))
 
 -- the decision is the rule
-decides : (g : Graph) (goal : Goal) (view : Part) (found : Found) (entries : List Entry) → IsWalked g goal view found entries → AnswersCast (asked g goal view) (decide_by (only_candidate entries goal.target true) (only_candidate entries goal.target false) found)
+decides : (g : Graph) (goal : Goal) (view : TypedPart) (found : Found) (entries : List Entry) → IsWalked g goal view found entries → AnswersCast (asked g goal view) (decide_by (only_candidate entries goal.target true) (only_candidate entries goal.target false) found)
 decides g goal view found entries w = by_over (only_candidate entries goal.target true) refl
   where
     by_over : (over : Option Entry) → only_candidate entries goal.target true ≡ over → AnswersCast (asked g goal view) (decide_by over (only_candidate entries goal.target false) found)
@@ -103,14 +103,14 @@ decides g goal view found entries w = by_over (only_candidate entries goal.targe
 -- the view as the code reads it
 pub view_is : (image : ℕ → Option ℕ) (memory : Store) (at point before top to behind info : ℕ) → point ≡ pointer_at memory at → before ≡ point - 16 → top ≡ word_in (image before) → to ≡ moved at top → behind ≡ point - 8 → info ≡ word_in (image behind) → record { at = to; info = info } ≡ view_at_address image memory at
 view_is image memory at point before top to behind info a b c d e f =
-    let make : ℕ → ℕ → Part = λ x y. record { at = x; info = y } in
+    let make : ℕ → ℕ → TypedPart = λ x y. record { at = x; info = y } in
     let top_is : top ≡ word_in (image (pointer_at memory at - 16)) = c ∙ ap (λ k. word_in (image k)) (b ∙ ap (λ p. p - 16) a) in
     let info_is : info ≡ word_in (image (pointer_at memory at - 8)) = f ∙ ap (λ k. word_in (image k)) (e ∙ ap (λ p. p - 8) a) in
     let end : make to info ≡ view_at_address image memory at = ap (λ x. make x info) (d ∙ ap (moved at) top_is) ∙ ap (make (moved at (word_in (image (pointer_at memory at - 16))))) info_is in
     end
 
 -- the answer of the code
-pub cast_is : (image : ℕ → Option ℕ) (memory : Store) (goal : Goal) (view : Part) (found : Found) (before entries slice : List Entry) (result : Option Part) → view ≡ view_at_address image memory goal.at → before ≡ [] → IsEachOnce entries → Visited (graph_of image memory) goal view before entries → TellsBelow (graph_of image memory) goal view found → slice ≡ entries →
+pub cast_is : (image : ℕ → Option ℕ) (memory : Store) (goal : Goal) (view : TypedPart) (found : Found) (before entries slice : List Entry) (result : Option TypedPart) → view ≡ view_at_address image memory goal.at → before ≡ [] → IsEachOnce entries → Visited (graph_of image memory) goal view before entries → TellsBelow (graph_of image memory) goal view found → slice ≡ entries →
     result ≡ decide_by (only_candidate slice goal.target true) (only_candidate slice goal.target false) found → CastsTo image memory goal.at goal.class goal.target (found_address result)
 cast_is image memory goal view found before entries slice result is empty once visited tells same decided =
     let g = graph_of image memory in

@@ -9,7 +9,7 @@
 use Rattle.std.specs.Prelude.{◌≡◌, ◌↔◌, ℕ, ◌+◌, ◌-◌, ◌*◌, ◌<◌, ◌≤◌, ◌^◌, Bool, true, Option, Some, None, IsSome, IsOk, IsTrue, List, length, sum_by, Contains, ℤ, pos, negsuc}
 use Rattle.byte_memory.specs.Store.{Store, load_of}
 use Rattle.byte_code.specs.Records.{IsInfoAt, HasBaseRecord, IsTableWord}
-use Rattle.abi_dyncast.specs.declared.parts.Part.{Part}
+use Rattle.abi_dyncast.specs.declared.parts.TypedPart.{TypedPart}
 use Rattle.abi_dyncast.specs.declared.work.WorkList.{WorkList}
 use Rattle.abi_dyncast.specs.Rule.{Parts, AnswersCast}
 use Rattle.abi_dyncast.specs.Graph.{moved}
@@ -23,7 +23,7 @@ room work = work.parts
 
 -- the record of the i-th base of a part, and where the base is virtual the part's virtual pointer and the word that it leads to,
 -- which is one of a table
-pub record CanStep (image : ℕ → Option ℕ) (memory : Store) (part : Part) (i : ℕ) : Type 0 where
+pub record CanStep (image : ℕ → Option ℕ) (memory : Store) (part : TypedPart) (i : ℕ) : Type 0 where
   pub low : record_at image part i < 2 ^ 64
   pub base : HasBaseRecord image (record_at image part i) (base_record image part i)
   pub pointer : has_virtual_flag (base_record image part i) ≡ true → IsOk (load_of memory part.at 8)
@@ -31,18 +31,18 @@ pub record CanStep (image : ℕ → Option ℕ) (memory : Store) (part : Part) (
   pub table : has_virtual_flag (base_record image part i) ≡ true → IsTableWord image (vbase_at memory part.at (base_record image part i))
 
 -- the type information of parts, and all that leads from them to their bases
-pub record CanReadParts (image : ℕ → Option ℕ) (memory : Store) (parts : List Part) : Type 0 where
-  pub info : (part : Part) → Contains parts part → IsInfoAt image part.info (info_at image part.info)
-  pub steps : (part : Part) (i : ℕ) → Contains parts part → i < (graph_of image memory).count part → CanStep image memory part i
+pub record CanReadParts (image : ℕ → Option ℕ) (memory : Store) (parts : List TypedPart) : Type 0 where
+  pub info : (part : TypedPart) → Contains parts part → IsInfoAt image part.info (info_at image part.info)
+  pub steps : (part : TypedPart) (i : ℕ) → Contains parts part → i < (graph_of image memory).count part → CanStep image memory part i
 
 -- parts that no edge leaves, each of a greater class than those to which its edges lead
-pub record AreClosedParts (g : Graph) (parts : List Part) : Type 0 where
-  pub inside : (part : Part) (i : ℕ) → Contains parts part → i < g.count part → Contains parts (g.edge part i).part
-  pub falls : (part : Part) (i : ℕ) → Contains parts part → i < g.count part → g.class (g.edge part i).part < g.class part
+pub record AreClosedParts (g : Graph) (parts : List TypedPart) : Type 0 where
+  pub inside : (part : TypedPart) (i : ℕ) → Contains parts part → i < g.count part → Contains parts (g.edge part i).part
+  pub falls : (part : TypedPart) (i : ℕ) → Contains parts part → i < g.count part → g.class (g.edge part i).part < g.class part
 
 -- a walk over all that lies below a part can be had
-pub record CanWalk (image : ℕ → Option ℕ) (memory : Store) (room : ℕ) (part : Part) : Type 0 where
-  pub parts : List Part
+pub record CanWalk (image : ℕ → Option ℕ) (memory : Store) (room : ℕ) (part : TypedPart) : Type 0 where
+  pub parts : List TypedPart
   pub are : AreClosedParts (graph_of image memory) parts
   pub read : CanReadParts image memory parts
   pub has : Contains parts part
@@ -51,17 +51,17 @@ pub record CanWalk (image : ℕ → Option ℕ) (memory : Store) (room : ℕ) (p
 -- casts
 
 -- a part of a class at an address
-pub record IsPartAtAddress (g : Graph) (at class : ℕ) (part : Part) : Type 0 where
+pub record IsPartAtAddress (g : Graph) (at class : ℕ) (part : TypedPart) : Type 0 where
   pub same_place : part.at ≡ at
   pub same_class : g.class part ≡ class
 
 -- a part of the target class, below the view
-pub record IsTargetPart (g : Graph) (target : ℕ) (view part : Part) : Type 0 where
+pub record IsTargetPart (g : Graph) (target : ℕ) (view part : TypedPart) : Type 0 where
   pub below : LeadsByEdges g any_edge view part
   pub class : g.class part ≡ target
 
 -- the rule's questions, over the parts below a view, for a source of a class at an address
-abbrev pub parts_below : Graph → Part → (at class target : ℕ) → Parts Part
+abbrev pub parts_below : Graph → TypedPart → (at class target : ℕ) → Parts TypedPart
 parts_below g view at class target = record {
   is_target = IsTargetPart g target view;
   contains = LeadsToSome g any_edge (IsPartAtAddress g at class);
@@ -72,16 +72,16 @@ parts_below g view at class target = record {
 
 -- the view of what stands at an address, by its virtual pointer: the word 16 bytes before the address point says where it lies, and
 -- the word 8 bytes before is its type information
-abbrev pub view_at_address : (ℕ → Option ℕ) → Store → ℕ → Part
+abbrev pub view_at_address : (ℕ → Option ℕ) → Store → ℕ → TypedPart
 view_at_address image memory at = record { at = moved at (word_in (image (pointer_at memory at - 16))); info = word_in (image (pointer_at memory at - 8)) }
 
-abbrev pub found_address : Option Part → Option ℕ
+abbrev pub found_address : Option TypedPart → Option ℕ
 found_address None = None
 found_address (Some part) = Some part.at
 
 -- the place of what the rule gives
 pub record CastsTo (image : ℕ → Option ℕ) (memory : Store) (at class target : ℕ) (result : Option ℕ) : Type 0 where
-  pub answer : Option Part
+  pub answer : Option TypedPart
   pub rule : AnswersCast (parts_below (graph_of image memory) (view_at_address image memory at) at class target) answer
   pub is : result ≡ found_address answer
 
@@ -97,8 +97,8 @@ pub record CanCast (image : ℕ → Option ℕ) (memory : Store) (parts at : ℕ
 
 -- what is asked of a hint: where it is at least 0, each part of the target class below the view has a part of the source's class
 -- so many bytes behind itself, along public edges; of other hints nothing is asked
-abbrev pub IsTrueHint : Graph → Part → (class target : ℕ) → ℤ → Type 0
-IsTrueHint g view class target (pos n) = (part : Part) → IsTargetPart g target view part → LeadsToSome g public_edge (IsPartAtAddress g (part.at + n) class) part
+abbrev pub IsTrueHint : Graph → TypedPart → (class target : ℕ) → ℤ → Type 0
+IsTrueHint g view class target (pos n) = (part : TypedPart) → IsTargetPart g target view part → LeadsToSome g public_edge (IsPartAtAddress g (part.at + n) class) part
 IsTrueHint g view class target (negsuc n) = Unit {0}
 
 pub record CanCastHinted (image : ℕ → Option ℕ) (memory : Store) (parts at class target : ℕ) (hint : ℤ) : Type 0 where
@@ -106,18 +106,18 @@ pub record CanCastHinted (image : ℕ → Option ℕ) (memory : Store) (parts at
   pub truth : IsTrueHint (graph_of image memory) (view_at_address image memory at) class target hint
 
 -- a list has all parts below a view
-abbrev pub HasAllBelow : Graph → Part → List Part → Type 0
-HasAllBelow g view parts = (part : Part) → LeadsByEdges g any_edge view part → Contains parts part
+abbrev pub HasAllBelow : Graph → TypedPart → List TypedPart → Type 0
+HasAllBelow g view parts = (part : TypedPart) → LeadsByEdges g any_edge view part → Contains parts part
 
 -- how many edges leave parts: of all parts below a view, the pairs of a subobject and a direct base
-abbrev pub edges_of : Graph → List Part → ℕ
+abbrev pub edges_of : Graph → List TypedPart → ℕ
 edges_of g parts = sum_by g.count parts
 
 -- how far the count of records of bases is raised: by at most two for each edge of the view, and not at all where the view is of
 -- the target class and the source lies so many bytes behind it as the hint says
-pub record CountsVisits (g : Graph) (view : Part) (at target : ℕ) (hint : ℤ) (old new : ℕ) : Type 0 where
+pub record CountsVisits (g : Graph) (view : TypedPart) (at target : ℕ) (hint : ℤ) (old new : ℕ) : Type 0 where
   pub more : old ≤ new
-  pub few : (parts : List Part) → HasAllBelow g view parts → new ≤ old + 2 * edges_of g parts
+  pub few : (parts : List TypedPart) → HasAllBelow g view parts → new ≤ old + 2 * edges_of g parts
   pub hinted : (n : ℕ) → hint ≡ pos n → g.class view ≡ target → view.at + n ≡ at → new ≡ old
 
 -- containment
@@ -127,7 +127,7 @@ abbrev pub point_of : (ℕ → Option ℕ) → (base class : ℕ) → ℕ
 point_of image base class = word_in (image (base + 16 * class))
 
 -- the view of a class at an address
-abbrev pub complete_view_at : (ℕ → Option ℕ) → (base at class : ℕ) → Part
+abbrev pub complete_view_at : (ℕ → Option ℕ) → (base at class : ℕ) → TypedPart
 complete_view_at image base at class = record { at = at; info = word_in (image (point_of image base class - 8)) }
 
 -- the class of the view has a table, and the view has a part of a class at an address
@@ -148,6 +148,6 @@ pub record CanTellWithin (image : ℕ → Option ℕ) (base : ℕ) (memory : Sto
 -- what depends on what
 
 -- another image has all words of the image, and of the virtual pointers at the places of parts another memory has the same
-pub record KeepsReads (image other : ℕ → Option ℕ) (memory next : Store) (parts : List Part) : Type 0 where
+pub record KeepsReads (image other : ℕ → Option ℕ) (memory next : Store) (parts : List TypedPart) : Type 0 where
   pub words : (at word : ℕ) → image at ≡ Some word → other at ≡ Some word
-  pub pointers : (part : Part) → Contains parts part → load_of next part.at 8 ≡ load_of memory part.at 8
+  pub pointers : (part : TypedPart) → Contains parts part → load_of next part.at 8 ≡ load_of memory part.at 8

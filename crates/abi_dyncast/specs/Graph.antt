@@ -7,14 +7,14 @@ use Rattle.byte_memory.specs.Store.{Store, load_of}
 use Rattle.byte_code.specs.Numbers.{signed_of, word_of}
 use Rattle.byte_code.specs.declared.image.InfoRecord.{InfoRecord}
 use Rattle.byte_code.specs.declared.image.BaseRecord.{BaseRecord}
-use Rattle.abi_dyncast.specs.declared.parts.Part.{Part}
+use Rattle.abi_dyncast.specs.declared.parts.TypedPart.{TypedPart}
 use Rattle.abi_dyncast.specs.declared.parts.Edge.{Edge}
 
 -- of each part the number of its class, how many edges leave it, and where each of them leads
 pub record Graph : Type 0 where
-  pub class : Part → ℕ
-  pub count : Part → ℕ
-  pub edge : Part → ℕ → Edge
+  pub class : TypedPart → ℕ
+  pub count : TypedPart → ℕ
+  pub edge : TypedPart → ℕ → Edge
 
 abbrev pub word_in : Option ℕ → ℕ
 word_in None = 0
@@ -64,10 +64,10 @@ abbrev pub edge_by : (ℕ → Option ℕ) → Store → ℕ → BaseRecord → E
 edge_by image memory at base = record { part = record { at = moved at (distance_word image memory at base); info = base.info }; is_public = is_public base }
 
 -- where the record of the i-th base of the class of a part stands
-abbrev pub record_at : (ℕ → Option ℕ) → Part → ℕ → ℕ
+abbrev pub record_at : (ℕ → Option ℕ) → TypedPart → ℕ → ℕ
 record_at image part i = (info_at image part.info).first + 16 * i
 
-abbrev pub base_record : (ℕ → Option ℕ) → Part → ℕ → BaseRecord
+abbrev pub base_record : (ℕ → Option ℕ) → TypedPart → ℕ → BaseRecord
 base_record image part i = base_record_at image (record_at image part i)
 
 abbrev pub graph_of : (ℕ → Option ℕ) → Store → Graph
@@ -85,12 +85,12 @@ abbrev pub public_edge : Edge → Bool
 public_edge edge = edge.is_public
 
 -- allowed edges lead from a part to another
-pub data LeadsByEdges (g : Graph) (allow : Edge → Bool) : Part → Part → Type 0 where
-  stays : (part : Part) → LeadsByEdges g allow part part
-  steps : (part end : Part) (i : ℕ) → i < g.count part → allow (g.edge part i) ≡ true → LeadsByEdges g allow (g.edge part i).part end → LeadsByEdges g allow part end
+pub data LeadsByEdges (g : Graph) (allow : Edge → Bool) : TypedPart → TypedPart → Type 0 where
+  stays : (part : TypedPart) → LeadsByEdges g allow part part
+  steps : (part end : TypedPart) (i : ℕ) → i < g.count part → allow (g.edge part i) ≡ true → LeadsByEdges g allow (g.edge part i).part end → LeadsByEdges g allow part end
 
 -- they lead to one of which something holds
-pub record LeadsToSome (g : Graph) (allow : Edge → Bool) (Q : Part → Type 0) (part : Part) : Type 0 where
-  pub end : Part
+pub record LeadsToSome (g : Graph) (allow : Edge → Bool) (Q : TypedPart → Type 0) (part : TypedPart) : Type 0 where
+  pub end : TypedPart
   pub leads : LeadsByEdges g allow part end
   pub is : Q end

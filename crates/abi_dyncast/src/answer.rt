@@ -10,7 +10,7 @@ ghost use Rattle.abi_dyncast.specs.invariants.Deciding.{is_candidate, only_candi
 ghost use Rattle.abi_dyncast.specs.invariants.Hinting.{is_at_hint};
 ghost use Rattle.abi_dyncast.specs.invariants.Walks.{ReadsAtMost};
 
-use crate::parts::{Part, moved, pointer, table_word, word};
+use crate::parts::{TypedPart, moved, pointer, table_word, word};
 use crate::search::leads_to_source;
 use crate::walk::visit;
 use crate::work::{Entry, Found, Goal, WorkList};
@@ -41,7 +41,7 @@ fn only_candidate(entries: &[Entry], target: u32, over: bool) -> Option<Entry>
 }
 
 /// The answer by the entries of a view, and by what the view tells.
-fn decide(entries: &[Entry], target: u32, found: Found) -> Option<Part>
+fn decide(entries: &[Entry], target: u32, found: Found) -> Option<TypedPart>
     ensures { result ≡ decide_by (only_candidate entries.now target true) (only_candidate entries.now target false) found }
 {
     if let Some(entry) = only_candidate(entries, target, true) {
@@ -62,7 +62,7 @@ fn decide(entries: &[Entry], target: u32, found: Found) -> Option<Part>
 }
 
 /// The view that the virtual pointer at an address leads to.
-fn view_from<M: Memory>(reader: &BaseReader<'_>, memory: &M, at: u64) -> Part
+fn view_from<M: Memory>(reader: &BaseReader<'_>, memory: &M, at: u64) -> TypedPart
     requires top { IsSome (word_at (image_of reader.now) (pointer_at (M.meaning memory.now) at - 16)) }
     requires info { IsSome (word_at (image_of reader.now) (pointer_at (M.meaning memory.now) at - 8)) }
     requires top_word { IsTableWord (word_at (image_of reader.now)) (pointer_at (M.meaning memory.now) at - 16) }
@@ -71,7 +71,7 @@ fn view_from<M: Memory>(reader: &BaseReader<'_>, memory: &M, at: u64) -> Part
 {
     let point = pointer(memory, at);
     let top = table_word(reader, point.saturating_sub(16));
-    Part {
+    TypedPart {
         at: moved(at, top),
         info: table_word(reader, point.saturating_sub(8)),
     }
@@ -93,7 +93,7 @@ fn cast_by_walk<M: Memory>(
     memory: &M,
     work: &mut WorkList,
     goal: Goal,
-    view: Part,
+    view: TypedPart,
 ) -> Option<u64>
     requires view { view ≡ view_at_address (word_at (image_of reader.old)) (M.meaning memory.now) goal.at }
     requires can { CanCast (word_at (image_of reader.old)) (M.meaning memory.now) (room work.old) goal.at }
@@ -178,7 +178,7 @@ pub fn is_within<M: Memory>(
     if point == 0 {
         return false;
     }
-    let view = Part {
+    let view = TypedPart {
         at: view_at,
         info: word(image, point.saturating_sub(8)),
     };

@@ -8,7 +8,7 @@ ghost use Rattle.abi_dyncast.specs.Known.{HasKnownPart, TellsTruth};
 
 use crate::answer::is_within;
 use crate::kept::{KEPT, KnownPart, KnownParts};
-use crate::parts::{Part, word};
+use crate::parts::{TypedPart, word};
 use crate::search::leads_directly;
 use crate::work::{Goal, WorkList};
 use byte_code::ImageBytes;
@@ -45,7 +45,7 @@ fn is_there<M: Memory>(
     if point == 0 {
         return false;
     }
-    let view = Part {
+    let view = TypedPart {
         at: view_at,
         info: word(image, point.saturating_sub(8)),
     };

@@ -14,7 +14,7 @@ use byte_memory::Memory;
 
 /// A part of an object: its address, and the address of the type information of its class.
 #[derive(Clone, Copy, Debug, PartialEq, Eq)]
-pub struct Part {
+pub struct TypedPart {
     pub at: u64,
     pub info: u64,
 }
@@ -22,7 +22,7 @@ pub struct Part {
 /// The way from a part to that of a direct base.
 #[derive(Clone, Copy, Debug, PartialEq, Eq)]
 pub struct Edge {
-    pub part: Part,
+    pub part: TypedPart,
     pub is_public: bool,
 }
 
@@ -100,7 +100,7 @@ fn distance_word<M: Memory>(reader: &BaseReader<'_>, memory: &M, at: u64, base: 
 pub(crate) fn edge_at<M: Memory>(
     reader: &mut BaseReader<'_>,
     memory: &M,
-    part: Part,
+    part: TypedPart,
     info: InfoRecord,
     number: u32,
 ) -> Edge
@@ -113,7 +113,7 @@ pub(crate) fn edge_at<M: Memory>(
 {
     let base = reader.base(&info, number);
     Edge {
-        part: Part {
+        part: TypedPart {
             at: moved(part.at, distance_word(reader, memory, part.at, base)),
             info: base.info,
         },

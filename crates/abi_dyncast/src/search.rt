@@ -7,7 +7,7 @@ ghost use Rattle.abi_dyncast.specs.Graph.{graph_of};
 ghost use Rattle.abi_dyncast.specs.invariants.Direct.{LeadsDirectly};
 ghost use Rattle.abi_dyncast.specs.invariants.Searches.{MayBeginSearch, MayDescend, LeadsOnlyTo, Searched, TellsOfSource};
 
-use crate::parts::{Part, edge_at, is_virtual, moved, offset_word};
+use crate::parts::{TypedPart, edge_at, is_virtual, moved, offset_word};
 use crate::walk::is_source;
 use crate::work::{Found, Goal, WorkList};
 use byte_code::{BaseReader, ImageBytes};
@@ -26,7 +26,12 @@ fn nothing() -> Found
 
 /// The part to which the edges from a part lead, as long as the class has one base, which is not virtual, and a number above that
 /// of the source's. No other way leads on from the parts between, so that none of them is put into the work list.
-fn descend<M: Memory>(reader: &mut BaseReader<'_>, _memory: &M, goal: Goal, part: Part) -> Part
+fn descend<M: Memory>(
+    reader: &mut BaseReader<'_>,
+    _memory: &M,
+    goal: Goal,
+    part: TypedPart,
+) -> TypedPart
     requires { MayDescend (word_at (image_of reader.old)) (M.meaning _memory.now) part }
     ensures down { LeadsOnlyTo (graph_of (word_at (image_of reader.old)) (M.meaning _memory.now)) goal part result }
     ensures image { image_of reader.new ≡ image_of reader.old }
@@ -42,7 +47,7 @@ fn descend<M: Memory>(reader: &mut BaseReader<'_>, _memory: &M, goal: Goal, part
     if is_virtual(base) {
         return part;
     }
-    let next = Part {
+    let next = TypedPart {
         at: moved(part.at, offset_word(base)),
         info: base.info,
     };
@@ -59,7 +64,7 @@ pub(crate) fn leads_to_source<M: Memory>(
     memory: &M,
     work: &mut WorkList,
     goal: Goal,
-    part: Part,
+    part: TypedPart,
 ) -> bool
     requires { MayBeginSearch (word_at (image_of reader.old)) (M.meaning memory.now) goal work.old.parts work.old.entries.items part }
     ensures tells { TellsOfSource (graph_of (word_at (image_of reader.old)) (M.meaning memory.now)) goal part result }
@@ -98,7 +103,7 @@ pub(crate) fn leads_directly<M: Memory>(
     image: &ImageBytes,
     _memory: &M,
     goal: Goal,
-    part: Part,
+    part: TypedPart,
 ) -> bool
     requires { MayDescend (word_at image.now) (M.meaning _memory.now) part }
     ensures { result ≡ true → LeadsDirectly (word_at image.now) goal part }
@@ -110,7 +115,7 @@ pub(crate) fn leads_directly<M: Memory>(
     for number in 0..info.bases {
         let base = image.base(info.first + 16 * number as u64);
         if !is_virtual(base) {
-            let next = Part {
+            let next = TypedPart {
                 at: moved(part.at, offset_word(base)),
                 info: base.info,
             };

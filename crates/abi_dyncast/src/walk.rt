@@ -8,7 +8,7 @@ ghost use Rattle.abi_dyncast.specs.Graph.{graph_of, info_at};
 ghost use Rattle.abi_dyncast.specs.invariants.Finding.{is_source, found_itself, found_with_base, IsToldAlready, TellsBelow};
 ghost use Rattle.abi_dyncast.specs.invariants.Walks.{MayBeginWalk, Visited, HasRead};
 
-use crate::parts::{Part, edge_at};
+use crate::parts::{TypedPart, edge_at};
 use crate::work::{Found, Goal, WorkList};
 use byte_code::BaseReader;
 use byte_memory::Memory;
@@ -45,7 +45,7 @@ fn joined(own: Found, below: Found, is_public: bool) -> Found
 
 /// Whether what lies below a base tells nothing more of a part: the source was found, by public edges too, and the number of the
 /// class of the base is below that of the target class. The numbers of classes fall along edges.
-fn is_told(reader: &BaseReader<'_>, goal: Goal, found: Found, base: Part) -> bool
+fn is_told(reader: &BaseReader<'_>, goal: Goal, found: Found, base: TypedPart) -> bool
     requires { IsInfoAt (word_at (image_of reader.now)) base.info (info_at (word_at (image_of reader.now)) base.info) }
     ensures { result ≡ true → IsToldAlready goal found (info_at (word_at (image_of reader.now)) base.info).class }
 {
@@ -63,7 +63,7 @@ pub(crate) fn visit<M: Memory>(
     memory: &M,
     work: &mut WorkList,
     goal: Goal,
-    part: Part,
+    part: TypedPart,
 ) -> Found
     requires { MayBeginWalk (word_at (image_of reader.old)) (M.meaning memory.now) goal work.old.parts work.old.entries.items part }
     ensures tells { TellsBelow (graph_of (word_at (image_of reader.old)) (M.meaning memory.now)) goal part result }

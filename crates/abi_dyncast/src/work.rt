@@ -3,7 +3,7 @@
 ghost use Rattle.std.specs.Prelude.{◌≡◌, ◌+◌, ◌<◌, ◌≤◌, ◌++◌, ◌∷◌, [], None, IfOk, IfSome, length, vec_capacity, Contains};
 ghost use Rattle.abi_dyncast.specs.invariants.Chain.{bucket, is_at, IsChained, IsEachOnce};
 
-use crate::parts::Part;
+use crate::parts::TypedPart;
 use foundation::NoMemory;
 use std::alloc::Global;
 
@@ -28,7 +28,7 @@ pub struct Found {
 /// more than its place, or 0.
 #[derive(Clone, Copy, Debug, PartialEq, Eq)]
 pub struct Entry {
-    pub part: Part,
+    pub part: TypedPart,
     pub class: u32,
     pub found: Found,
     pub next: usize,
@@ -48,7 +48,7 @@ pub struct WorkList {
 }
 
 /// The bucket of a part.
-fn bucket(part: Part, count: usize) -> usize
+fn bucket(part: TypedPart, count: usize) -> usize
     requires { 0 < count }
     ensures is { result ≡ bucket part count }
     ensures below { result < count }
@@ -57,7 +57,7 @@ fn bucket(part: Part, count: usize) -> usize
 }
 
 /// Whether an entry is that of a part.
-fn is_at(entry: Entry, part: Part) -> bool
+fn is_at(entry: Entry, part: TypedPart) -> bool
     ensures { result ≡ is_at part entry }
 {
     entry.part.at == part.at && entry.part.info == part.info
@@ -92,7 +92,7 @@ impl WorkList {
     }
 
     /// Puts a part behind the others.
-    pub(crate) fn add(&mut self, part: Part, class: u32, found: Found)
+    pub(crate) fn add(&mut self, part: TypedPart, class: u32, found: Found)
         requires space { length self.old.entries.items < self.old.parts }
         requires fresh { IsMet self.old.entries.items part → ⊥ }
         ensures entries { self.new.entries.items ≡ self.old.entries.items ++ part_entry part class found (link_for self.old.heads.items self.old.entries.items part) ∷ [] }
@@ -113,7 +113,7 @@ impl WorkList {
     }
 
     /// The entry of a part.
-    pub(crate) fn find(&self, part: Part) -> Option<Entry>
+    pub(crate) fn find(&self, part: TypedPart) -> Option<Entry>
         ensures none { result ≡ None → IsMet self.now.entries.items part → ⊥ }
         ensures some { IfSome result (λ e. Contains self.now.entries.items e × (e.part ≡ part)) }
     {

@@ -9,7 +9,7 @@ use Rattle.cxx_subobject.specs.Inside.{IsInside, IsPublicWalk}
 use Rattle.cxx_subobject.proofs.PathLemmas.{same_id}
 use Rattle.cxx_subobject.proofs.InsideLemmas.{inside_valid}
 use Rattle.cxx_search.specs.Casts.{IsTarget as IsTargetIn, CastsDown, CastsAcross, IsCast as IsCastIn, leads_down, leads_across, leads_nowhere}
-use Rattle.abi_dyncast.specs.declared.parts.Part.{Part}
+use Rattle.abi_dyncast.specs.declared.parts.TypedPart.{TypedPart}
 use Rattle.abi_dyncast.specs.Rule.{Parts, IsDown, IsAcross, AnswersCast, down, across, nowhere}
 use Rattle.abi_dyncast.specs.Graph.{Graph, LeadsByEdges, LeadsToSome, any_edge, public_edge}
 use Rattle.abi_dyncast.specs.Casts.{IsPartAtAddress, IsTargetPart, parts_below}
@@ -59,7 +59,7 @@ rule_is h target x y answer rule = by_rule answer rule
     by_rule _ (across t none a) = leads_across t (λ other d. none other (down_here other d)) (across_there t a)
     by_rule _ (nowhere none no_across) = leads_nowhere (λ t d. none t (down_here t d)) (λ t a. no_across t (across_here t a))
 
-module _ (h : Classes) (root : ClassId) (x : Subobject) (part : Subobject → Part) (g : Graph) (shows : Shows h root x part g) where
+module _ (h : Classes) (root : ClassId) (x : Subobject) (part : Subobject → TypedPart) (g : Graph) (shows : Shows h root x part g) where
   valid : (s : Subobject) → IsInside h x s → IsSubobject h root s
   valid s k = inside_valid h root x s shows.view k
 
@@ -98,7 +98,7 @@ module _ (h : Classes) (root : ClassId) (x : Subobject) (part : Subobject → Pa
   itself = view_in h root x part g shows
 
   -- the parts of the target class are those of the subobjects of that class
-  target_from : (target : ClassId) (p : Part) → IsTargetPart g target.0 (part x) p → (s : Subobject) × IsTargetIn h target x s × (part s ≡ p)
+  target_from : (target : ClassId) (p : TypedPart) → IsTargetPart g target.0 (part x) p → (s : Subobject) × IsTargetIn h target x s × (part s ≡ p)
   target_from target p t =
       let r = ends_inside h root x part g shows any_edge (part x) p t.below x itself refl in
       (r.inner, record { inside = r.there; class = class_is r.inner target r.there (ap g.class (sym r.is) ∙ t.class) }, sym r.is)
@@ -107,14 +107,14 @@ module _ (h : Classes) (root : ClassId) (x : Subobject) (part : Subobject → Pa
   target_to target s t = record { below = inside_leads h root x part g shows x s itself t.inside; class = shows.class s target t.inside t.class }
 
   one_target : (target : ClassId) (s t : Subobject) → IsTargetIn h target x s → IsTargetIn h target x t → part s ≡ part t → s ≡ t
-  one_target target s t a b e = shows.distinct s t target (valid s a.inside) (valid t b.inside) a.class b.class (ap (λ (p : Part). p.at) e)
+  one_target target s t a b e = shows.distinct s t target (valid s a.inside) (valid t b.inside) a.class b.class (ap (λ (p : TypedPart). p.at) e)
 
   reached : (target : ClassId) (s : Subobject) → IsTargetIn h target x s → IsPublicWalk h x s ↔ LeadsByEdges g public_edge (part x) (part s)
   reached target s t = (
     λ w. walk_leads h root x part g shows x s w itself,
     λ l.
         let r = ends_publicly h root x part g shows (part x) (part s) l x itself refl in
-        let same = shows.distinct r.inner s target (valid r.inner r.there) (valid s t.inside) (class_is r.inner target r.there (ap g.class (sym r.is) ∙ shows.class s target t.inside t.class)) t.class (ap (λ (p : Part). p.at) (sym r.is)) in
+        let same = shows.distinct r.inner s target (valid r.inner r.there) (valid s t.inside) (class_is r.inner target r.there (ap g.class (sym r.is) ∙ shows.class s target t.inside t.class)) t.class (ap (λ (p : TypedPart). p.at) (sym r.is)) in
         subst (λ q. IsPublicWalk h x q) same r.walk,
   )
 
@@ -130,12 +130,12 @@ module _ (h : Classes) (root : ClassId) (x : Subobject) (part : Subobject → Pa
   }
 
   -- an answer by the graph is the part of what the rule of the language gives
-  pub record IsAnswered (y : Subobject) (target : ClassId) (given : Option Part) : Type 0 where
+  pub record IsAnswered (y : Subobject) (target : ClassId) (given : Option TypedPart) : Type 0 where
     pub answer : Option Subobject
     pub rule : IsCastIn h target x y answer
     pub is : made part answer ≡ given
 
-  pub answered : (y : Subobject) (d target : ClassId) → IsInside h x y → class_of y ≡ Some d → (given : Option Part) → AnswersCast (parts_below g (part x) (part y).at d.0 target.0) given → IsAnswered y target given
+  pub answered : (y : Subobject) (d target : ClassId) → IsInside h x y → class_of y ≡ Some d → (given : Option TypedPart) → AnswersCast (parts_below g (part x) (part y).at d.0 target.0) given → IsAnswered y target given
   answered y d target there class given rule =
       let t = transfer (subobjects h target x y) (parts_below g (part x) (part y).at d.0 target.0) part (corresponds y d target there class) given rule in
       record { answer = t.answer; rule = rule_is h target x y t.answer t.rule; is = t.is }

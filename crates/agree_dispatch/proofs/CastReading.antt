@@ -35,7 +35,7 @@ use Rattle.abi_slots.specs.Seen.{PlacedTables, Sees, IsPointOf}
 use Rattle.abi_slots.proofs.ImageReading.{info_reads, base_reads}
 use Rattle.abi_slots.proofs.Listings.{ArePrimaries}
 use Rattle.abi_rtti.specs.TypeInfos.{type_info, info_base, offset_flags, place_of_base}
-use Rattle.abi_dyncast.specs.declared.parts.Part.{Part}
+use Rattle.abi_dyncast.specs.declared.parts.TypedPart.{TypedPart}
 use Rattle.abi_dyncast.specs.declared.parts.Edge.{Edge}
 use Rattle.abi_dyncast.specs.Graph.{moved}
 use Rattle.abi_dyncast.specs.Graph.{Graph, graph_of, info_at, has_virtual_flag, is_public, vbase_at, distance_word, edge_by, record_at, base_record}
@@ -77,7 +77,7 @@ infos_some info zero some = absurd (omega arith)
 infos_some info (suc n) some = omega arith
 
 -- the part of a subobject of the complete object
-abbrev pub part_of : Places → View → PlacedTables → ℕ → Subobject → Part
+abbrev pub part_of : Places → View → PlacedTables → ℕ → Subobject → TypedPart
 part_of l x placed start u = record { at = start + l.place x.complete u; info = record_for placed.info (class_of u) }
 
 module _ (h : Classes) (rows : List ClassLayout) (x : View) (placed : PlacedTables) (memory : Store) (start : ℕ) (stands : StandsInMemory h rows x placed memory start) where
@@ -87,7 +87,7 @@ module _ (h : Classes) (rows : List ClassLayout) (x : View) (placed : PlacedTabl
   abbrev g : Graph
   g = graph_of placed.image memory
 
-  abbrev part : Subobject → Part
+  abbrev part : Subobject → TypedPart
   part = part_of (places_of h rows) x placed start
 
   valid : (u : Subobject) → IsInside h x.at_sub u → IsSubobject h x.complete u

@@ -16,7 +16,7 @@ use Rattle.abi_sound.specs.Places.{places_of}
 use Rattle.abi_sound.proofs.PlaceLemmas.{joined}
 use Rattle.abi_slots.specs.Views.{View, place}
 use Rattle.abi_slots.specs.Seen.{PlacedTables}
-use Rattle.abi_dyncast.specs.declared.parts.Part.{Part}
+use Rattle.abi_dyncast.specs.declared.parts.TypedPart.{TypedPart}
 use Rattle.abi_dyncast.specs.Graph.{Graph, LeadsByEdges, any_edge, public_edge, graph_of}
 use Rattle.abi_dyncast.specs.Casts.{IsTrueHint, view_at_address}
 use Rattle.agree_dispatch.specs.CastStanding.{StandsInMemory, IsPlainBase}
@@ -45,7 +45,7 @@ walk_joined h d t _ _ class valid (steps a b c base of listed way rest) =
     let more = walk_joined h d t (base_subobject a base) b class next rest in
     steps (join t a) (join t b) c base (join_class h d t a class valid ∙ of) listed way (subst (λ s. IsPublicWalk h s (join t b)) (sym (join_base h d t a base valid)) more)
 
-module _ (h : Classes) (root : ClassId) (x : Subobject) (part : Subobject → Part) (g : Graph) (shown : Shows h root x part g) where
+module _ (h : Classes) (root : ClassId) (x : Subobject) (part : Subobject → TypedPart) (g : Graph) (shown : Shows h root x part g) where
   -- over a graph that shows the subobjects of a view, in each of which the base lies so many bytes behind the subobject of the target's class
   pub hint_true : (target c : ClassId) (b : Subobject) (n : ℕ) → IsPlainBase h target c b → ((t : Subobject) → IsInside h x t → class_of t ≡ Some target → (part (join t b)).at ≡ (part t).at + n) → IsTrueHint g (part x) c.0 target.0 (pos n)
   hint_true target c b n base apart end is =
@@ -61,7 +61,7 @@ module _ (h : Classes) (root : ClassId) (x : Subobject) (part : Subobject → Pa
         end = part (join t b);
         leads = subst (λ p. LeadsByEdges g public_edge p (part (join t b))) (sym e.is) leads;
         is = record {
-          same_place = apart t e.there class ∙ ap (λ (p : Part). p.at + n) (sym e.is);
+          same_place = apart t e.there class ∙ ap (λ (p : TypedPart). p.at + n) (sym e.is);
           same_class = shown.class (join t b) c there (join_class h target t b class base.valid ∙ base.class);
         };
       }

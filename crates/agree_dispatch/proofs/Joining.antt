@@ -17,7 +17,7 @@ use Rattle.abi_sound.specs.declared.class_layout.ClassLayout.{ClassLayout}
 use Rattle.abi_sound.specs.Places.{places_of}
 use Rattle.abi_slots.specs.Views.{View, seen, place}
 use Rattle.abi_slots.specs.Seen.{PlacedTables}
-use Rattle.abi_dyncast.specs.declared.parts.Part.{Part}
+use Rattle.abi_dyncast.specs.declared.parts.TypedPart.{TypedPart}
 use Rattle.abi_dyncast.specs.Rule.{AnswersCast}
 use Rattle.abi_dyncast.specs.Graph.{Graph, graph_of, word_in, any_edge, LeadsToSome}
 use Rattle.abi_dyncast.specs.Casts.{IsPartAtAddress, parts_below, found_address, CastsTo, CanCast, point_of, complete_view_at, CanWalk, ViewHasPart, TellsWithin, CanTellWithin}
@@ -32,7 +32,7 @@ module _ (h : Classes) (rows : List ClassLayout) (x : View) (placed : PlacedTabl
   abbrev g : Graph
   g = graph_of placed.image memory
 
-  abbrev part : Subobject → Part
+  abbrev part : Subobject → TypedPart
   part = part_of (places_of h rows) x placed start
 
   place_made : (answer : Option Subobject) → found_address (made (part_of (places_of h rows) x placed start) answer) ≡ subobject_address (places_of h rows) x start answer
@@ -61,7 +61,7 @@ module _ (h : Classes) (rows : List ClassLayout) (x : View) (placed : PlacedTabl
 
     view_is : complete_view_at placed.image base (part x.at_sub).at x.class.0 ≡ part x.at_sub
     view_is =
-        let make : ℕ → Part = λ n. record { at = (part x.at_sub).at; info = n } in
+        let make : ℕ → TypedPart = λ n. record { at = (part x.at_sub).at; info = n } in
         let same : make (word_in (placed.image (point_of placed.image base x.class.0 - 8))) ≡ make (record_for placed.info (class_of x.at_sub)) = ap make (ap word_in info_there ∙ sym (ap (record_for placed.info) stands.view.of_class)) in
         same
 

@@ -16,20 +16,20 @@ use Rattle.cxx_subobject.proofs.PathLemmas.{class_there}
 use Rattle.cxx_subobject.proofs.InsideLemmas.{inside_itself, inside_through, inside_valid}
 use Rattle.cxx_subobject.proofs.TreeLemmas.{base_down, base_across}
 use Rattle.cxx_subobject.proofs.TestLemmas.{base_class, class_below}
-use Rattle.abi_dyncast.specs.declared.parts.Part.{Part}
+use Rattle.abi_dyncast.specs.declared.parts.TypedPart.{TypedPart}
 use Rattle.abi_dyncast.specs.declared.parts.Edge.{Edge}
 use Rattle.abi_dyncast.specs.Graph.{Graph, LeadsByEdges, stays, steps, any_edge, public_edge}
 use Rattle.agree_dispatch.proofs.Bases.{inside_base}
 
 -- each subobject in x has a part, and from there edges lead to the parts of its bases; no two subobjects of one class have one place
-pub record Shows (h : Classes) (root : ClassId) (x : Subobject) (part : Subobject → Part) (g : Graph) : Type 0 where
+pub record Shows (h : Classes) (root : ClassId) (x : Subobject) (part : Subobject → TypedPart) (g : Graph) : Type 0 where
   pub view : IsSubobject h root x
   pub distinct : (s t : Subobject) (c : ClassId) → IsSubobject h root s → IsSubobject h root t → class_of s ≡ Some c → class_of t ≡ Some c → (part s).at ≡ (part t).at → s ≡ t
   pub class : (s : Subobject) (c : ClassId) → IsInside h x s → class_of s ≡ Some c → g.class (part s) ≡ c.0
   pub count : (s : Subobject) (c : ClassId) → IsInside h x s → class_of s ≡ Some c → g.count (part s) ≡ length (bases_of h c)
   pub edge : (s : Subobject) (c : ClassId) (i : ℕ) (base : Base ClassId) → IsInside h x s → class_of s ≡ Some c → slice_get (bases_of h c) i ≡ Some base → g.edge (part s) i ≡ record { part = part (base_subobject s base); is_public = base.is_public }
 
-module _ (h : Classes) (root : ClassId) (x : Subobject) (part : Subobject → Part) (g : Graph) (shows : Shows h root x part g) where
+module _ (h : Classes) (root : ClassId) (x : Subobject) (part : Subobject → TypedPart) (g : Graph) (shows : Shows h root x part g) where
   pub class_in : (s : Subobject) → IsInside h x s → (c : ClassId) × (class_of s ≡ Some c)
   class_in s k = class_there h root s (inside_valid h root x s shows.view k)
 
@@ -40,7 +40,7 @@ module _ (h : Classes) (root : ClassId) (x : Subobject) (part : Subobject → Pa
   view_in = inside_itself h root x shows.view
 
   -- an edge that leaves the part of a subobject
-  pub record IsEdge (s : Subobject) (from : Part) (i : ℕ) : Type 0 where
+  pub record IsEdge (s : Subobject) (from : TypedPart) (i : ℕ) : Type 0 where
     pub class : ClassId
     pub of_class : class_of s ≡ Some class
     pub base : Base ClassId
@@ -50,7 +50,7 @@ module _ (h : Classes) (root : ClassId) (x : Subobject) (part : Subobject → Pa
     pub there : IsInside h x (base_subobject s base)
     pub is : g.edge from i ≡ record { part = part (base_subobject s base); is_public = base.is_public }
 
-  pub edge_from : (s : Subobject) (from : Part) (i : ℕ) → IsInside h x s → from ≡ part s → i < g.count from → IsEdge s from i
+  pub edge_from : (s : Subobject) (from : TypedPart) (i : ℕ) → IsInside h x s → from ≡ part s → i < g.count from → IsEdge s from i
   edge_from s from i k e lt =
       let c = class_in s k in
       let count : g.count from ≡ length (bases_of h c.0) = ap g.count e ∙ shows.count s c.0 k c.1 in
@@ -69,13 +69,13 @@ module _ (h : Classes) (root : ClassId) (x : Subobject) (part : Subobject → Pa
       }
 
   -- where a way leads
-  pub record IsEnd (s : Subobject) (end : Part) : Type 0 where
+  pub record IsEnd (s : Subobject) (end : TypedPart) : Type 0 where
     pub inner : Subobject
     pub there : IsInside h x inner
     pub is : end ≡ part inner
     pub below : IsInside h s inner
 
-  pub ends_inside : (allow : Edge → Bool) (from end : Part) → LeadsByEdges g allow from end → (s : Subobject) → IsInside h x s → from ≡ part s → IsEnd s end
+  pub ends_inside : (allow : Edge → Bool) (from end : TypedPart) → LeadsByEdges g allow from end → (s : Subobject) → IsInside h x s → from ≡ part s → IsEnd s end
   ends_inside allow _ _ (stays from) s k e = record { inner = s; there = k; is = e; below = itself_in s k }
   ends_inside allow _ _ (steps from end i lt a rest) s k e =
       let b = edge_from s from i k e lt in
@@ -83,13 +83,13 @@ module _ (h : Classes) (root : ClassId) (x : Subobject) (part : Subobject → Pa
       record { inner = r.inner; there = r.there; is = r.is; below = inside_through h s (base_subobject s b.base) r.inner b.below r.below }
 
   -- where a way of public edges leads
-  pub record IsPublicEnd (s : Subobject) (end : Part) : Type 0 where
+  pub record IsPublicEnd (s : Subobject) (end : TypedPart) : Type 0 where
     pub inner : Subobject
     pub there : IsInside h x inner
     pub is : end ≡ part inner
     pub walk : IsPublicWalk h s inner
 
-  pub ends_publicly : (from end : Part) → LeadsByEdges g public_edge from end → (s : Subobject) → IsInside h x s → from ≡ part s → IsPublicEnd s end
+  pub ends_publicly : (from end : TypedPart) → LeadsByEdges g public_edge from end → (s : Subobject) → IsInside h x s → from ≡ part s → IsPublicEnd s end
   ends_publicly _ _ (stays from) s k e = record { inner = s; there = k; is = e; walk = stays_there s }
   ends_publicly _ _ (steps from end i lt a rest) s k e =
       let b = edge_from s from i k e lt in
@@ -98,7 +98,7 @@ module _ (h : Classes) (root : ClassId) (x : Subobject) (part : Subobject → Pa
       record { inner = r.inner; there = r.there; is = r.is; walk = steps_on s r.inner b.class b.base b.of_class b.listed way r.walk }
 
   -- a step to a base
-  step_to : (allow : Edge → Bool) (s : Subobject) (c : ClassId) (base : Base ClassId) (end : Part) → IsInside h x s → class_of s ≡ Some c → Contains (bases_of h c) base → allow (record { part = part (base_subobject s base); is_public = base.is_public }) ≡ true → LeadsByEdges g allow (part (base_subobject s base)) end → LeadsByEdges g allow (part s) end
+  step_to : (allow : Edge → Bool) (s : Subobject) (c : ClassId) (base : Base ClassId) (end : TypedPart) → IsInside h x s → class_of s ≡ Some c → Contains (bases_of h c) base → allow (record { part = part (base_subobject s base); is_public = base.is_public }) ≡ true → LeadsByEdges g allow (part (base_subobject s base)) end → LeadsByEdges g allow (part s) end
   step_to allow s c base end k class listed way rest =
       let at = place_of (bases_of h c) base listed in
       let is = shows.edge s c at.0 base k class at.1 in

@@ -22,7 +22,7 @@ use Rattle.abi_sound.specs.declared.class_layout.ClassLayout.{ClassLayout}
 use Rattle.abi_sound.specs.Places.{Places, places_of}
 use Rattle.abi_slots.specs.Views.{View, seen, place}
 use Rattle.abi_slots.specs.Seen.{PlacedTables}
-use Rattle.abi_dyncast.specs.declared.parts.Part.{Part}
+use Rattle.abi_dyncast.specs.declared.parts.TypedPart.{TypedPart}
 use Rattle.abi_dyncast.specs.declared.parts.Edge.{Edge}
 use Rattle.abi_dyncast.specs.Graph.{moved}
 use Rattle.abi_dyncast.specs.Graph.{Graph, graph_of, word_in, loaded_or_zero, pointer_at, info_at}
@@ -39,21 +39,21 @@ module _ (h : Classes) (rows : List ClassLayout) (x : View) (placed : PlacedTabl
   abbrev g : Graph
   g = graph_of placed.image memory
 
-  abbrev part : Subobject → Part
+  abbrev part : Subobject → TypedPart
   part = part_of (places_of h rows) x placed start
 
-  abbrev parts : List Part
+  abbrev parts : List TypedPart
   parts = map (part_of (places_of h rows) x placed start) (subobjects_under h x.at_sub)
 
   -- what a part of the list is that of
-  record IsOrigin (p : Part) : Type 0 where
+  record IsOrigin (p : TypedPart) : Type 0 where
     of : Subobject
     there : IsInside h x.at_sub of
     class : ClassId
     of_class : class_of of ≡ Some class
     is : part of ≡ p
 
-  origin : (p : Part) → Contains parts p → IsOrigin p
+  origin : (p : TypedPart) → Contains parts p → IsOrigin p
   origin p has =
       let m = from_map part (subobjects_under h x.at_sub) p (has_from_contains parts p has) in
       let k = parts_inside h x.at_sub m.0 m.1 in
@@ -64,7 +64,7 @@ module _ (h : Classes) (rows : List ClassLayout) (x : View) (placed : PlacedTabl
   listed u k = contains_from_has parts (part u) (has_map part (subobjects_under h x.at_sub) u (inside_parts h stands.keeps x.at_sub u k))
 
   -- the edge from a part of the list
-  edge_at : (p : Part) (i : ℕ) → (o : IsOrigin p) → i < g.count p → IsEdge h x.complete x.at_sub part g (shows h rows x placed memory start stands) o.of p i
+  edge_at : (p : TypedPart) (i : ℕ) → (o : IsOrigin p) → i < g.count p → IsEdge h x.complete x.at_sub part g (shows h rows x placed memory start stands) o.of p i
   edge_at p i o lt = edge_from h x.complete x.at_sub part g (shows h rows x placed memory start stands) o.of p i o.there (sym o.is) lt
 
   are_parts : AreClosedParts g parts
@@ -86,7 +86,7 @@ module _ (h : Classes) (rows : List ClassLayout) (x : View) (placed : PlacedTabl
   are_read = record {
     info = λ p has.
         let o = origin p has in
-        subst (λ (q : Part). IsInfoAt placed.image q.info (info_at placed.image q.info)) o.is (info_stands h rows x placed memory start stands o.of o.class o.there o.of_class);
+        subst (λ (q : TypedPart). IsInfoAt placed.image q.info (info_at placed.image q.info)) o.is (info_stands h rows x placed memory start stands o.of o.class o.there o.of_class);
     steps = λ p i has lt.
         let o = origin p has in
         let e = edge_at p i o lt in
@@ -143,7 +143,7 @@ module _ (h : Classes) (rows : List ClassLayout) (x : View) (placed : PlacedTabl
       let leads : pos (l.place x.complete u) +ℤ top.distance ≡ pos (l.place x.complete x.at_sub) = ap (λ m. pos m +ℤ top.distance) from ∙ (top.leads ∙ ap pos to) in
       let a = low h rows x placed memory start stands u (inside_valid h x.complete x.at_sub u stands.view.valid k) in
       let b = low h rows x placed memory start stands x.at_sub stands.view.valid in
-      let make : ℕ → ℕ → Part = λ i j. record { at = i; info = j } in
+      let make : ℕ → ℕ → TypedPart = λ i j. record { at = i; info = j } in
       let same : make (moved (part u).at (word_in (placed.image (pointer_at memory (part u).at - 16)))) (word_in (placed.image (pointer_at memory (part u).at - 8))) ≡ make (part x.at_sub).at (part x.at_sub).info =
       ap (λ o. make (moved (part u).at (word_in o)) (word_in (placed.image (pointer_at memory (part u).at - 8)))) top_is
       ∙ (ap (λ n. make n (word_in (placed.image (pointer_at memory (part u).at - 8)))) (moved_between start (l.place x.complete u) (l.place x.complete x.at_sub) top.distance leads a b)

@@ -25,7 +25,7 @@ use Rattle.abi_slots.specs.Seen.{PlacedTables}
 use Rattle.abi_vtt.specs.Vtts.{has_vtt}
 use Rattle.byte_memory.specs.Store.{Store}
 use Rattle.byte_code.specs.Images.{word_at}
-use Rattle.abi_dyncast.specs.declared.parts.Part.{Part}
+use Rattle.abi_dyncast.specs.declared.parts.TypedPart.{TypedPart}
 use Rattle.abi_dyncast.specs.Rule.{AnswersCast}
 use Rattle.abi_dyncast.specs.Graph.{graph_of}
 use Rattle.abi_dyncast.specs.Casts.{parts_below, view_at_address, found_address, CastsTo, CanCast, IsTrueHint}
@@ -64,10 +64,10 @@ module _ (w : World) (g : Heap) (memory : Store) (q : ObjectPart) (c d : ClassId
   tables = record { image = word_at w.image; codes = w.numbers; info = w.addresses.info; tables = pointers.stand.group.tables; at = w.addresses.group pointers.stand.number }
 
   -- subobjects of the complete object by their addresses, and those of the view's class in itself
-  abbrev part_at : Subobject → Part
+  abbrev part_at : Subobject → TypedPart
   part_at u = record { at = address (world_classes w) (places_in w) g (part q.object q.owner u); info = record_for w.addresses.info (class_of u) }
 
-  abbrev own_part : Subobject → Part
+  abbrev own_part : Subobject → TypedPart
   own_part = part_of (places_in w) (record { complete = c; at_sub = whole_of c; class = c }) tables (address (world_classes w) (places_in w) g q)
 
   own_is : has_vtt (world_classes w) c ≡ false → (u s : Subobject) → IsSubobject (world_classes w) c s → u ≡ join q.at s → part_at u ≡ own_part s
@@ -134,7 +134,7 @@ module _ (w : World) (g : Heap) (memory : Store) (q : ObjectPart) (c d : ClassId
             let plain = plain_base none r.part e base r.valid (r.class ∙ class) listed in
             let below = base_valid h c e r.part base r.valid (r.class ∙ class) listed in
             let joined : base_subobject u base ≡ join q.at (base_subobject r.part base) = ap (λ (x : Subobject). base_subobject x base) r.joined ∙ join_base h c q.at r.part base r.valid (plain_root h c r.part world.hierarchy none r.valid) plain in
-            ap (λ (p : Part). graph.edge p i) (own_is none u r.part r.valid r.joined)
+            ap (λ (p : TypedPart). graph.edge p i) (own_is none u r.part r.valid r.joined)
             ∙ (sight.edge r.part e i base r.inside (r.class ∙ class) at ∙ λ j. record { part = sym (own_is none (base_subobject u base) (base_subobject r.part base) below joined) j; is_public = base.is_public });
       }
 
@@ -168,7 +168,7 @@ module _ (w : World) (g : Heap) (memory : Store) (q : ObjectPart) (c d : ClassId
         let h = world_classes w in
         let r = as_own y k in
         let few = world.room c (known_class h w.setup.rows g q c laid made) in
-        subst (λ (p : Part). CanCast (word_at w.image) memory w.parts p.at) (sym (own_is none y r.part r.valid r.joined))
+        subst (λ (p : TypedPart). CanCast (word_at w.image) memory w.parts p.at) (sym (own_is none y r.part r.valid r.joined))
         (can_cast h w.setup.rows (record { complete = c; at_sub = whole_of c; class = c }) tables memory (address h (places_in w) g q) (alone_now w g memory q c d world laid made owner dynamic pointers none) w.parts r.part e few r.inside (r.class ∙ class) dynamic_part)
 
     place_made : (answer : Option Subobject) → found_address (part_made part_at answer) ≡ place_of_answer answer
@@ -181,8 +181,8 @@ module _ (w : World) (g : Heap) (memory : Store) (q : ObjectPart) (c d : ClassId
         let graph = graph_of (word_at w.image) memory in
         let r = as_own y k in
         let view = finds_view h w.setup.rows (record { complete = c; at_sub = whole_of c; class = c }) tables memory (address h (places_in w) g q) (alone_now w g memory q c d world laid made owner dynamic pointers none) r.part e r.inside (r.class ∙ class) dynamic_part in
-        let seen = ap (λ (p : Part). view_at_address (word_at w.image) memory p.at) (own_is none y r.part r.valid r.joined) ∙ (view.is ∙ sym (own_is none q.at (whole_of c) (whole [] tt) (sym (join_whole q.at c)))) in
-        let rule = subst (λ (p : Part). AnswersCast (parts_below graph p (part_at y).at e.0 target.0) casts.answer) seen casts.rule in
+        let seen = ap (λ (p : TypedPart). view_at_address (word_at w.image) memory p.at) (own_is none y r.part r.valid r.joined) ∙ (view.is ∙ sym (own_is none q.at (whole_of c) (whole [] tt) (sym (join_whole q.at c)))) in
+        let rule = subst (λ (p : TypedPart). AnswersCast (parts_below graph p (part_at y).at e.0 target.0) casts.answer) seen casts.rule in
         let a = answered h d q.at part_at graph (shows_there none) y e target k class casts.answer rule in
         let found = is_cast h world.hierarchy d q.at in_complete target y a.answer a.rule in
         casts.is ∙ (ap found_address (sym a.is) ∙ (place_made a.answer ∙ ap place_of_answer (sym found)))
@@ -217,8 +217,8 @@ module _ (w : World) (g : Heap) (memory : Store) (q : ObjectPart) (c d : ClassId
         let graph = graph_of (word_at w.image) memory in
         let r = as_own y k in
         let view = finds_view h w.setup.rows (record { complete = c; at_sub = whole_of c; class = c }) tables memory (address h (places_in w) g q) (alone_now w g memory q c d world laid made owner dynamic pointers none) r.part e r.inside (r.class ∙ class) dynamic_part in
-        let seen = ap (λ (p : Part). view_at_address (word_at w.image) memory p.at) (own_is none y r.part r.valid r.joined) ∙ (view.is ∙ sym (own_is none q.at (whole_of c) (whole [] tt) (sym (join_whole q.at c)))) in
-        subst (λ (p : Part). IsTrueHint graph p e.0 target.0 (pos ((places_in w).place target b))) (sym seen)
+        let seen = ap (λ (p : TypedPart). view_at_address (word_at w.image) memory p.at) (own_is none y r.part r.valid r.joined) ∙ (view.is ∙ sym (own_is none q.at (whole_of c) (whole [] tt) (sym (join_whole q.at c)))) in
+        subst (λ (p : TypedPart). IsTrueHint graph p e.0 target.0 (pos ((places_in w).place target b))) (sym seen)
         (hint_true h d q.at part_at graph (shows_there none) target e b ((places_in w).place target b) base
         (λ t there of. to_inner h w.setup.rows g (part q.object q.owner t) target b (other_made h g q c d target t made owner (inside_valid h d q.at t in_complete there) of) base.valid base.plain))
 

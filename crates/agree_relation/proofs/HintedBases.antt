@@ -18,7 +18,7 @@ use Rattle.cxx_search.proofs.Casts.{of_class}
 use Rattle.cxx_search.proofs.Walks.{public_walk}
 use Rattle.path_model.specs.Uses.{is_shared}
 use Rattle.abi_sound.specs.Places.{Places}
-use Rattle.abi_dyncast.specs.declared.parts.Part.{Part}
+use Rattle.abi_dyncast.specs.declared.parts.TypedPart.{TypedPart}
 use Rattle.abi_dyncast.specs.Graph.{Graph}
 use Rattle.abi_dyncast.specs.Casts.{IsTrueHint}
 use Rattle.code_statements.specs.Hints.{sources, plain_place, not_public, several, no_hint, hint_by, hint_of}
@@ -68,7 +68,7 @@ hinted_base h l from to n (s ∷ []) is e = only_base h l from to n s (list_any 
 hinted_base h l from to n (s ∷ t ∷ rest) is e = absurd (no_place (length (filter (is_public_in h (whole_of to)) (s ∷ t ∷ rest))) (list_any is_shared (s ∷ t ∷ rest)) n e)
 
 -- so the hint is true where the place of each such base is
-pub hint_is_true : (g : Graph) (view : Part) (h : Classes) (l : Places) (from to : ClassId)
+pub hint_is_true : (g : Graph) (view : TypedPart) (h : Classes) (l : Places) (from to : ClassId)
     → ((b : Subobject) → IsPlainBase h to from b → IsTrueHint g view from.0 to.0 (pos (l.place to b))) → IsTrueHint g view from.0 to.0 (hint_of h l from to)
 hint_is_true g view h l from to each = by_hint (hint_of h l from to) refl
   where

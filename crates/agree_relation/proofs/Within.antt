@@ -20,7 +20,7 @@ use Rattle.abi_slots.specs.Seen.{PlacedTables}
 use Rattle.abi_vtt.specs.Vtts.{has_vtt}
 use Rattle.byte_memory.specs.Store.{Store}
 use Rattle.byte_code.specs.Images.{word_at}
-use Rattle.abi_dyncast.specs.declared.parts.Part.{Part}
+use Rattle.abi_dyncast.specs.declared.parts.TypedPart.{TypedPart}
 use Rattle.abi_dyncast.specs.Graph.{graph_of, word_in, any_edge}
 use Rattle.abi_dyncast.specs.Casts.{point_of, complete_view_at, ViewHasPart, TellsWithin, CanTellWithin}
 use Rattle.agree_parts.specs.Heaps.{Heap}
@@ -80,7 +80,7 @@ module _ (w : World) (g : Heap) (memory : Store) (q : ObjectPart) (c d : ClassId
       (within_can (world_classes w) w.setup.rows (record { complete = c; at_sub = whole_of c; class = c }) tables memory (address (world_classes w) (places_in w) g q) (alone_now none) w.image.base point w.parts few))
 
   -- in a complete object of its own it finds subobjects of the class
-  abbrev own_part : Subobject → Part
+  abbrev own_part : Subobject → TypedPart
   own_part = part_of (places_in w) (record { complete = c; at_sub = whole_of c; class = c }) tables (address (world_classes w) (places_in w) g q)
 
   pub own_shows : has_vtt (world_classes w) c ≡ false → Shows (world_classes w) c (whole_of c) own_part (graph_of (word_at w.image) memory)
@@ -109,7 +109,7 @@ module _ (w : World) (g : Heap) (memory : Store) (q : ObjectPart) (c d : ClassId
         inner = end.inner;
         valid = inside_valid h c (whole_of c) end.inner (whole [] tt) end.there;
         of_class = of.1 ∙ ap (λ (x : ClassId). Some x) (same_class of.0 e number);
-        there = ap (λ (p : Part). p.at) (sym end.is) ∙ way.is.same_place;
+        there = ap (λ (p : TypedPart). p.at) (sym end.is) ∙ way.is.same_place;
       }
 
   -- another part of the complete object

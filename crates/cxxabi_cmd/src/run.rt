@@ -65,7 +65,10 @@ fn reply_to(alloc: Global, command: &Command, bytes: &[u8]) -> Result<Reply, NoM
 {
     let Some(parts) = parts_of(command, bytes) else {
         let line = line_count(bytes) + 1;
-        return line_alone(alloc, Status::BadInput(undivided_rule(command), line as usize));
+        return line_alone(
+            alloc,
+            Status::BadInput(undivided_rule(command), line as usize),
+        );
     };
     match judge(alloc, parts.source) {
         Ok(accepted) => {

@@ -16,7 +16,7 @@ use Rattle.path_model.specs.Uses.{StatementUse, Reads, Guards, Views, arrow, vie
 use Rattle.path_model.specs.Rules.{refused}
 use Rattle.path_model.specs.Steps.{class_of_part}
 use Rattle.path_model.specs.Effects.{part_out, view_out, class_out, typeid_class, type_out}
-use Rattle.path_heap.specs.declared.state.Part.{Part}
+use Rattle.path_heap.specs.declared.state.NumberedPart.{NumberedPart}
 use Rattle.path_heap.specs.declared.state.Value.TheVariants.{Pointer as PointerCode}
 use Rattle.path_heap.specs.Points.{Points, PointsView, StandsForPart}
 use Rattle.path_heap.specs.Stands.{HasBegun, Means}
@@ -32,7 +32,7 @@ when_ok (Ok t) P Q f a = f a
 when_ok (Err e) P Q f a = tt
 
 -- the class of a part by its number
-pub part_class : (h : Classes) (classes : List ClassId) (code : Part) (p : ObjectPart) → StandsForPart h classes code p → code.class ≡ class_of_part p
+pub part_class : (h : Classes) (classes : List ClassId) (code : NumberedPart) (p : ObjectPart) → StandsForPart h classes code p → code.class ≡ class_of_part p
 part_class h classes code p a =
     sym a.is_class ∙ sym (ap class_or_first (sym (ap (λ (t : ObjectPart). class_of t.at) a.is_part) ∙ (at_good h (sizes_of h) classes a.node a.at).class))
 

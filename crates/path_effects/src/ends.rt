@@ -13,11 +13,11 @@ ghost use Rattle.path_values.specs.Given.{HasTypesOfScope};
 ghost use Rattle.path_effects.specs.Ends.{Ends};
 
 use cxx_program::TypedOperand;
-use path_heap::{Heap, Part, Value, whole_at};
+use path_heap::{Heap, NumberedPart, Value, whole_at};
 use path_values::{Scene, value};
 
 /// The whole of the heap object that `delete` of an operand ends; none where it is null.
-pub fn deleted(heap: &Heap, scene: &Scene, x: &TypedOperand) -> Option<Part>
+pub fn deleted(heap: &Heap, scene: &Scene, x: &TypedOperand) -> Option<NumberedPart>
     ensures { (h : Classes) (e : Scope) (s : Sight) (w : Wanted) (c : ClassId) → SceneStands h heap.now scene.now s → HasTypesOfScope h e s → IsTyped h e (Delete x.now c) → statement_refusal h s w (Delete x.now c) ≡ None → Ends h s.objects.classes result (value_of_operand s x.now) }
 {
     match value(scene, x) {

@@ -18,7 +18,7 @@ ghost use Rattle.path_tables.specs.Worlds.{IsWorld};
 
 use cxx_hierarchy::ClassId;
 use foundation::NoMemory;
-use path_heap::{Heap, Part, Value};
+use path_heap::{Heap, NumberedPart, Value};
 use path_model::Out;
 use path_places::{dump, location};
 use path_tables::World;
@@ -131,7 +131,12 @@ pub fn call_told(alloc: Global, world: &World, heap: &Heap, found: Found) -> Res
 /// What is told where the construction of a part is done.
 ///
 /// Errors: want of memory.
-pub fn built_told(alloc: Global, world: &World, heap: &Heap, part: Part) -> Result<Out, NoMemory>
+pub fn built_told(
+    alloc: Global,
+    world: &World,
+    heap: &Heap,
+    part: NumberedPart,
+) -> Result<Out, NoMemory>
     requires world { IsWorld world.now }
     ensures { IfOk result (λ out. (s : Objects) (p : ObjectPart) → HeapStands world.now.h.now heap.now s → StandsForPart world.now.h.now s.classes part p → out ≡ Built (class_of_part p) (location_of s p)) }
 {
@@ -141,7 +146,12 @@ pub fn built_told(alloc: Global, world: &World, heap: &Heap, part: Part) -> Resu
 /// What is told where the destruction of a part begins.
 ///
 /// Errors: want of memory.
-pub fn ending_told(alloc: Global, world: &World, heap: &Heap, part: Part) -> Result<Out, NoMemory>
+pub fn ending_told(
+    alloc: Global,
+    world: &World,
+    heap: &Heap,
+    part: NumberedPart,
+) -> Result<Out, NoMemory>
     requires world { IsWorld world.now }
     ensures { IfOk result (λ out. (s : Objects) (p : ObjectPart) → HeapStands world.now.h.now heap.now s → StandsForPart world.now.h.now s.classes part p → out ≡ Ending (class_of_part p) (location_of s p)) }
 {

@@ -19,7 +19,7 @@ use Rattle.path_numbers.specs.Nodes.{Node, here}
 use Rattle.path_numbers.specs.Heap.{root_at}
 use Rattle.path_numbers.proofs.Sized.{sizes_are}
 use Rattle.path_numbers.proofs.Heap.{heap_number, at_within}
-use Rattle.path_heap.specs.declared.state.Part.{Part}
+use Rattle.path_heap.specs.declared.state.NumberedPart.{NumberedPart}
 use Rattle.path_heap.specs.Points.{StandsForPart}
 use Rattle.path_bodies.specs.declared.index.BodyIndex.{BodyIndex}
 use Rattle.path_bodies.specs.Places.{IsIndexOf}
@@ -41,7 +41,7 @@ abbrev first_of : Bool → ObjectPart → PartEvent
 first_of true p = Begin p
 first_of false p = Ending p
 
-first_means : (h : Classes) (program : TypedProgram) (classes : List ClassId) (b : Bool) (code : Part) (p : ObjectPart) → StandsForPart h classes code p → IsEvent h program classes (first_event b code) (first_of b p)
+first_means : (h : Classes) (program : TypedProgram) (classes : List ClassId) (b : Bool) (code : NumberedPart) (p : ObjectPart) → StandsForPart h classes code p → IsEvent h program classes (first_event b code) (first_of b p)
 first_means h program classes true code p a = begins_event code p a
 first_means h program classes false code p a = ending_event code p a
 
@@ -128,7 +128,7 @@ is_over h program classes old new e rest stands empty upcoming items =
     over h program classes new rest upcoming items (stands.rest ∙ ap (rest_of_plan (inner_of h (plan_bodies program) old.is_building)) none)
 
 -- a new plan
-whole_stands : (h : Classes) → IsHierarchy h → (classes : List ClassId) (k : ℕ) (whole : Part) → slice_get classes k ≡ Some whole.class → StandsForPart h classes whole (whole_part k whole.class) → total (sizes_of h InFull) classes ≤ 2 ^ 64 → StandsAs h classes whole InFull (whole_part k whole.class)
+whole_stands : (h : Classes) → IsHierarchy h → (classes : List ClassId) (k : ℕ) (whole : NumberedPart) → slice_get classes k ≡ Some whole.class → StandsForPart h classes whole (whole_part k whole.class) → total (sizes_of h InFull) classes ≤ 2 ^ 64 → StandsAs h classes whole InFull (whole_part k whole.class)
 whole_stands h keeps classes k whole listed a few =
     let root = root_at (sizes_of h) classes k whole.class in
     let same : a.node ≡ root = heap_number h (sizes_of h) keeps classes a.node root a.at (record { object = k; class = whole.class; listed = listed; under = here root refl }) a.is_part in
@@ -147,7 +147,7 @@ chosen : (h : Classes) (bodies : Bodies) (b : Bool) (k : ℕ) (c : ClassId) → 
 chosen h bodies true k c = refl
 chosen h bodies false k c = refl
 
-pub new_stands : (h : Classes) → IsHierarchy h → (program : TypedProgram) (classes : List ClassId) (k : ℕ) (whole : Part) (b : Bool) (new : Plan) → slice_get classes k ≡ Some whole.class → StandsForPart h classes whole (whole_part k whole.class) → total (sizes_of h InFull) classes ≤ 2 ^ 64
+pub new_stands : (h : Classes) → IsHierarchy h → (program : TypedProgram) (classes : List ClassId) (k : ℕ) (whole : NumberedPart) (b : Bool) (new : Plan) → slice_get classes k ≡ Some whole.class → StandsForPart h classes whole (whole_part k whole.class) → total (sizes_of h InFull) classes ≤ 2 ^ 64
     → new.is_building ≡ b → new.upcoming ≡ Some (first_event b whole) → reverse new.stack.items ≡ record { part = whole; form = InFullCode; stage = first_stage b } ∷ []
     → PlanStands h program classes new (if b then construction h (plan_bodies program) k whole.class else destruction h (plan_bodies program) k whole.class)
 new_stands h keeps program classes k whole b new listed a few building upcoming stack =

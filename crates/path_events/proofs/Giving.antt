@@ -5,7 +5,7 @@ use Rattle.cxx_hierarchy.specs.Classes.{Classes}
 use Rattle.path_plan.specs.Places.{ObjectPart}
 use Rattle.path_plan.specs.Plans.{Form}
 use Rattle.path_plan.specs.Pieces.{Piece}
-use Rattle.path_heap.specs.declared.state.Part.{Part}
+use Rattle.path_heap.specs.declared.state.NumberedPart.{NumberedPart}
 use Rattle.path_heap.specs.Points.{StandsForPart}
 use Rattle.path_bodies.specs.declared.index.BodyIndex.{BodyIndex}
 use Rattle.path_events.specs.declared.frame.Stage.{Stage}
@@ -14,7 +14,7 @@ use Rattle.path_events.specs.declared.frame.Step.{Step}
 use Rattle.path_events.specs.Frames.{StandsAs}
 use Rattle.path_events.specs.invariants.Steps.{IsStep, left_at, GivesStep, IsSameLeft, MayGive}
 
-pub named : (h : Classes) (classes : List ClassId) (code : Part) (form : Form) (p : ObjectPart) → StandsAs h classes code form p → StandsForPart h classes code p
+pub named : (h : Classes) (classes : List ClassId) (code : NumberedPart) (form : Form) (p : ObjectPart) → StandsAs h classes code form p → StandsForPart h classes code p
 named h classes code form p a = record { node = a.node; at = a.at; is_part = a.is_part; is_number = a.is_number; is_class = a.is_class; owned = a.owned }
 
 pub same_then : (h : Classes) (index : BodyIndex) (b : Bool) (frame : Frame) (s t u : Stage) → IsSameLeft h index b frame s t → IsSameLeft h index b frame t u → IsSameLeft h index b frame s u

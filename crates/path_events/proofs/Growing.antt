@@ -9,7 +9,7 @@ use Rattle.path_plan.specs.Plans.{Bodies, Form}
 use Rattle.path_plan.specs.Pieces.{Pending}
 use Rattle.path_numbers.specs.Sizes.{sizes_of}
 use Rattle.path_numbers.proofs.Heap.{at_more}
-use Rattle.path_heap.specs.declared.state.Part.{Part}
+use Rattle.path_heap.specs.declared.state.NumberedPart.{NumberedPart}
 use Rattle.path_heap.specs.Points.{StandsForPart}
 use Rattle.path_heap.proofs.Growing.{owner_more}
 use Rattle.path_events.specs.declared.plan.Plan.{Plan}
@@ -18,7 +18,7 @@ use Rattle.path_events.specs.declared.frame.Pending.{Pending as Frame}
 use Rattle.path_events.specs.Frames.{StandsAs, frame_form}
 use Rattle.path_events.specs.Plans.{PlanStands, EntriesStand, MeansNext, IsEvent, begins_event, ready_event, init_event, body_event, done_event, ending_event, bases_event, end_event}
 
-pub part_more : (h : Classes) (classes : List ClassId) (c : ClassId) (code : Part) (p : ObjectPart) → StandsForPart h classes code p → StandsForPart h (classes ++ c ∷ []) code p
+pub part_more : (h : Classes) (classes : List ClassId) (c : ClassId) (code : NumberedPart) (p : ObjectPart) → StandsForPart h classes code p → StandsForPart h (classes ++ c ∷ []) code p
 part_more h classes c code p a = record { node = a.node; at = at_more h (sizes_of h) classes c a.node a.at; is_part = a.is_part; is_number = a.is_number; is_class = a.is_class; owned = owner_more h classes c a.node code.whole code.owner a.owned }
 
 event_more : (h : Classes) (program : TypedProgram) (classes : List ClassId) (c : ClassId) (code : PlanEvent) (e : PartEvent) → IsEvent h program classes code e → IsEvent h program (classes ++ c ∷ []) code e
@@ -37,7 +37,7 @@ next_more h program classes c None (e ∷ events) a = absurd a
 next_more h program classes c (Some code) [] a = absurd a
 next_more h program classes c (Some code) (e ∷ events) a = event_more h program classes c code e a
 
-stands_more : (h : Classes) (classes : List ClassId) (c : ClassId) (code : Part) (form : Form) (p : ObjectPart) → StandsAs h classes code form p → StandsAs h (classes ++ c ∷ []) code form p
+stands_more : (h : Classes) (classes : List ClassId) (c : ClassId) (code : NumberedPart) (form : Form) (p : ObjectPart) → StandsAs h classes code form p → StandsAs h (classes ++ c ∷ []) code form p
 stands_more h classes c code form p a = record {
   node = a.node;
   at = at_more h (sizes_of h) classes c a.node a.at;

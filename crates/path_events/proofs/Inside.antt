@@ -25,7 +25,7 @@ use Rattle.path_numbers.proofs.Intervals.{under_lies, size_some}
 use Rattle.path_numbers.proofs.Ways.{under_through}
 use Rattle.path_numbers.proofs.Heap.{at_good}
 use Rattle.path_numbers.proofs.Placed.{shared_number_at}
-use Rattle.path_heap.specs.declared.state.Part.{Part}
+use Rattle.path_heap.specs.declared.state.NumberedPart.{NumberedPart}
 use Rattle.path_events.specs.Frames.{StandsAs}
 
 -- a class that has a base or a member is one of the hierarchy
@@ -56,8 +56,8 @@ inside h keeps classes y z a room kid =
       small = omega arith;
     }
 
-pub base_stands : (h : Classes) → IsHierarchy h → (classes : List ClassId) (code : Part) (form : Form) (p : ObjectPart) → StandsAs h classes code form p → (i : ℕ) (b : Base ClassId) → slice_get (bases_of h code.class) i ≡ Some b → b.is_virtual ≡ false
-    → (kid : Part) → kid.class ≡ b.class → kid.whole ≡ code.whole → kid.owner ≡ code.owner → kid.number ≡ (code.number + base_offset h (sizes_of h) code.class i) % 2 ^ 64 → StandsAs h classes kid AsBase (base_part p b)
+pub base_stands : (h : Classes) → IsHierarchy h → (classes : List ClassId) (code : NumberedPart) (form : Form) (p : ObjectPart) → StandsAs h classes code form p → (i : ℕ) (b : Base ClassId) → slice_get (bases_of h code.class) i ≡ Some b → b.is_virtual ≡ false
+    → (kid : NumberedPart) → kid.class ≡ b.class → kid.whole ≡ code.whole → kid.owner ≡ code.owner → kid.number ≡ (code.number + base_offset h (sizes_of h) code.class i) % 2 ^ 64 → StandsAs h classes kid AsBase (base_part p b)
 base_stands h keeps classes code form p a i b listed direct kid class same_whole same_owner number =
     let y = a.node in
     let at : slice_get (bases_of h y.class) i ≡ Some b = subst (λ (t : ClassId). slice_get (bases_of h t) i ≡ Some b) (sym a.is_class) listed in
@@ -90,8 +90,8 @@ pub shared_told : (h : Classes) → IsHierarchy h → (c v : ClassId) (j : ℕ) 
 shared_told h keeps c v j at None told = absurd (told (order_virtual h keeps c v (has_at (virtual_order h c) j v at)))
 shared_told h keeps c v j at (Some n) told = told.1 ∙ shared_number_at h c v j at
 
-pub shared_stands : (h : Classes) → IsHierarchy h → (classes : List ClassId) (code : Part) (p : ObjectPart) → StandsAs h classes code InFull p → (j : ℕ) (v : ClassId) → slice_get (virtual_order h code.class) j ≡ Some v
-    → (kid : Part) → kid.class ≡ v → kid.whole ≡ code.whole → kid.owner ≡ code.owner → kid.number ≡ (code.number + shared_offset h (sizes_of h) code.class j) % 2 ^ 64 → StandsAs h classes kid AsBase (shared_part p v)
+pub shared_stands : (h : Classes) → IsHierarchy h → (classes : List ClassId) (code : NumberedPart) (p : ObjectPart) → StandsAs h classes code InFull p → (j : ℕ) (v : ClassId) → slice_get (virtual_order h code.class) j ≡ Some v
+    → (kid : NumberedPart) → kid.class ≡ v → kid.whole ≡ code.whole → kid.owner ≡ code.owner → kid.number ≡ (code.number + shared_offset h (sizes_of h) code.class j) % 2 ^ 64 → StandsAs h classes kid AsBase (shared_part p v)
 shared_stands h keeps classes code p a j v listed kid class same_whole same_owner number =
     let y = a.node in
     let at : slice_get (virtual_order h y.class) j ≡ Some v = subst (λ (t : ClassId). slice_get (virtual_order h t) j ≡ Some v) (sym a.is_class) listed in
@@ -119,8 +119,8 @@ shared_stands h keeps classes code p a j v listed kid class same_whole same_owne
       room = r.room;
     }
 
-pub element_stands : (h : Classes) → IsHierarchy h → (classes : List ClassId) (code : Part) (form : Form) (p : ObjectPart) → StandsAs h classes code form p → (m i : ℕ) (d : ClassId) (member : Member ClassId) → slice_get (members_of h code.class) m ≡ Some member → member.ty ≡ Object d → i < elements_of member.count
-    → (kid : Part) → kid.class ≡ d → kid.whole ≡ kid.number → kid.owner ≡ d → kid.number ≡ (code.number + (member_offset h (sizes_of h) code.class m + i * sizes_of h InFull d % 2 ^ 64) % 2 ^ 64) % 2 ^ 64 → StandsAs h classes kid InFull (element p m i d)
+pub element_stands : (h : Classes) → IsHierarchy h → (classes : List ClassId) (code : NumberedPart) (form : Form) (p : ObjectPart) → StandsAs h classes code form p → (m i : ℕ) (d : ClassId) (member : Member ClassId) → slice_get (members_of h code.class) m ≡ Some member → member.ty ≡ Object d → i < elements_of member.count
+    → (kid : NumberedPart) → kid.class ≡ d → kid.whole ≡ kid.number → kid.owner ≡ d → kid.number ≡ (code.number + (member_offset h (sizes_of h) code.class m + i * sizes_of h InFull d % 2 ^ 64) % 2 ^ 64) % 2 ^ 64 → StandsAs h classes kid InFull (element p m i d)
 element_stands h keeps classes code form p a m i d member listed type within kid class same_whole same_owner number =
     let y = a.node in
     let at : slice_get (members_of h y.class) m ≡ Some member = subst (λ (t : ClassId). slice_get (members_of h t) m ≡ Some member) (sym a.is_class) listed in

@@ -10,7 +10,7 @@ use Rattle.path_plan.specs.Pieces.{Piece, Own, shared_pieces, base_pieces, body_
 use Rattle.path_numbers.specs.Sizes.{sizes_of}
 use Rattle.path_numbers.specs.Nodes.{Node}
 use Rattle.path_numbers.specs.Heap.{IsAt}
-use Rattle.path_heap.specs.declared.state.Part.{Part}
+use Rattle.path_heap.specs.declared.state.NumberedPart.{NumberedPart}
 use Rattle.path_heap.specs.Points.{HasOwner}
 use Rattle.path_events.specs.declared.frame.Form.{Form as FormCode}
 use Rattle.path_events.specs.declared.frame.Form.TheVariants.{InFull as InFullCode, AsBase as AsBaseCode}
@@ -23,7 +23,7 @@ frame_form InFullCode = InFull
 frame_form AsBaseCode = AsBase
 
 -- a part as the code names it is the part p, of this form, and all its numbers are below 2 ^ 64
-pub record StandsAs (h : Classes) (classes : List ClassId) (code : Part) (form : Form) (p : ObjectPart) : Type 0 where
+pub record StandsAs (h : Classes) (classes : List ClassId) (code : NumberedPart) (form : Form) (p : ObjectPart) : Type 0 where
   pub node : Node
   pub at : IsAt h (sizes_of h) classes node
   pub is_form : node.form ≡ form

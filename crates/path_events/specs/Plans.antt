@@ -8,7 +8,7 @@ use Rattle.path_plan.specs.Phases.{PartEvent, Begin, Ready, Init, Body, Done, En
 use Rattle.path_plan.specs.Plans.{Bodies, Inner, plan, unplan, InFull}
 use Rattle.path_plan.specs.Pieces.{Pending, rest_of_plan}
 use Rattle.path_model.specs.States.{plan_bodies, member_init, is_init}
-use Rattle.path_heap.specs.declared.state.Part.{Part}
+use Rattle.path_heap.specs.declared.state.NumberedPart.{NumberedPart}
 use Rattle.path_heap.specs.Points.{StandsForPart}
 use Rattle.path_events.specs.declared.plan.PlanEvent.{PlanEvent}
 use Rattle.path_events.specs.declared.plan.PlanEvent.TheVariants.{Begin as BeginCode, Ready as ReadyCode, Init as InitCode, Body as BodyCode, Done as DoneCode, Ending as EndingCode, Bases as BasesCode, End as EndCode}
@@ -20,14 +20,14 @@ use Rattle.path_numbers.specs.Sizes.{sizes_of, total}
 
 -- an event of the code is this one of the model; a member that is set has an initializer
 pub data IsEvent (h : Classes) (program : TypedProgram) (classes : List ClassId) : PlanEvent → PartEvent → Type 0 where
-  begins_event : (code : Part) (p : ObjectPart) → StandsForPart h classes code p → IsEvent h program classes (BeginCode code) (Begin p)
-  ready_event : (code : Part) (p : ObjectPart) → StandsForPart h classes code p → IsEvent h program classes (ReadyCode code) (Ready p)
-  init_event : (code : Part) (m : ℕ) (p : ObjectPart) → StandsForPart h classes code p → is_init (member_init program code.class m) ≡ true → IsEvent h program classes (InitCode code m) (Init p m)
-  body_event : (code : Part) (p : ObjectPart) → StandsForPart h classes code p → IsEvent h program classes (BodyCode code) (Body p)
-  done_event : (code : Part) (p : ObjectPart) → StandsForPart h classes code p → IsEvent h program classes (DoneCode code) (Done p)
-  ending_event : (code : Part) (p : ObjectPart) → StandsForPart h classes code p → IsEvent h program classes (EndingCode code) (Ending p)
-  bases_event : (code : Part) (p : ObjectPart) → StandsForPart h classes code p → IsEvent h program classes (BasesCode code) (Bases p)
-  end_event : (code : Part) (p : ObjectPart) → StandsForPart h classes code p → IsEvent h program classes (EndCode code) (End p)
+  begins_event : (code : NumberedPart) (p : ObjectPart) → StandsForPart h classes code p → IsEvent h program classes (BeginCode code) (Begin p)
+  ready_event : (code : NumberedPart) (p : ObjectPart) → StandsForPart h classes code p → IsEvent h program classes (ReadyCode code) (Ready p)
+  init_event : (code : NumberedPart) (m : ℕ) (p : ObjectPart) → StandsForPart h classes code p → is_init (member_init program code.class m) ≡ true → IsEvent h program classes (InitCode code m) (Init p m)
+  body_event : (code : NumberedPart) (p : ObjectPart) → StandsForPart h classes code p → IsEvent h program classes (BodyCode code) (Body p)
+  done_event : (code : NumberedPart) (p : ObjectPart) → StandsForPart h classes code p → IsEvent h program classes (DoneCode code) (Done p)
+  ending_event : (code : NumberedPart) (p : ObjectPart) → StandsForPart h classes code p → IsEvent h program classes (EndingCode code) (Ending p)
+  bases_event : (code : NumberedPart) (p : ObjectPart) → StandsForPart h classes code p → IsEvent h program classes (BasesCode code) (Bases p)
+  end_event : (code : NumberedPart) (p : ObjectPart) → StandsForPart h classes code p → IsEvent h program classes (EndCode code) (End p)
 
 -- the events of each part
 abbrev pub inner_of : Classes → Bodies → (is_building : Bool) → Inner
@@ -66,7 +66,7 @@ pub record PlanStands (h : Classes) (program : TypedProgram) (classes : List Cla
   pub rest : rest_events events ≡ rest_of_plan (inner_of h (plan_bodies program) code.is_building) frames
 
 -- the plan has all events of the construction of this whole heap object, or else of its destruction
-abbrev pub IsWholePlan : Classes → (whole : Part) → (is_building : Bool) → Plan → Type 0
+abbrev pub IsWholePlan : Classes → (whole : NumberedPart) → (is_building : Bool) → Plan → Type 0
 IsWholePlan h whole is_building code = (program : TypedProgram) (classes : List ClassId) (k : ℕ) →
     slice_get classes k ≡ Some whole.class → StandsForPart h classes whole (whole_part k whole.class) → total (sizes_of h InFull) classes ≤ 2 ^ 64 →
     PlanStands h program classes code (if is_building then construction h (plan_bodies program) k whole.class else destruction h (plan_bodies program) k whole.class)

@@ -1,7 +1,7 @@
 //! Parts that are open, and how far each one is.
 
 use crate::plan::PlanEvent;
-use path_heap::Part;
+use path_heap::NumberedPart;
 
 /// What is built or destroyed: a complete object with its virtual bases, or a base of one without them.
 #[derive(Clone, Copy)]
@@ -29,7 +29,7 @@ pub enum Stage {
 /// A part that is open.
 #[derive(Clone, Copy)]
 pub struct Pending {
-    pub part: Part,
+    pub part: NumberedPart,
     pub form: Form,
     pub stage: Stage,
 }
@@ -42,5 +42,5 @@ pub enum Step {
     /// Its last event.
     Last(PlanEvent),
     /// A part inside it, with the stage behind that.
-    Open(Part, Form, Stage),
+    Open(NumberedPart, Form, Stage),
 }

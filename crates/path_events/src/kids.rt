@@ -13,24 +13,24 @@ ghost use Rattle.path_numbers.specs.Numbers.{AreClassNumbers};
 ghost use Rattle.path_events.specs.Frames.{StandsAs};
 
 use cxx_hierarchy::{Base, ClassId, Hierarchy, Member};
-use path_heap::Part;
+use path_heap::NumberedPart;
 use path_numbers::Numbers;
 
 /// A direct base that is not virtual, by its place in the class head.
 pub(crate) fn base_kid(
     numbers: &Numbers,
     h: &Hierarchy,
-    part: Part,
+    part: NumberedPart,
     i: usize,
     base: &Base<ClassId>,
-) -> Part
+) -> NumberedPart
     requires numbers { AreClassNumbers h.now numbers.now }
     requires listed { slice_get (bases_of h.now part.class) i ≡ Some base.now }
     ensures part { (classes : List ClassId) (form : Form) (p : ObjectPart) → StandsAs h.now classes part form p → base.now.is_virtual ≡ false → StandsAs h.now classes result AsBase (base_part p base.now) }
     ensures class { result.class ≡ base.now.class }
 {
     h.keeps();
-    Part {
+    NumberedPart {
         number: part
             .number
             .wrapping_add(numbers.base_offset(part.class, i) as u64),
@@ -41,7 +41,13 @@ pub(crate) fn base_kid(
 }
 
 /// A virtual base of a complete object, by its place in their order.
-pub(crate) fn shared_kid(numbers: &Numbers, h: &Hierarchy, part: Part, j: usize, v: ClassId) -> Part
+pub(crate) fn shared_kid(
+    numbers: &Numbers,
+    h: &Hierarchy,
+    part: NumberedPart,
+    j: usize,
+    v: ClassId,
+) -> NumberedPart
     requires numbers { AreClassNumbers h.now numbers.now }
     requires listed { slice_get (virtual_order h.now part.class) j ≡ Some v }
     ensures part { (classes : List ClassId) (p : ObjectPart) → StandsAs h.now classes part InFull p → StandsAs h.now classes result AsBase (shared_part p v) }
@@ -50,7 +56,7 @@ pub(crate) fn shared_kid(numbers: &Numbers, h: &Hierarchy, part: Part, j: usize,
     h.keeps();
     // the 0 is never met: `shared_offset` of path_numbers has an offset for each virtual base, as v is by the clause `listed`
     let offset = numbers.shared_offset(part.class, v).unwrap_or(0);
-    Part {
+    NumberedPart {
         number: part.number.wrapping_add(offset as u64),
         class: v,
         whole: part.whole,
@@ -62,12 +68,12 @@ pub(crate) fn shared_kid(numbers: &Numbers, h: &Hierarchy, part: Part, j: usize,
 pub(crate) fn element_kid(
     numbers: &Numbers,
     h: &Hierarchy,
-    part: Part,
+    part: NumberedPart,
     m: usize,
     member: &Member<ClassId>,
     i: u32,
     d: ClassId,
-) -> Part
+) -> NumberedPart
     requires numbers { AreClassNumbers h.now numbers.now }
     requires listed { slice_get (members_of h.now part.class) m ≡ Some member.now }
     requires object { member.now.ty ≡ Object d }
@@ -81,7 +87,7 @@ pub(crate) fn element_kid(
     let number = part
         .number
         .wrapping_add(offset.wrapping_add((i as u64).wrapping_mul(size)));
-    Part {
+    NumberedPart {
         number,
         class: d,
         whole: number,

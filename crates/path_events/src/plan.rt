@@ -17,7 +17,7 @@ use crate::frame::{Form, Pending, Stage, Step};
 use cxx_hierarchy::Hierarchy;
 use foundation::NoMemory;
 use path_bodies::BodyIndex;
-use path_heap::Part;
+use path_heap::NumberedPart;
 use path_numbers::Numbers;
 use std::alloc::Global;
 
@@ -25,25 +25,25 @@ use std::alloc::Global;
 #[derive(Clone, Copy)]
 pub enum PlanEvent {
     /// Its construction begins.
-    Begin(Part),
+    Begin(NumberedPart),
     /// Its bases are constructed.
-    Ready(Part),
+    Ready(NumberedPart),
     /// The initializer of a member, by its number in the class, is next.
-    Init(Part, u32),
+    Init(NumberedPart, u32),
     /// The body of its constructor or destructor is next.
-    Body(Part),
+    Body(NumberedPart),
     /// Its construction is done.
-    Done(Part),
+    Done(NumberedPart),
     /// Its destruction begins.
-    Ending(Part),
+    Ending(NumberedPart),
     /// The destruction of its bases is next.
-    Bases(Part),
+    Bases(NumberedPart),
     /// Its destruction has ended.
-    End(Part),
+    End(NumberedPart),
 }
 
 /// The first event of a part.
-fn first_event(is_building: bool, part: Part) -> PlanEvent
+fn first_event(is_building: bool, part: NumberedPart) -> PlanEvent
     ensures { result ≡ first_event is_building part }
 {
     if is_building {
@@ -102,7 +102,7 @@ impl Plan {
     pub fn new(
         alloc: Global,
         h: &Hierarchy,
-        whole: Part,
+        whole: NumberedPart,
         is_building: bool,
     ) -> Result<Plan, NoMemory>
         ensures { IfOk result (IsWholePlan h.now whole is_building) }

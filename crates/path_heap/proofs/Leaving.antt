@@ -26,7 +26,7 @@ use Rattle.path_model.specs.Steps.{objects_after}
 use Rattle.path_heap.specs.declared.state.Phase.{Phase}
 use Rattle.path_heap.specs.declared.state.Phase.TheVariants.{Ended}
 use Rattle.path_heap.specs.declared.state.ObjectRow.{ObjectRow}
-use Rattle.path_heap.specs.declared.state.Part.{Part}
+use Rattle.path_heap.specs.declared.state.NumberedPart.{NumberedPart}
 use Rattle.path_heap.specs.declared.heap.Heap.{Heap}
 use Rattle.path_heap.specs.Points.{StandsForPart}
 use Rattle.path_heap.specs.Running.{entry_at, ViewsStand}
@@ -40,7 +40,7 @@ use Rattle.path_heap.proofs.Viewing.{points_of, ends_stand}
 use Rattle.path_heap.proofs.Marking.{turned, turned_stands, same_rows, whole_less}
 
 -- the columns but that of objects
-pub leaves_with : (h : Classes) (heap mid new : Heap) (s : Objects) → HeapStands h heap s → (code : Part) (p : ObjectPart) → StandsForPart h s.classes code p → (x : Phase) → IsOnTop s.phases p → Left heap mid code → Marked mid new code x
+pub leaves_with : (h : Classes) (heap mid new : Heap) (s : Objects) → HeapStands h heap s → (code : NumberedPart) (p : ObjectPart) → StandsForPart h s.classes code p → (x : Phase) → IsOnTop s.phases p → Left heap mid code → Marked mid new code x
     → (last : Heap) → last.cells.items ≡ new.cells.items → last.leaves.items ≡ new.leaves.items → last.tops.items ≡ new.tops.items → last.around.items ≡ new.around.items → (closed : ℕ → Bool)
     → ((k : ℕ) (c : ClassId) → slice_get s.classes k ≡ Some c → ObjectStands h (turned s p (phase_of x) (popped s.phases.running p) closed) last.objects.items k c) → length last.objects.items ≡ length heap.objects.items
     → HeapStands h last (turned s p (phase_of x) (popped s.phases.running p) closed)
@@ -58,7 +58,7 @@ leaves_with h heap mid new s stands code p r x top did marked last cells leaves 
     (ap length around)
 
 -- where no object is closed
-pub leaves_plain : (h : Classes) (heap mid new : Heap) (s : Objects) → HeapStands h heap s → (code : Part) (p : ObjectPart) → StandsForPart h s.classes code p → (x : Phase) → IsOnTop s.phases p → Left heap mid code → Marked mid new code x
+pub leaves_plain : (h : Classes) (heap mid new : Heap) (s : Objects) → HeapStands h heap s → (code : NumberedPart) (p : ObjectPart) → StandsForPart h s.classes code p → (x : Phase) → IsOnTop s.phases p → Left heap mid code → Marked mid new code x
     → HeapStands h new (turned s p (phase_of x) (popped s.phases.running p) s.is_closed)
 leaves_plain h heap mid new s stands code p r x top did marked =
     leaves_with h heap mid new s stands code p r x top did marked new refl refl refl refl s.is_closed
@@ -69,7 +69,7 @@ abbrev closing : Objects → ObjectPart → ℕ → Bool
 closing s p k = if same_part p (whole_part k (object_class s k)) then true else s.is_closed k
 
 -- the part is the whole of its object exactly where it has the number of the root
-whole_test : (h : Classes) (heap : Heap) (s : Objects) → HeapStands h heap s → (code : Part) (p : ObjectPart) → StandsForPart h s.classes code p → (k : ℕ) (c : ClassId) → slice_get s.classes k ≡ Some c
+whole_test : (h : Classes) (heap : Heap) (s : Objects) → HeapStands h heap s → (code : NumberedPart) (p : ObjectPart) → StandsForPart h s.classes code p → (k : ℕ) (c : ClassId) → slice_get s.classes k ≡ Some c
     → nat_eq (root_at (sizes_of h) s.classes k c).number code.number ≡ same_part p (whole_part k c)
 whole_test h heap s stands code p r k c at = split (same_part p (whole_part k c)) (λ b. nat_eq (root_at (sizes_of h) s.classes k c).number code.number ≡ b)
     (λ e. let same = heap_number h (sizes_of h) stands.hierarchy s.classes (root_at (sizes_of h) s.classes k c) r.node (root_is_at h s.classes k c at) r.at (sym (r.is_part ∙ part_same p (whole_part k c) e)) in
@@ -84,7 +84,7 @@ class_there : (s : Objects) (k : ℕ) (c : ClassId) → slice_get s.classes k �
 class_there s k c at = ap class_or_first at
 
 -- the rows behind the end of a part
-closed_rows : (h : Classes) (heap : Heap) (s : Objects) → HeapStands h heap s → (code : Part) (p : ObjectPart) → StandsForPart h s.classes code p → (j : ℕ) → p.object ≡ j → (row : ObjectRow) → row ≡ row_at heap j
+closed_rows : (h : Classes) (heap : Heap) (s : Objects) → HeapStands h heap s → (code : NumberedPart) (p : ObjectPart) → StandsForPart h s.classes code p → (j : ℕ) → p.object ≡ j → (row : ObjectRow) → row ≡ row_at heap j
     → (running : ℕ → List Step → List Subobject) (k : ℕ) (c : ClassId) → slice_get s.classes k ≡ Some c
     → ObjectStands h (turned s p (phase_of Ended) running (closing s p)) (if nat_eq row.start code.number then slice_set heap.objects.items j (closed_row row) else heap.objects.items) k c
 closed_rows h heap s stands code p r j object row row_is running k c at =
@@ -127,7 +127,7 @@ closed_size rows true k row = length-set rows k row
 closed_size rows false k row = refl
 
 -- the row that is read behind the other changes is that from before
-pub ends_heap : (h : Classes) (heap mid new last : Heap) (program : TypedProgram) (s : Objects) → HeapStands h heap s → (code : Part) (p : ObjectPart) → StandsForPart h s.classes code p → IsOnTop s.phases p → Left heap mid code → Marked mid new code Ended → Closed new last code
+pub ends_heap : (h : Classes) (heap mid new last : Heap) (program : TypedProgram) (s : Objects) → HeapStands h heap s → (code : NumberedPart) (p : ObjectPart) → StandsForPart h s.classes code p → IsOnTop s.phases p → Left heap mid code → Marked mid new code Ended → Closed new last code
     → HeapStands h last (objects_after program s (End p))
 ends_heap h heap mid new last program s stands code p r top did marked shut =
     let rows : new.objects.items ≡ heap.objects.items = marked.objects ∙ did.objects in

@@ -21,7 +21,7 @@ use Rattle.path_model.specs.Values.{Objects}
 use Rattle.path_heap.specs.declared.state.Phase.{Phase}
 use Rattle.path_heap.specs.declared.state.Cell.{Cell}
 use Rattle.path_heap.specs.declared.state.ObjectRow.{ObjectRow}
-use Rattle.path_heap.specs.declared.state.Part.{Part}
+use Rattle.path_heap.specs.declared.state.NumberedPart.{NumberedPart}
 use Rattle.path_heap.specs.declared.heap.Heap.{Heap}
 use Rattle.path_heap.specs.Points.{StandsForPart, HasOwner}
 use Rattle.path_heap.specs.Running.{entry_at, ViewsStand}
@@ -35,7 +35,7 @@ abbrev pub turned : Objects → ObjectPart → Plan.Phase → (ℕ → List Step
 turned s p x running closed = record { classes = s.classes; is_closed = closed; phases = record { phase = put s.phases.phase p x; running = running }; leaf = s.leaf }
 
 -- the column of cells
-cell_marked : (h : Classes) (heap : Heap) (s : Objects) → HeapStands h heap s → (code : Part) (p : ObjectPart) → StandsForPart h s.classes code p → (x : Phase) (running : ℕ → List Step → List Subobject) (closed : ℕ → Bool) (z : Node) → IsAt h (sizes_of h) s.classes z
+cell_marked : (h : Classes) (heap : Heap) (s : Objects) → HeapStands h heap s → (code : NumberedPart) (p : ObjectPart) → StandsForPart h s.classes code p → (x : Phase) (running : ℕ → List Step → List Subobject) (closed : ℕ → Bool) (z : Node) → IsAt h (sizes_of h) s.classes z
     → CellStands h (turned s p (phase_of x) running closed) (slice_set heap.cells.items code.number (marked_cell x code)) z
 cell_marked h heap s stands code p r x running closed z z_at =
     let old = stands.cells r.node r.at in
@@ -66,7 +66,7 @@ cell_marked h heap s stands code p r x running closed z z_at =
     (decide_number code.number z.number)
 
 -- what holds of the columns of objects and views makes the whole
-pub turned_stands : (h : Classes) (heap new : Heap) (s : Objects) → HeapStands h heap s → (code : Part) (p : ObjectPart) → StandsForPart h s.classes code p → (x : Phase) (running : ℕ → List Step → List Subobject) (closed : ℕ → Bool)
+pub turned_stands : (h : Classes) (heap new : Heap) (s : Objects) → HeapStands h heap s → (code : NumberedPart) (p : ObjectPart) → StandsForPart h s.classes code p → (x : Phase) (running : ℕ → List Step → List Subobject) (closed : ℕ → Bool)
     → new.cells.items ≡ slice_set heap.cells.items code.number (marked_cell x code) → new.leaves.items ≡ heap.leaves.items
     → ((k : ℕ) (c : ClassId) → slice_get s.classes k ≡ Some c → ObjectStands h (turned s p (phase_of x) running closed) new.objects.items k c) → length new.objects.items ≡ length heap.objects.items
     → ViewsStand h s.classes (record { phase = put s.phases.phase p (phase_of x); running = running }) new.tops.items new.around.items → length new.tops.items ≡ length heap.tops.items → length new.around.items ≡ length heap.around.items
@@ -93,16 +93,16 @@ pub same_rows : (h : Classes) (heap : Heap) (s : Objects) → HeapStands h heap 
     → ObjectStands h (turned s p x running s.is_closed) rows k c
 same_rows h heap s stands p x running rows e k c at = let o = stands.objects k c at in record { row = o.row; listed = ap (λ t. slice_get t k) e ∙ o.listed; class = o.class; start = o.start; closed = o.closed }
 
-pub whole_less : (h : Classes) (heap : Heap) (s : Objects) → HeapStands h heap s → (code : Part) (p : ObjectPart) → StandsForPart h s.classes code p → code.whole < length heap.tops.items
+pub whole_less : (h : Classes) (heap : Heap) (s : Objects) → HeapStands h heap s → (code : NumberedPart) (p : ObjectPart) → StandsForPart h s.classes code p → code.whole < length heap.tops.items
 whole_less h heap s stands code p r =
     subst (λ n. code.whole < n) (sym stands.counts.tops) (subst (λ n. n < total (sizes_of h InFull) s.classes) r.owned.is_number (at_less h stands.hierarchy s.classes r.owned.node r.owned.at))
 
-number_less : (h : Classes) (heap : Heap) (s : Objects) → HeapStands h heap s → (code : Part) (p : ObjectPart) → StandsForPart h s.classes code p → code.number < length heap.around.items
+number_less : (h : Classes) (heap : Heap) (s : Objects) → HeapStands h heap s → (code : NumberedPart) (p : ObjectPart) → StandsForPart h s.classes code p → code.number < length heap.around.items
 number_less h heap s stands code p r =
     subst (λ n. code.number < n) (sym stands.counts.around) (subst (λ n. n < total (sizes_of h InFull) s.classes) r.is_number (at_less h stands.hierarchy s.classes r.node r.at))
 
 -- a constructor or destructor begins
-pub enters : (h : Classes) (heap mid new : Heap) (s : Objects) → HeapStands h heap s → (code : Part) (p : ObjectPart) → StandsForPart h s.classes code p → (x : Phase) → is_running (s.phases.phase p) ≡ false → is_running (phase_of x) ≡ true
+pub enters : (h : Classes) (heap mid new : Heap) (s : Objects) → HeapStands h heap s → (code : NumberedPart) (p : ObjectPart) → StandsForPart h s.classes code p → (x : Phase) → is_running (s.phases.phase p) ≡ false → is_running (phase_of x) ≡ true
     → Entered heap mid code → Marked mid new code x → HeapStands h new (turned s p (phase_of x) (with_pushed_part s.phases.running p) s.is_closed)
 enters h heap mid new s stands code p r x idle runs did marked =
     let tops = marked.tops ∙ did.tops in
@@ -118,7 +118,7 @@ enters h heap mid new s stands code p r x idle runs did marked =
     (ap length around ∙ length-set heap.around.items code.number (entry_at heap.tops.items code.whole))
 
 -- it goes on
-pub stays : (h : Classes) (heap new : Heap) (s : Objects) → HeapStands h heap s → (code : Part) (p : ObjectPart) → StandsForPart h s.classes code p → (x : Phase) → is_running (phase_of x) ≡ true
+pub stays : (h : Classes) (heap new : Heap) (s : Objects) → HeapStands h heap s → (code : NumberedPart) (p : ObjectPart) → StandsForPart h s.classes code p → (x : Phase) → is_running (phase_of x) ≡ true
     → Marked heap new code x → HeapStands h new (turned s p (phase_of x) s.phases.running s.is_closed)
 stays h heap new s stands code p r x runs marked =
     turned_stands h heap new s stands code p r x s.phases.running s.is_closed marked.cells marked.leaves

@@ -19,7 +19,7 @@ use Rattle.path_numbers.proofs.Intervals.{size_some}
 use Rattle.path_numbers.proofs.Sized.{sizes_are}
 use Rattle.path_numbers.proofs.Heap.{at_within, heap_part, heap_number}
 use Rattle.path_numbers.proofs.Wholes.{one_whole}
-use Rattle.path_heap.specs.declared.state.Part.{Part}
+use Rattle.path_heap.specs.declared.state.NumberedPart.{NumberedPart}
 use Rattle.path_heap.specs.Points.{Points, StandsForPart}
 use Rattle.path_heap.specs.Running.{entry_in, entry_at, AreRunning, StackStands, ViewsStand}
 use Rattle.path_heap.proofs.Sets.{set_same, set_other}
@@ -81,16 +81,16 @@ stack_rest h keeps classes around number p q (Some n) (x ∷ xs) top s =
     subst (λ t. StackStands h classes around p.object p.owner (entry_at around t) xs) (sym s.0.is_number ∙ (ap (λ (t : Node). t.number) same ∙ q.is_number)) s.1
 
 -- the complete object of the part, or another one
-abbrev Case : (h : Classes) (classes : List ClassId) (code : Part) (p : ObjectPart) → StandsForPart h classes code p → Node → Type 0
+abbrev Case : (h : Classes) (classes : List ClassId) (code : NumberedPart) (p : ObjectPart) → StandsForPart h classes code p → Node → Type 0
 Case h classes code p r w = (r.owned.node ≡ w) ⊎ ((Owns p w.part.object w.part.owner → ⊥) × (code.whole ≡ w.number → ⊥))
 
-object_of : (h : Classes) (classes : List ClassId) (code : Part) (p : ObjectPart) → (r : StandsForPart h classes code p) → r.owned.node.part.object ≡ p.object
+object_of : (h : Classes) (classes : List ClassId) (code : NumberedPart) (p : ObjectPart) → (r : StandsForPart h classes code p) → r.owned.node.part.object ≡ p.object
 object_of h classes code p r = r.owned.same_object ∙ ap (λ (t : ObjectPart). t.object) r.is_part
 
-owner_of : (h : Classes) (classes : List ClassId) (code : Part) (p : ObjectPart) → (r : StandsForPart h classes code p) → r.owned.node.part.owner ≡ p.owner
+owner_of : (h : Classes) (classes : List ClassId) (code : NumberedPart) (p : ObjectPart) → (r : StandsForPart h classes code p) → r.owned.node.part.owner ≡ p.owner
 owner_of h classes code p r = r.owned.same_owner ∙ ap (λ (t : ObjectPart). t.owner) r.is_part
 
-whole_cases : (h : Classes) → IsHierarchy h → (classes : List ClassId) (code : Part) (p : ObjectPart) → (r : StandsForPart h classes code p) → (w : Node) → IsAt h (sizes_of h) classes w → w.form ≡ InFull → Case h classes code p r w
+whole_cases : (h : Classes) → IsHierarchy h → (classes : List ClassId) (code : NumberedPart) (p : ObjectPart) → (r : StandsForPart h classes code p) → (w : Node) → IsAt h (sizes_of h) classes w → w.form ≡ InFull → Case h classes code p r w
 whole_cases h keeps classes code p r w at full = ⊎_elim
     (λ own. inl (one_whole h (sizes_of h) keeps classes r.owned.node w r.owned.at at r.owned.full full (object_of h classes code p r ∙ own.object) (owner_of h classes code p r ∙ own.owner)))
     (λ other. inr (
@@ -100,7 +100,7 @@ whole_cases h keeps classes code p r w at full = ⊎_elim
     ))
     (owner_cases p w.part.object w.part.owner)
 
-pub points_of : (h : Classes) (classes : List ClassId) (code : Part) (p : ObjectPart) → StandsForPart h classes code p → Points h classes code.number p
+pub points_of : (h : Classes) (classes : List ClassId) (code : NumberedPart) (p : ObjectPart) → StandsForPart h classes code p → Points h classes code.number p
 points_of h classes code p r = record { node = r.node; at = r.at; is_part = r.is_part; is_number = r.is_number }
 
 pub at_less : (h : Classes) → IsHierarchy h → (classes : List ClassId) (y : Node) → IsAt h (sizes_of h) classes y → y.number < total (sizes_of h InFull) classes
@@ -113,7 +113,7 @@ at_less h keeps classes y at =
     less n size all b a = omega arith
 
 -- the old stack of the part's complete object
-own_stack : (h : Classes) (classes : List ClassId) (phases : Phases) (tops around : List (Option ℕ)) → ViewsStand h classes phases tops around → (code : Part) (p : ObjectPart) → StandsForPart h classes code p
+own_stack : (h : Classes) (classes : List ClassId) (phases : Phases) (tops around : List (Option ℕ)) → ViewsStand h classes phases tops around → (code : NumberedPart) (p : ObjectPart) → StandsForPart h classes code p
     → StackStands h classes around p.object p.owner (entry_at tops code.whole) (phases.running p.object p.owner)
 own_stack h classes phases tops around v code p r =
     subst (λ n. StackStands h classes around p.object p.owner (entry_at tops n) (phases.running p.object p.owner)) r.owned.is_number
@@ -122,14 +122,14 @@ own_stack h classes phases tops around v code p r =
     (v.stacks r.owned.node r.owned.at r.owned.full)))
 
 -- the new one, as one of the node
-own_back : (h : Classes) (classes : List ClassId) (running : ℕ → List Step → List Subobject) (tops around : List (Option ℕ)) (code : Part) (p : ObjectPart) → (r : StandsForPart h classes code p)
+own_back : (h : Classes) (classes : List ClassId) (running : ℕ → List Step → List Subobject) (tops around : List (Option ℕ)) (code : NumberedPart) (p : ObjectPart) → (r : StandsForPart h classes code p)
     → StackStands h classes around p.object p.owner (entry_at tops code.whole) (running p.object p.owner) → StackStands h classes around r.owned.node.part.object r.owned.node.part.owner (entry_at tops r.owned.node.number) (running r.owned.node.part.object r.owned.node.part.owner)
 own_back h classes running tops around code p r s =
     subst (λ k. StackStands h classes around k r.owned.node.part.owner (entry_at tops r.owned.node.number) (running k r.owned.node.part.owner)) (sym (object_of h classes code p r))
     (subst (λ o. StackStands h classes around p.object o (entry_at tops r.owned.node.number) (running p.object o)) (sym (owner_of h classes code p r))
     (subst (λ n. StackStands h classes around p.object p.owner (entry_at tops n) (running p.object p.owner)) (sym r.owned.is_number) s))
 
-pub begins_stand : (h : Classes) → IsHierarchy h → (classes : List ClassId) (phases : Phases) (tops around : List (Option ℕ)) → ViewsStand h classes phases tops around → (code : Part) (p : ObjectPart) → StandsForPart h classes code p
+pub begins_stand : (h : Classes) → IsHierarchy h → (classes : List ClassId) (phases : Phases) (tops around : List (Option ℕ)) → ViewsStand h classes phases tops around → (code : NumberedPart) (p : ObjectPart) → StandsForPart h classes code p
     → is_running (phases.phase p) ≡ false → (v : Phase) → is_running v ≡ true → code.whole < length tops → code.number < length around
     → ViewsStand h classes (record { phase = put phases.phase p v; running = with_pushed_part phases.running p }) (slice_set tops code.whole (Some code.number)) (slice_set around code.number (entry_at tops code.whole))
 begins_stand h keeps classes phases tops around views code p r idle v runs lt less = record {
@@ -159,7 +159,7 @@ begins_stand h keeps classes phases tops around views code p r idle v runs lt le
       (whole_cases h keeps classes code p r w at full);
 }
 
-pub ends_stand : (h : Classes) → IsHierarchy h → (classes : List ClassId) (phases : Phases) (tops around : List (Option ℕ)) → ViewsStand h classes phases tops around → (code : Part) (p : ObjectPart) → StandsForPart h classes code p
+pub ends_stand : (h : Classes) → IsHierarchy h → (classes : List ClassId) (phases : Phases) (tops around : List (Option ℕ)) → ViewsStand h classes phases tops around → (code : NumberedPart) (p : ObjectPart) → StandsForPart h classes code p
     → IsOnTop phases p → (v : Phase) → code.whole < length tops
     → ViewsStand h classes (record { phase = put phases.phase p v; running = popped phases.running p }) (slice_set tops code.whole (entry_at around code.number)) around
 ends_stand h keeps classes phases tops around views code p r top v lt = record {

@@ -10,7 +10,7 @@ use Rattle.path_numbers.specs.Sizes.{sizes_of}
 use Rattle.path_numbers.specs.Nodes.{Node, LeafAt}
 use Rattle.path_numbers.specs.Heap.{IsAt}
 use Rattle.path_model.specs.Values.{Leaf}
-use Rattle.path_heap.specs.declared.state.Part.{Part}
+use Rattle.path_heap.specs.declared.state.NumberedPart.{NumberedPart}
 
 -- n is the number of the part p
 pub record Points (h : Classes) (classes : List ClassId) (n : ℕ) (p : ObjectPart) : Type 0 where
@@ -55,7 +55,7 @@ pub record HasOwner (h : Classes) (classes : List ClassId) (y : Node) (whole : �
   pub itself : y.form ≡ InFull → node ≡ y
 
 -- a part as the code names it is the part p
-pub record StandsForPart (h : Classes) (classes : List ClassId) (code : Part) (p : ObjectPart) : Type 0 where
+pub record StandsForPart (h : Classes) (classes : List ClassId) (code : NumberedPart) (p : ObjectPart) : Type 0 where
   pub node : Node
   pub at : IsAt h (sizes_of h) classes node
   pub is_part : node.part ≡ p

@@ -15,12 +15,12 @@ ghost use Rattle.path_heap.specs.invariants.Columns.{Marked, Entered, Left, Clos
 
 use crate::heap::Heap;
 use crate::lists::set;
-use crate::state::{Cell, ObjectRow, Part, Phase};
+use crate::state::{Cell, NumberedPart, ObjectRow, Phase};
 use foundation::NoMemory;
 
 impl Heap {
     /// The part is in this phase.
-    fn mark(&mut self, part: Part, phase: Phase) -> Result<(), NoMemory>
+    fn mark(&mut self, part: NumberedPart, phase: Phase) -> Result<(), NoMemory>
         ensures { IfOk result (λ _. Marked self.old self.new part phase) }
     {
         let cell = Cell {
@@ -34,7 +34,7 @@ impl Heap {
     }
 
     /// The part is the innermost one that runs in its complete object.
-    fn enter(&mut self, part: Part) -> Result<(), NoMemory>
+    fn enter(&mut self, part: NumberedPart) -> Result<(), NoMemory>
         ensures { IfOk result (λ _. Entered self.old self.new part) }
     {
         let outer = self.top(part.whole);
@@ -51,7 +51,7 @@ impl Heap {
     }
 
     /// The one around it is.
-    fn leave(&mut self, part: Part) -> Result<(), NoMemory>
+    fn leave(&mut self, part: NumberedPart) -> Result<(), NoMemory>
         ensures { IfOk result (λ _. Left self.old self.new part) }
     {
         let outer = self.outer(part.number);
@@ -60,7 +60,7 @@ impl Heap {
     }
 
     /// Closes the heap object of a part, where the part is its whole.
-    fn close(&mut self, part: Part)
+    fn close(&mut self, part: NumberedPart)
         ensures { Closed self.old self.new part }
     {
         let object = self.object_at(part.number);
@@ -78,7 +78,7 @@ impl Heap {
     /// Construction begins.
     ///
     /// Errors: want of memory. The heap is then of no use.
-    pub fn begin(&mut self, part: Part) -> Result<(), NoMemory>
+    pub fn begin(&mut self, part: NumberedPart) -> Result<(), NoMemory>
         ensures { IfOk result (λ _. (h : Classes) (program : TypedProgram) (s : Objects) (p : ObjectPart) → HeapStands h self.old s → StandsForPart h s.classes part p → Fits h s.phases (Begin p) → HeapStands h self.new (objects_after program s (Begin p))) }
     {
         self.enter(part)?;
@@ -89,7 +89,7 @@ impl Heap {
     /// The bases are constructed.
     ///
     /// Errors: want of memory. The heap is then of no use.
-    pub fn ready(&mut self, part: Part) -> Result<(), NoMemory>
+    pub fn ready(&mut self, part: NumberedPart) -> Result<(), NoMemory>
         ensures { IfOk result (λ _. (h : Classes) (program : TypedProgram) (s : Objects) (p : ObjectPart) → HeapStands h self.old s → StandsForPart h s.classes part p → Fits h s.phases (Ready p) → HeapStands h self.new (objects_after program s (Ready p))) }
     {
         self.mark(part, Phase::ReadyBuilding)?;
@@ -99,7 +99,7 @@ impl Heap {
     /// Construction is done.
     ///
     /// Errors: want of memory. The heap is then of no use.
-    pub fn done(&mut self, part: Part) -> Result<(), NoMemory>
+    pub fn done(&mut self, part: NumberedPart) -> Result<(), NoMemory>
         ensures { IfOk result (λ _. (h : Classes) (program : TypedProgram) (s : Objects) (p : ObjectPart) → HeapStands h self.old s → StandsForPart h s.classes part p → Fits h s.phases (Done p) → HeapStands h self.new (objects_after program s (Done p))) }
     {
         self.leave(part)?;
@@ -110,7 +110,7 @@ impl Heap {
     /// Destruction begins.
     ///
     /// Errors: want of memory. The heap is then of no use.
-    pub fn ending(&mut self, part: Part) -> Result<(), NoMemory>
+    pub fn ending(&mut self, part: NumberedPart) -> Result<(), NoMemory>
         ensures { IfOk result (λ _. (h : Classes) (program : TypedProgram) (s : Objects) (p : ObjectPart) → HeapStands h self.old s → StandsForPart h s.classes part p → Fits h s.phases (Ending p) → HeapStands h self.new (objects_after program s (Ending p))) }
     {
         self.enter(part)?;
@@ -121,7 +121,7 @@ impl Heap {
     /// The bases are next to be destroyed.
     ///
     /// Errors: want of memory. The heap is then of no use.
-    pub fn bases(&mut self, part: Part) -> Result<(), NoMemory>
+    pub fn bases(&mut self, part: NumberedPart) -> Result<(), NoMemory>
         ensures { IfOk result (λ _. (h : Classes) (program : TypedProgram) (s : Objects) (p : ObjectPart) → HeapStands h self.old s → StandsForPart h s.classes part p → Fits h s.phases (Bases p) → HeapStands h self.new (objects_after program s (Bases p))) }
     {
         self.mark(part, Phase::EndingBases)?;
@@ -131,7 +131,7 @@ impl Heap {
     /// Destruction has ended; with the whole of a heap object the object is closed.
     ///
     /// Errors: want of memory. The heap is then of no use.
-    pub fn end(&mut self, part: Part) -> Result<(), NoMemory>
+    pub fn end(&mut self, part: NumberedPart) -> Result<(), NoMemory>
         ensures { IfOk result (λ _. (h : Classes) (program : TypedProgram) (s : Objects) (p : ObjectPart) → HeapStands h self.old s → StandsForPart h s.classes part p → Fits h s.phases (End p) → HeapStands h self.new (objects_after program s (End p))) }
     {
         self.leave(part)?;

@@ -26,4 +26,4 @@ pub mod ways;
 
 pub use crate::heap::Heap;
 pub use crate::parts::whole_at;
-pub use crate::state::{Cell, ObjectRow, Part, Phase, Value};
+pub use crate::state::{Cell, NumberedPart, ObjectRow, Phase, Value};

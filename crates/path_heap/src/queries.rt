@@ -17,7 +17,7 @@ ghost use Rattle.path_heap.specs.invariants.Cuts.{IsObjectAt};
 
 use crate::heap::Heap;
 use crate::lists::object_at;
-use crate::state::{Cell, ObjectRow, Part, Phase};
+use crate::state::{Cell, NumberedPart, ObjectRow, Phase};
 use cxx_hierarchy::ClassId;
 
 impl Heap {
@@ -122,11 +122,11 @@ impl Heap {
     }
 
     /// A part that has begun, with what its events name.
-    pub fn part(&self, n: u64) -> Part
+    pub fn part(&self, n: u64) -> NumberedPart
         ensures { (h : Classes) (s : Objects) (p : ObjectPart) → HeapStands h self.now s → Points h s.classes n p → HasBegun s p → StandsForPart h s.classes result p }
     {
         let cell = self.cell(n);
-        Part {
+        NumberedPart {
             number: n,
             class: cell.class,
             whole: cell.whole,

@@ -32,7 +32,7 @@ pub enum Value {
 
 /// A part by its number, with its class, and the number and the class of the complete object that it belongs to.
 #[derive(Clone, Copy)]
-pub struct Part {
+pub struct NumberedPart {
     pub number: u64,
     pub class: ClassId,
     pub whole: u64,

@@ -29,7 +29,7 @@ use Rattle.path_model.specs.Outs.{class_or_first, location_of}
 use Rattle.path_model.specs.Effects.{leaf_set}
 use Rattle.path_model.specs.Steps.{init_value, class_of_part, objects_after}
 use Rattle.path_model.proofs.TypedEvents.{inits_of}
-use Rattle.path_heap.specs.declared.state.Part.{Part}
+use Rattle.path_heap.specs.declared.state.NumberedPart.{NumberedPart}
 use Rattle.path_heap.specs.declared.state.Value.{Value as ValueCode}
 use Rattle.path_heap.specs.declared.heap.Heap.{Heap}
 use Rattle.path_heap.specs.Points.{Points, PointsLeaf, StandsForPart}
@@ -49,38 +49,38 @@ use Rattle.path_machine.proofs.Tellings.{nothing_more}
 -- the events that the heap does
 
 -- what a call of the heap does
-abbrev pub HeapDoes : Classes → TypedProgram → (old new : Heap) → Part → (ObjectPart → PartEvent) → Type 0
+abbrev pub HeapDoes : Classes → TypedProgram → (old new : Heap) → NumberedPart → (ObjectPart → PartEvent) → Type 0
 HeapDoes h program old new part event = (s : Objects) (p : ObjectPart) → HeapStands h old s → StandsForPart h s.classes part p → Fits h s.phases (event p) → HeapStands h new (objects_after program s (event p))
 
-pub begins : (h : Classes) (program : TypedProgram) (machine : Machine) (heap : Heap) (part : Part) → HeapDoes h program machine.heap heap part Begin → Happens h program machine (heaped machine heap) (BeginCode part)
+pub begins : (h : Classes) (program : TypedProgram) (machine : Machine) (heap : Heap) (part : NumberedPart) → HeapDoes h program machine.heap heap part Begin → Happens h program machine (heaped machine heap) (BeginCode part)
 begins h program machine heap part does sizes s _ a (begins_event _ p named) fits = machine_heaped h sizes program machine heap s (objects_after program s.objects (Begin p)) a (does s.objects p a.heap_stands named fits) refl
 
-pub readies : (h : Classes) (program : TypedProgram) (machine : Machine) (heap : Heap) (part : Part) → HeapDoes h program machine.heap heap part Ready → Happens h program machine (heaped machine heap) (ReadyCode part)
+pub readies : (h : Classes) (program : TypedProgram) (machine : Machine) (heap : Heap) (part : NumberedPart) → HeapDoes h program machine.heap heap part Ready → Happens h program machine (heaped machine heap) (ReadyCode part)
 readies h program machine heap part does sizes s _ a (ready_event _ p named) fits = machine_heaped h sizes program machine heap s (objects_after program s.objects (Ready p)) a (does s.objects p a.heap_stands named fits) refl
 
-pub completes : (h : Classes) (program : TypedProgram) (machine : Machine) (heap : Heap) (part : Part) → HeapDoes h program machine.heap heap part Done → Happens h program machine (heaped machine heap) (DoneCode part)
+pub completes : (h : Classes) (program : TypedProgram) (machine : Machine) (heap : Heap) (part : NumberedPart) → HeapDoes h program machine.heap heap part Done → Happens h program machine (heaped machine heap) (DoneCode part)
 completes h program machine heap part does sizes s _ a (done_event _ p named) fits = machine_heaped h sizes program machine heap s (objects_after program s.objects (Done p)) a (does s.objects p a.heap_stands named fits) refl
 
-pub starts_ending : (h : Classes) (program : TypedProgram) (machine : Machine) (heap : Heap) (part : Part) → HeapDoes h program machine.heap heap part Ending → Happens h program machine (heaped machine heap) (EndingCode part)
+pub starts_ending : (h : Classes) (program : TypedProgram) (machine : Machine) (heap : Heap) (part : NumberedPart) → HeapDoes h program machine.heap heap part Ending → Happens h program machine (heaped machine heap) (EndingCode part)
 starts_ending h program machine heap part does sizes s _ a (ending_event _ p named) fits = machine_heaped h sizes program machine heap s (objects_after program s.objects (Ending p)) a (does s.objects p a.heap_stands named fits) refl
 
-pub ends_bases : (h : Classes) (program : TypedProgram) (machine : Machine) (heap : Heap) (part : Part) → HeapDoes h program machine.heap heap part Bases → Happens h program machine (heaped machine heap) (BasesCode part)
+pub ends_bases : (h : Classes) (program : TypedProgram) (machine : Machine) (heap : Heap) (part : NumberedPart) → HeapDoes h program machine.heap heap part Bases → Happens h program machine (heaped machine heap) (BasesCode part)
 ends_bases h program machine heap part does sizes s _ a (bases_event _ p named) fits = machine_heaped h sizes program machine heap s (objects_after program s.objects (Bases p)) a (does s.objects p a.heap_stands named fits) refl
 
-pub finishes : (h : Classes) (program : TypedProgram) (machine : Machine) (heap : Heap) (part : Part) → HeapDoes h program machine.heap heap part End → Happens h program machine (heaped machine heap) (EndCode part)
+pub finishes : (h : Classes) (program : TypedProgram) (machine : Machine) (heap : Heap) (part : NumberedPart) → HeapDoes h program machine.heap heap part End → Happens h program machine (heaped machine heap) (EndCode part)
 finishes h program machine heap part does sizes s _ a (end_event _ p named) fits = machine_heaped h sizes program machine heap s (objects_after program s.objects (End p)) a (does s.objects p a.heap_stands named fits) refl
 
 -- a body changes no object before it is entered
-pub waits : (h : Classes) (program : TypedProgram) (machine : Machine) (part : Part) → Happens h program machine machine (BodyCode part)
+pub waits : (h : Classes) (program : TypedProgram) (machine : Machine) (part : NumberedPart) → Happens h program machine machine (BodyCode part)
 waits h program machine part sizes s _ a (body_event _ p named) fits = machine_heaped h sizes program machine machine.heap s (objects_after program s.objects (Body p)) a a.heap_stands refl
 
 -- initializers
 
 -- the class of a part that the code names
-pub named_class : (h : Classes) (classes : List ClassId) (code : Part) (p : ObjectPart) → StandsForPart h classes code p → class_of p.at ≡ Some code.class
+pub named_class : (h : Classes) (classes : List ClassId) (code : NumberedPart) (p : ObjectPart) → StandsForPart h classes code p → class_of p.at ≡ Some code.class
 named_class h classes code p a = ap (λ (q : ObjectPart). class_of q.at) (sym a.is_part) ∙ ((at_good h (sizes_of h) classes a.node a.at).class ∙ ap (λ (c : ClassId). Some c) a.is_class)
 
-pub part_class : (h : Classes) (classes : List ClassId) (code : Part) (p : ObjectPart) → StandsForPart h classes code p → class_of_part p ≡ code.class
+pub part_class : (h : Classes) (classes : List ClassId) (code : NumberedPart) (p : ObjectPart) → StandsForPart h classes code p → class_of_part p ≡ code.class
 part_class h classes code p a = ap class_or_first (named_class h classes code p a)
 
 -- a member that is a number or a pointer, and no array
@@ -115,7 +115,7 @@ half_begun EndingBases half raw = cc
 half_begun Ended half raw = cc
 
 -- an initializer sets its leaf
-pub sets_member : (h : Classes) (program : TypedProgram) → IsTypedProgram h program → (machine : Machine) (heap : Heap) (part : Part) (m k : ℕ) (value : ValueCode)
+pub sets_member : (h : Classes) (program : TypedProgram) → IsTypedProgram h program → (machine : Machine) (heap : Heap) (part : NumberedPart) (m k : ℕ) (value : ValueCode)
     → ((sizes : ClassId → ℕ) (s : ProgramState) → MachineStands h sizes program machine s → Means h s.objects.classes value (init_value (member_init program part.class m)))
     → ((s : Objects) (p : ObjectPart) (c : ClassId) (t : ValueType ClassId) → HeapStands h machine.heap s → Points h s.classes part.number p → HasBegun s p → class_of p.at ≡ Some c → IsElement h c m 0 (ValueField t) → PointsLeaf h s.classes k (leaf p m 0))
     → ((s : Objects) (l : Leaf) (v : Value) → HeapStands h machine.heap s → PointsLeaf h s.classes k l → Means h s.classes value v → HeapStands h heap (leaf_set s l v))
@@ -128,35 +128,35 @@ sets_member h program typed machine heap part m k value means points stores size
 
 -- what events tell
 
-pub tells_built : (h : Classes) (program : TypedProgram) (machine : Machine) (part : Part) (before after : Telling) (out : Out)
+pub tells_built : (h : Classes) (program : TypedProgram) (machine : Machine) (part : NumberedPart) (before after : Telling) (out : Out)
     → ((s : Objects) (p : ObjectPart) → HeapStands h machine.heap s → StandsForPart h s.classes part p → out ≡ BuiltOut (class_of_part p) (location_of s p)) → TellsMore before after (out ∷ []) → TellsEvent h program machine (DoneCode part) before after
 tells_built h program machine part before after out is e sizes s _ a (done_event _ p named) = subst (λ (x : Out). TellsMore before after (x ∷ [])) (is s.objects p a.heap_stands named) e
 
-pub tells_ending : (h : Classes) (program : TypedProgram) (machine : Machine) (part : Part) (before after : Telling) (out : Out)
+pub tells_ending : (h : Classes) (program : TypedProgram) (machine : Machine) (part : NumberedPart) (before after : Telling) (out : Out)
     → ((s : Objects) (p : ObjectPart) → HeapStands h machine.heap s → StandsForPart h s.classes part p → out ≡ EndingOut (class_of_part p) (location_of s p)) → TellsMore before after (out ∷ []) → TellsEvent h program machine (EndingCode part) before after
 tells_ending h program machine part before after out is e sizes s _ a (ending_event _ p named) = subst (λ (x : Out). TellsMore before after (x ∷ [])) (is s.objects p a.heap_stands named) e
 
-begin_silent : (h : Classes) (program : TypedProgram) (machine : Machine) (part : Part) (before : Telling) → TellsEvent h program machine (BeginCode part) before before
+begin_silent : (h : Classes) (program : TypedProgram) (machine : Machine) (part : NumberedPart) (before : Telling) → TellsEvent h program machine (BeginCode part) before before
 begin_silent h program machine part before sizes s _ a (begins_event _ p named) = nothing_more before
 
-ready_silent : (h : Classes) (program : TypedProgram) (machine : Machine) (part : Part) (before : Telling) → TellsEvent h program machine (ReadyCode part) before before
+ready_silent : (h : Classes) (program : TypedProgram) (machine : Machine) (part : NumberedPart) (before : Telling) → TellsEvent h program machine (ReadyCode part) before before
 ready_silent h program machine part before sizes s _ a (ready_event _ p named) = nothing_more before
 
-init_silent : (h : Classes) (program : TypedProgram) (machine : Machine) (part : Part) (m : ℕ) (before : Telling) → TellsEvent h program machine (InitCode part m) before before
+init_silent : (h : Classes) (program : TypedProgram) (machine : Machine) (part : NumberedPart) (m : ℕ) (before : Telling) → TellsEvent h program machine (InitCode part m) before before
 init_silent h program machine part m before sizes s _ a (init_event _ _ p named some) = nothing_more before
 
-body_silent : (h : Classes) (program : TypedProgram) (machine : Machine) (part : Part) (before : Telling) → TellsEvent h program machine (BodyCode part) before before
+body_silent : (h : Classes) (program : TypedProgram) (machine : Machine) (part : NumberedPart) (before : Telling) → TellsEvent h program machine (BodyCode part) before before
 body_silent h program machine part before sizes s _ a (body_event _ p named) = nothing_more before
 
-bases_silent : (h : Classes) (program : TypedProgram) (machine : Machine) (part : Part) (before : Telling) → TellsEvent h program machine (BasesCode part) before before
+bases_silent : (h : Classes) (program : TypedProgram) (machine : Machine) (part : NumberedPart) (before : Telling) → TellsEvent h program machine (BasesCode part) before before
 bases_silent h program machine part before sizes s _ a (bases_event _ p named) = nothing_more before
 
-end_silent : (h : Classes) (program : TypedProgram) (machine : Machine) (part : Part) (before : Telling) → TellsEvent h program machine (EndCode part) before before
+end_silent : (h : Classes) (program : TypedProgram) (machine : Machine) (part : NumberedPart) (before : Telling) → TellsEvent h program machine (EndCode part) before before
 end_silent h program machine part before sizes s _ a (end_event _ p named) = nothing_more before
 
 -- the other events tell nothing
 abbrev pub IsSilent : PlanEvent → Type 0
-IsSilent code = ((part : Part) × code ≡ BeginCode part) ⊎ (((part : Part) × code ≡ ReadyCode part) ⊎ (((part : Part) × (m : ℕ) × code ≡ InitCode part m) ⊎ (((part : Part) × code ≡ BodyCode part) ⊎ (((part : Part) × code ≡ BasesCode part) ⊎ ((part : Part) × code ≡ EndCode part)))))
+IsSilent code = ((part : NumberedPart) × code ≡ BeginCode part) ⊎ (((part : NumberedPart) × code ≡ ReadyCode part) ⊎ (((part : NumberedPart) × (m : ℕ) × code ≡ InitCode part m) ⊎ (((part : NumberedPart) × code ≡ BodyCode part) ⊎ (((part : NumberedPart) × code ≡ BasesCode part) ⊎ ((part : NumberedPart) × code ≡ EndCode part)))))
 
 pub silent : (h : Classes) (program : TypedProgram) (machine : Machine) (before : Telling) (code : PlanEvent) → IsSilent code → TellsEvent h program machine code before before
 silent h program machine before code is =

@@ -19,7 +19,7 @@ use Rattle.path_model.specs.Values.{Value, Unset, Number, Null, Pointer}
 use Rattle.path_model.specs.States.{Target, RunningBody, Frame, InBody, ProgramState, owned_body, with_frames}
 use Rattle.path_model.specs.Effects.{Next, Goes, runs, body_entered, function_entered, called_at, deleted, object_ended}
 use Rattle.path_model.specs.Runs.{opened_for, opened_by, open_count, most_open, most_heap_bytes, heap_total, size_in_heap, delete_demand, asks_object, call_limit, limit_of, move_by}
-use Rattle.path_heap.specs.declared.state.Part.{Part}
+use Rattle.path_heap.specs.declared.state.NumberedPart.{NumberedPart}
 use Rattle.path_heap.specs.Points.{StandsForPart}
 use Rattle.path_effects.specs.Ends.{EndsObject}
 use Rattle.path_machine.specs.declared.machine.Machine.{Machine}
@@ -109,7 +109,7 @@ pub null_deleted : (h : Classes) (sizes : ClassId → ℕ) (program : TypedProgr
 null_deleted h sizes program machine outs at on v is stands =
     subst (λ x. MoveAgrees h sizes program (move_by (deleted h program on x) (limit_of sizes at (delete_demand x))) machine outs outs GoesCode) (sym is) (refl, stands, nothing_more outs)
 
-pub object_deleted : (h : Classes) (sizes : ClassId → ℕ) (program : TypedProgram) (machine : Machine) (before after : Telling) (at on : ProgramState) (v : Value) (code : Part) (taken : NextCode) → EndsObject h on.objects.classes code v
+pub object_deleted : (h : Classes) (sizes : ClassId → ℕ) (program : TypedProgram) (machine : Machine) (before after : Telling) (at on : ProgramState) (v : Value) (code : NumberedPart) (taken : NextCode) → EndsObject h on.objects.classes code v
     → ((k : ℕ) (c : ClassId) → slice_get on.objects.classes k ≡ Some c → StandsForPart h on.objects.classes code (whole_part k c) → MoveAgrees h sizes program (move_by (object_ended h program on k (Some c)) (call_limit at)) machine before after taken)
     → MoveAgrees h sizes program (move_by (deleted h program on v) (limit_of sizes at (delete_demand v))) machine before after taken
 object_deleted h sizes program machine before after at on v code taken a moves =

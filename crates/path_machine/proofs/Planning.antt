@@ -11,7 +11,7 @@ use Rattle.path_plan.specs.Whole.{whole_part, construction, destruction}
 use Rattle.path_plan.proofs.Last.{EndsLast, construction_ends, destruction_ends}
 use Rattle.path_numbers.specs.Sizes.{sizes_of}
 use Rattle.path_numbers.proofs.Heap.{at_good}
-use Rattle.path_heap.specs.declared.state.Part.{Part}
+use Rattle.path_heap.specs.declared.state.NumberedPart.{NumberedPart}
 use Rattle.path_heap.specs.Points.{StandsForPart}
 use Rattle.path_machine.specs.Frames.{IsLastOf}
 
@@ -31,7 +31,7 @@ plan_last h bodies k c true = last_of (whole_part k c) (construction h bodies k 
 plan_last h bodies k c false = last_of (whole_part k c) (destruction h bodies k c) (destruction_ends h bodies k c)
 
 -- the whole of an object of a class is of this class
-pub whole_class : (h : Classes) (classes : List ClassId) (k : ℕ) (c : ClassId) (code : Part) → StandsForPart h classes code (whole_part k c) → code.class ≡ c
+pub whole_class : (h : Classes) (classes : List ClassId) (k : ℕ) (c : ClassId) (code : NumberedPart) → StandsForPart h classes code (whole_part k c) → code.class ≡ c
 whole_class h classes k c code a =
     let of_node : Some c ≡ Some a.node.class = ap (λ (p : ObjectPart). class_of p.at) (sym a.is_part) ∙ (at_good h (sizes_of h) classes a.node a.at).class in
     let same : c ≡ a.node.class = cc in

@@ -25,7 +25,7 @@ use Rattle.path_model.specs.Outs.{class_or_first, object_class}
 use Rattle.path_model.specs.Effects.{given_to_target}
 use Rattle.path_model.specs.Steps.{body_owner, body_opened, class_of_part, objects_after, event_outs, plan_left, resumed, event_step}
 use Rattle.path_model.proofs.TypedBodies.{body_typed}
-use Rattle.path_heap.specs.declared.state.Part.{Part}
+use Rattle.path_heap.specs.declared.state.NumberedPart.{NumberedPart}
 use Rattle.path_heap.specs.declared.state.Value.TheVariants.{Unset as UnsetCode, Pointer as PointerCode}
 use Rattle.path_heap.specs.Points.{StandsForPart}
 use Rattle.path_heap.specs.Stands.{HasBegun, Means}
@@ -97,13 +97,13 @@ owner_named : (b d : Bool) (p : ObjectPart) (c : ClassId) → b ≡ d → class_
 owner_named b d p c kind class = ap (λ (x : Bool). body_owner x c) kind ∙ ap (λ (x : ClassId). body_owner d x) (sym class)
 
 -- a body that is not there
-pub enters_none : (h : Classes) (program : TypedProgram) (machine : Machine) (frame : PlanFrame) (part : Part) (next : NextCode) → None ≡ owned_body program (body_owner frame.is_building part.class) → Enters h program machine machine frame part next
+pub enters_none : (h : Classes) (program : TypedProgram) (machine : Machine) (frame : PlanFrame) (part : NumberedPart) (next : NextCode) → None ≡ owned_body program (body_owner frame.is_building part.class) → Enters h program machine machine frame part next
 enters_none h program machine frame part next none sizes s f p events below outs before after t named e =
     let owner = owner_named frame.is_building f.is_building p part.class t.plan_stands.same_kind (part_class h s.objects.classes part p named) in
     subst (λ (o : Option TypedBody). StepAgrees h sizes program (body_opened s p outs (plan_left f events ∷ below) o) machine before after next) (none ∙ ap (owned_body program) owner) tt
 
 -- a body that begins: what the frame of the code has
-pub record IsStart (code : BodyFrame) (body : TypedBody) (part : Part) (depth : ℕ) : Type 0 where
+pub record IsStart (code : BodyFrame) (body : TypedBody) (part : NumberedPart) (depth : ℕ) : Type 0 where
   pub owner : code.owner ≡ body.owner
   pub this : code.this ≡ PointerCode part.number
   pub locals : code.locals.items ≡ replicate (length body.locals) UnsetCode
@@ -112,7 +112,7 @@ pub record IsStart (code : BodyFrame) (body : TypedBody) (part : Part) (depth : 
   pub target : target_of_code code.target ≡ None
   pub counted : code.depth ≡ depth
 
-start_stands : (h : Classes) (classes : List ClassId) (code : BodyFrame) (body : TypedBody) (part : Part) (depth : ℕ) (p : ObjectPart) → IsStart code body part depth → StandsForPart h classes part p → BodyStands h classes code (entered_body body (Pointer p) [] ToSame None)
+start_stands : (h : Classes) (classes : List ClassId) (code : BodyFrame) (body : TypedBody) (part : NumberedPart) (depth : ℕ) (p : ObjectPart) → IsStart code body part depth → StandsForPart h classes part p → BodyStands h classes code (entered_body body (Pointer p) [] ToSame None)
 start_stands h classes code body part depth p is named = record {
   same_owner = is.owner;
   this_means = subst (λ x. Means h classes x (Pointer p)) (sym is.this) (points_of h classes part p named);
@@ -123,7 +123,7 @@ start_stands h classes code body part depth p is named = record {
   plain_main = λ main. refl;
 }
 
-pub enters_body : (h : Classes) (program : TypedProgram) → IsTypedProgram h program → (old mid new : Machine) (frame : PlanFrame) (part : Part) (plan : PlanCode) (code : BodyFrame) (body : TypedBody) → Some body ≡ owned_body program (body_owner frame.is_building part.class)
+pub enters_body : (h : Classes) (program : TypedProgram) → IsTypedProgram h program → (old mid new : Machine) (frame : PlanFrame) (part : NumberedPart) (plan : PlanCode) (code : BodyFrame) (body : TypedBody) → Some body ≡ owned_body program (body_owner frame.is_building part.class)
     → IsStart code body part frame.depth → Advances h program frame.plan plan → Pushes h program old mid (PlanFrameCode (with_plan frame plan)) → Pushes h program mid new (BodyFrameCode code) → Enters h program old new frame part GoesCode
 enters_body h program typed old mid new frame part plan code body found is advances pushes enters sizes s f p events below outs before after t named e =
     let owner = owner_named frame.is_building f.is_building p part.class t.plan_stands.same_kind (part_class h s.objects.classes part p named) in
@@ -137,23 +137,23 @@ enters_body h program typed old mid new frame part plan code body found is advan
 
 -- the plan goes on
 
-record IsBodyOf (h : Classes) (classes : List ClassId) (part : Part) (e : PartEvent) : Type 0 where
+record IsBodyOf (h : Classes) (classes : List ClassId) (part : NumberedPart) (e : PartEvent) : Type 0 where
   p : ObjectPart
   named : StandsForPart h classes part p
   is : e ≡ Body p
 
-body_named : (h : Classes) (program : TypedProgram) (classes : List ClassId) (code : PlanEvent) (part : Part) (e : PartEvent) → body_part code ≡ Some part → IsEvent h program classes code e → IsBodyOf h classes part e
+body_named : (h : Classes) (program : TypedProgram) (classes : List ClassId) (code : PlanEvent) (part : NumberedPart) (e : PartEvent) → body_part code ≡ Some part → IsEvent h program classes code e → IsBodyOf h classes part e
 body_named h program classes _ part _ is (begins_event code p a) = absurd (cc)
 body_named h program classes _ part _ is (ready_event code p a) = absurd (cc)
 body_named h program classes _ part _ is (init_event code m p a some) = absurd (cc)
-body_named h program classes _ part _ is (body_event code p a) = let same : code ≡ part = cc in record { p = p; named = subst (λ (x : Part). StandsForPart h classes x p) same a; is = refl }
+body_named h program classes _ part _ is (body_event code p a) = let same : code ≡ part = cc in record { p = p; named = subst (λ (x : NumberedPart). StandsForPart h classes x p) same a; is = refl }
 body_named h program classes _ part _ is (done_event code p a) = absurd (cc)
 body_named h program classes _ part _ is (ending_event code p a) = absurd (cc)
 body_named h program classes _ part _ is (bases_event code p a) = absurd (cc)
 body_named h program classes _ part _ is (end_event code p a) = absurd (cc)
 
 -- with a body
-pub resumes_body : (h : Classes) (program : TypedProgram) (old new : Machine) (frame : PlanFrame) (code : PlanEvent) (part : Part) (next : NextCode) → body_part code ≡ Some part → Upcoming h program frame.plan (Some code) → Enters h program old new frame part next → Resumes h program old new frame next
+pub resumes_body : (h : Classes) (program : TypedProgram) (old new : Machine) (frame : PlanFrame) (code : PlanEvent) (part : NumberedPart) (next : NextCode) → body_part code ≡ Some part → Upcoming h program frame.plan (Some code) → Enters h program old new frame part next → Resumes h program old new frame next
 resumes_body h program old new frame code part next is means enters sizes s f [] below outs before after t can e = absurd (means s.objects.classes [] t.plan_stands.plan_stands)
 resumes_body h program old new frame code part next is means enters sizes s f (x ∷ events) below outs before after t can e =
     let b = body_named h program s.objects.classes code part x is (means s.objects.classes (x ∷ events) t.plan_stands.plan_stands) in

@@ -22,7 +22,7 @@ use cxx_program::{TypedCall, TypedOperand};
 use foundation::NoMemory;
 use path_effects::deleted;
 use path_events::Plan;
-use path_heap::{Part, whole_at};
+use path_heap::{NumberedPart, whole_at};
 use path_tables::Answers;
 
 /// How many calls, `new` and `delete` may be open.
@@ -148,7 +148,7 @@ fn end_object(
     machine: &mut Machine,
     frame: BodyBox,
     next: usize,
-    whole: Part,
+    whole: NumberedPart,
 ) -> Result<Next, NoMemory>
     requires setup { IsSetup run.now }
     ensures { IfOk result (EndsWhole run.now machine.old machine.new frame next whole) }
@@ -169,7 +169,7 @@ fn end_object(
 fn begin_plan(
     run: &Run,
     machine: &mut Machine,
-    whole: Part,
+    whole: NumberedPart,
     is_building: bool,
     target: Option<Target>,
     depth: u32,

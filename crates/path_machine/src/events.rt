@@ -22,11 +22,11 @@ use cxx_program::{Conversion, Owner, TypedBody};
 use foundation::NoMemory;
 use path_effects::{built_told, ending_told};
 use path_events::PlanEvent;
-use path_heap::{Part, Value};
+use path_heap::{NumberedPart, Value};
 use path_values::{constant, convert};
 
 /// The value that the initializer of a member gives (ISO C++03 12.6.2).
-fn initial_value(run: &Run, machine: &Machine, part: Part, member: u32) -> Value
+fn initial_value(run: &Run, machine: &Machine, part: NumberedPart, member: u32) -> Value
     requires setup { IsSetup run.now }
     ensures { (sizes : ClassId → ℕ) (s : ProgramState) → MachineStands run.now.world.h.now sizes run.now.program.now machine.now s → Means run.now.world.h.now s.objects.classes result (init_value (member_init run.now.program.now part.class member)) }
 {
@@ -44,7 +44,12 @@ fn initial_value(run: &Run, machine: &Machine, part: Part, member: u32) -> Value
 /// An initializer sets a member of a part (ISO C++03 12.6.2).
 ///
 /// Errors: want of memory.
-fn initialize(run: &Run, machine: &mut Machine, part: Part, member: u32) -> Result<(), NoMemory>
+fn initialize(
+    run: &Run,
+    machine: &mut Machine,
+    part: NumberedPart,
+    member: u32,
+) -> Result<(), NoMemory>
     requires setup { IsSetup run.now }
     ensures { IfOk result (λ _. Happens run.now.world.h.now run.now.program.now machine.old machine.new (InitCode part member)) }
 {
@@ -110,7 +115,7 @@ fn tell_event(
 }
 
 /// Whose body a plan runs.
-fn body_owner(is_building: bool, part: Part) -> Owner
+fn body_owner(is_building: bool, part: NumberedPart) -> Owner
     ensures { result ≡ body_owner is_building part.class }
 {
     if is_building {
@@ -121,7 +126,7 @@ fn body_owner(is_building: bool, part: Part) -> Owner
 }
 
 /// The part whose body is next, if one is.
-fn body_part(event: PlanEvent) -> Option<Part>
+fn body_part(event: PlanEvent) -> Option<NumberedPart>
     ensures { result ≡ body_part event }
 {
     match event {
@@ -152,7 +157,7 @@ fn enter_body(
     run: &Run,
     machine: &mut Machine,
     frame: PlanBox,
-    part: Part,
+    part: NumberedPart,
 ) -> Result<Next, NoMemory>
     requires setup { IsSetup run.now }
     ensures { IfOk result (Enters run.now.world.h.now run.now.program.now machine.old machine.new frame part) }

@@ -6,7 +6,7 @@ ghost use Rattle.path_machine.specs.Frames.{depth_in};
 use crate::boxes::{BodyBox, PlanBox};
 use cxx_program::{Conversion, Owner, Variable};
 use path_events::Plan;
-use path_heap::{Part, Value};
+use path_heap::{NumberedPart, Value};
 
 /// The variable of the frame below that takes a result, and how the result becomes one of its type.
 #[derive(Drop)]
@@ -34,7 +34,7 @@ pub struct BodyFrame {
 #[derive(Drop)]
 pub struct PlanFrame {
     /// The whole of the object.
-    pub whole: Part,
+    pub whole: NumberedPart,
     pub is_building: bool,
     pub plan: Plan,
     pub target: Option<Target>,

@@ -9,7 +9,7 @@ use Rattle.byte_code.specs.Numbers.{word_of}
 use Rattle.byte_code.specs.Records.{IsInfoAt, HasBaseRecord, IsClearOf, IsTableWord}
 use Rattle.byte_code.specs.declared.image.InfoRecord.{InfoRecord}
 use Rattle.byte_code.specs.declared.image.BaseRecord.{BaseRecord}
-use Rattle.abi_dyncast.specs.declared.parts.Part.{Part}
+use Rattle.abi_dyncast.specs.declared.parts.TypedPart.{TypedPart}
 use Rattle.abi_dyncast.specs.declared.parts.Edge.{Edge}
 use Rattle.abi_dyncast.specs.Graph.{moved}
 use Rattle.abi_dyncast.specs.Graph.{Graph, graph_of, word_in, loaded_or_zero, pointer_at, info_at, base_record_at, has_virtual_flag, record_at, base_record, edge_by, any_edge, public_edge, LeadsByEdges, stays, steps, LeadsToSome}
@@ -30,23 +30,23 @@ module _ (image : ℕ → Option ℕ) (memory : Store) (pair : Pair) (start poin
   abbrev g : Graph
   g = graph_of image memory
 
-  abbrev whole : Part
+  abbrev whole : TypedPart
   whole = record { at = start; info = pair.info }
 
-  abbrev first : Part
+  abbrev first : TypedPart
   first = record { at = start; info = pair.first.info }
 
-  abbrev second : Part
+  abbrev second : TypedPart
   second = record { at = start + 16; info = pair.second.info }
 
-  abbrev parts : List Part
+  abbrev parts : List TypedPart
   parts = whole ∷ first ∷ second ∷ []
 
   abbrev infos : List ℕ
   infos = pair.info ∷ pair.first.info ∷ pair.second.info ∷ []
 
   -- what holds of the three parts holds of each
-  each : (Q : Part → Type 0) → Q whole → Q first → Q second → (p : Part) → Contains parts p → Q p
+  each : (Q : TypedPart → Type 0) → Q whole → Q first → Q second → (p : TypedPart) → Contains parts p → Q p
   each Q a b c p has = by_has (has_from_contains parts p has)
     where
       by_has : Has parts p → Q p
@@ -177,7 +177,7 @@ module _ (image : ℕ → Option ℕ) (memory : Store) (pair : Pair) (start poin
   view_is : view_at_address image memory (start + 16) ≡ whole
   view_is =
       let low = start_low in
-      let make : ℕ → ℕ → Part = λ i j. record { at = i; info = j } in
+      let make : ℕ → ℕ → TypedPart = λ i j. record { at = i; info = j } in
       let top : image (pointer_at memory (start + 16) - 16) ≡ Some 18446744073709551600 = ap (λ n. image (n - 16)) pointer_is ∙ table.top in
       let info : image (pointer_at memory (start + 16) - 8) ≡ Some pair.info = ap (λ n. image (n - 8)) pointer_is ∙ table.info in
       let back : moved (start + 16) 18446744073709551600 ≡ start = omega arith in

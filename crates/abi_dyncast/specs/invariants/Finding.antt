@@ -1,19 +1,19 @@
 -- What is told of a part: what lies below it, the part itself included.
 use Rattle.std.specs.Prelude.{◌≡◌, ◌↔◌, ℕ, ◌<◌, Bool, true, nat_eq, ◌&&◌, ◌||◌}
-use Rattle.abi_dyncast.specs.declared.parts.Part.{Part}
+use Rattle.abi_dyncast.specs.declared.parts.TypedPart.{TypedPart}
 use Rattle.abi_dyncast.specs.declared.work.Goal.{Goal}
 use Rattle.abi_dyncast.specs.declared.work.Found.{Found}
 use Rattle.abi_dyncast.specs.Graph.{Graph, any_edge, public_edge, LeadsToSome}
 use Rattle.abi_dyncast.specs.Casts.{IsPartAtAddress}
 
 -- a part of the target class
-abbrev pub IsOfTarget : Graph → Goal → Part → Type 0
+abbrev pub IsOfTarget : Graph → Goal → TypedPart → Type 0
 IsOfTarget g goal part = g.class part ≡ goal.target
 
-abbrev pub IsSource : Graph → Goal → Part → Type 0
+abbrev pub IsSource : Graph → Goal → TypedPart → Type 0
 IsSource g goal part = IsPartAtAddress g goal.at goal.class part
 
-pub record TellsBelow (g : Graph) (goal : Goal) (part : Part) (found : Found) : Type 0 where
+pub record TellsBelow (g : Graph) (goal : Goal) (part : TypedPart) (found : Found) : Type 0 where
   pub source : (found.source ≡ true) ↔ LeadsToSome g any_edge (IsSource g goal) part
   pub public_source : (found.public_source ≡ true) ↔ LeadsToSome g public_edge (IsSource g goal) part
   pub public_target : (found.public_target ≡ true) ↔ LeadsToSome g public_edge (IsOfTarget g goal) part

@@ -1,7 +1,7 @@
 -- What a walk over the parts keeps.
 use Rattle.std.specs.Prelude.{◌≡◌, ℕ, ◌+◌, ◌≤◌, Option, List, ◌++◌, length, sum_by, Contains}
 use Rattle.byte_memory.specs.Store.{Store}
-use Rattle.abi_dyncast.specs.declared.parts.Part.{Part}
+use Rattle.abi_dyncast.specs.declared.parts.TypedPart.{TypedPart}
 use Rattle.abi_dyncast.specs.declared.work.Goal.{Goal}
 use Rattle.abi_dyncast.specs.declared.work.Entry.{Entry}
 use Rattle.abi_dyncast.specs.Graph.{Graph, graph_of, any_edge, LeadsByEdges}
@@ -13,7 +13,7 @@ use Rattle.abi_dyncast.specs.invariants.Finding.{IsOfTarget, TellsBelow}
 pub record AreDone (g : Graph) (goal : Goal) (entries : List Entry) : Type 0 where
   pub class : (e : Entry) → Contains entries e → e.class ≡ g.class e.part
   pub tells : (e : Entry) → Contains entries e → TellsBelow g goal e.part e.found
-  pub targets : (part end : Part) → IsMet entries part → LeadsByEdges g any_edge part end → IsOfTarget g goal end → IsMet entries end
+  pub targets : (part end : TypedPart) → IsMet entries part → LeadsByEdges g any_edge part end → IsOfTarget g goal end → IsMet entries end
 
 -- how many edges leave the parts that were met
 abbrev pub edges_from : Graph → List Entry → ℕ
@@ -25,25 +25,25 @@ pub record HasRead (g : Graph) (old new : List Entry) (before after : ℕ) : Typ
   pub few : after + edges_from g old ≤ before + edges_from g new
 
 -- a whole walk reads the record of a base at most once for each edge of the view
-pub record ReadsAtMost (g : Graph) (view : Part) (before after : ℕ) : Type 0 where
+pub record ReadsAtMost (g : Graph) (view : TypedPart) (before after : ℕ) : Type 0 where
   pub more : before ≤ after
-  pub few : (parts : List Part) → HasAllBelow g view parts → after ≤ before + edges_of g parts
+  pub few : (parts : List TypedPart) → HasAllBelow g view parts → after ≤ before + edges_of g parts
 
 -- a walk from a part can begin
-pub record MayBeginWalk (image : ℕ → Option ℕ) (memory : Store) (goal : Goal) (room : ℕ) (entries : List Entry) (part : Part) : Type 0 where
-  pub parts : List Part
+pub record MayBeginWalk (image : ℕ → Option ℕ) (memory : Store) (goal : Goal) (room : ℕ) (entries : List Entry) (part : TypedPart) : Type 0 where
+  pub parts : List TypedPart
   pub are : AreClosedParts (graph_of image memory) parts
   pub read : CanReadParts image memory parts
   pub has : Contains parts part
   pub few : length parts ≤ room
-  pub inside : (other : Part) → IsMet entries other → Contains parts other
+  pub inside : (other : TypedPart) → IsMet entries other → Contains parts other
   pub done : AreDone (graph_of image memory) goal entries
 
 -- what a walk from a part does: it adds the part and parts below it, all of the target class, as far as they are not there
-pub record Visited (g : Graph) (goal : Goal) (part : Part) (old new : List Entry) : Type 0 where
+pub record Visited (g : Graph) (goal : Goal) (part : TypedPart) (old new : List Entry) : Type 0 where
   pub more : List Entry
   pub is : new ≡ old ++ more
-  pub low : (other : Part) → IsMet more other → g.class other ≤ g.class part
-  pub below : (other : Part) → IsMet more other → LeadsByEdges g any_edge part other
-  pub met : (end : Part) → LeadsByEdges g any_edge part end → IsOfTarget g goal end → IsMet new end
+  pub low : (other : TypedPart) → IsMet more other → g.class other ≤ g.class part
+  pub below : (other : TypedPart) → IsMet more other → LeadsByEdges g any_edge part other
+  pub met : (end : TypedPart) → LeadsByEdges g any_edge part end → IsOfTarget g goal end → IsMet new end
   pub done : AreDone g goal new

@@ -9,7 +9,7 @@ use Rattle.path_plan.specs.Places.{ObjectPart}
 use Rattle.path_plan.specs.Phases.{PartEvent}
 use Rattle.path_plan.specs.Pieces.{Piece, Own, Sub}
 use Rattle.path_model.specs.States.{plan_bodies}
-use Rattle.path_heap.specs.declared.state.Part.{Part}
+use Rattle.path_heap.specs.declared.state.NumberedPart.{NumberedPart}
 use Rattle.path_bodies.specs.declared.index.BodyIndex.{BodyIndex}
 use Rattle.path_bodies.specs.Places.{IsIndexOf}
 use Rattle.path_events.specs.declared.plan.PlanEvent.{PlanEvent}
@@ -31,7 +31,7 @@ pub record IsOwnStep (h : Classes) (program : TypedProgram) (classes : List Clas
   pub is : left ≡ Own e ∷ rest
 
 -- a part inside it, and what is left behind that
-pub record IsOpenStep (h : Classes) (classes : List ClassId) (kid : Part) (form : FormCode) (left rest : List Piece) : Type 0 where
+pub record IsOpenStep (h : Classes) (classes : List ClassId) (kid : NumberedPart) (form : FormCode) (left rest : List Piece) : Type 0 where
   pub q : ObjectPart
   pub stands : StandsAs h classes kid (frame_form form) q
   pub is : left ≡ Sub (frame_form form) kid.class q ∷ rest
@@ -68,7 +68,7 @@ abbrev pub MayGiveNext : Course → Bool → (stage next : Stage) → Option Ste
 MayGiveNext course is_building stage next step = MayGive course.h.now course.index.now is_building course.frame stage next step
 
 -- where a part begins
-abbrev pub first_event : Bool → Part → PlanEvent
+abbrev pub first_event : Bool → NumberedPart → PlanEvent
 first_event true part = BeginCode part
 first_event false part = EndingCode part
 

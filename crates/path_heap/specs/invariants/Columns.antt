@@ -8,7 +8,7 @@ use Rattle.path_heap.specs.declared.state.Value.{Value}
 use Rattle.path_heap.specs.declared.state.Value.TheVariants.{Unset}
 use Rattle.path_heap.specs.declared.state.Cell.{Cell}
 use Rattle.path_heap.specs.declared.state.ObjectRow.{ObjectRow}
-use Rattle.path_heap.specs.declared.state.Part.{Part}
+use Rattle.path_heap.specs.declared.state.NumberedPart.{NumberedPart}
 use Rattle.path_heap.specs.declared.heap.Heap.{Heap}
 use Rattle.path_heap.specs.Blanks.{no_cell}
 use Rattle.path_heap.specs.Running.{entry_at}
@@ -45,11 +45,11 @@ view_number EndingBases whole top = top
 view_number Ended whole top = top
 
 -- the part's cell in another phase
-abbrev pub marked_cell : Phase → Part → Cell
+abbrev pub marked_cell : Phase → NumberedPart → Cell
 marked_cell phase part = record { phase = phase; class = part.class; whole = part.whole; owner = part.owner }
 
 -- one cell is in another phase, and nothing else has changed
-pub record Marked (old new : Heap) (part : Part) (phase : Phase) : Type 0 where
+pub record Marked (old new : Heap) (part : NumberedPart) (phase : Phase) : Type 0 where
   pub cells : new.cells.items ≡ slice_set old.cells.items part.number (marked_cell phase part)
   pub leaves : new.leaves.items ≡ old.leaves.items
   pub objects : new.objects.items ≡ old.objects.items
@@ -57,7 +57,7 @@ pub record Marked (old new : Heap) (part : Part) (phase : Phase) : Type 0 where
   pub around : new.around.items ≡ old.around.items
 
 -- the part is the innermost one of its complete object
-pub record Entered (old new : Heap) (part : Part) : Type 0 where
+pub record Entered (old new : Heap) (part : NumberedPart) : Type 0 where
   pub cells : new.cells.items ≡ old.cells.items
   pub leaves : new.leaves.items ≡ old.leaves.items
   pub objects : new.objects.items ≡ old.objects.items
@@ -65,7 +65,7 @@ pub record Entered (old new : Heap) (part : Part) : Type 0 where
   pub around : new.around.items ≡ slice_set old.around.items part.number (entry_at old.tops.items part.whole)
 
 -- the one around it is
-pub record Left (old new : Heap) (part : Part) : Type 0 where
+pub record Left (old new : Heap) (part : NumberedPart) : Type 0 where
   pub cells : new.cells.items ≡ old.cells.items
   pub leaves : new.leaves.items ≡ old.leaves.items
   pub objects : new.objects.items ≡ old.objects.items
@@ -84,7 +84,7 @@ abbrev pub closed_row : ObjectRow → ObjectRow
 closed_row row = record { class = row.class; start = row.start; is_closed = true }
 
 -- an object is closed where the part is its whole, and nothing else has changed
-pub record Closed (old new : Heap) (part : Part) : Type 0 where
+pub record Closed (old new : Heap) (part : NumberedPart) : Type 0 where
   pub cells : new.cells.items ≡ old.cells.items
   pub leaves : new.leaves.items ≡ old.leaves.items
   pub object : ℕ

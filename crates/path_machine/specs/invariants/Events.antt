@@ -13,7 +13,7 @@ use Rattle.path_machine.specs.Tellings.{TellsMore}
 use Rattle.path_model.specs.Values.{Pointer}
 use Rattle.path_model.specs.States.{Planned, Frame, ProgramState, with_objects}
 use Rattle.path_model.specs.Steps.{objects_after, event_outs, resumed, event_step}
-use Rattle.path_heap.specs.declared.state.Part.{Part}
+use Rattle.path_heap.specs.declared.state.NumberedPart.{NumberedPart}
 use Rattle.path_heap.specs.Points.{StandsForPart}
 use Rattle.path_events.specs.declared.plan.PlanEvent.{PlanEvent}
 use Rattle.path_events.specs.declared.plan.PlanEvent.TheVariants.{Begin as BeginCode, Ready as ReadyCode, Init as InitCode, Body as BodyCode, Done as DoneCode, Ending as EndingCode, Bases as BasesCode, End as EndCode}
@@ -26,7 +26,7 @@ use Rattle.path_machine.specs.invariants.Steps.{StepAgrees, CanGive}
 use Rattle.path_machine.specs.invariants.Setups.{IsPlanTaken, IsPlanNext}
 
 -- the part whose body is next
-abbrev pub body_part : PlanEvent → Option Part
+abbrev pub body_part : PlanEvent → Option NumberedPart
 body_part (BeginCode part) = None
 body_part (ReadyCode part) = None
 body_part (InitCode part m) = None
@@ -60,7 +60,7 @@ Resumes h program old new frame next = (sizes : ClassId → ℕ) (s : ProgramSta
     IsPlanTaken h sizes program old frame s (with_events f events) below → CanEnd h s f events frame.whole.class → TellsMore before after outs → StepAgrees h sizes program (resumed program s f below outs events) new before after next
 
 -- the plan goes on with the body of a part
-abbrev pub Enters : Classes → TypedProgram → (old new : Machine) → PlanFrame → Part → NextCode → Type 0
+abbrev pub Enters : Classes → TypedProgram → (old new : Machine) → PlanFrame → NumberedPart → NextCode → Type 0
 Enters h program old new frame part next = (sizes : ClassId → ℕ) (s : ProgramState) (f : Planned) (p : ObjectPart) (events : List PartEvent) (below : List Frame) (outs : List Out) (before after : Telling) →
     IsPlanTaken h sizes program old frame s (with_events f (Body p ∷ events)) below → StandsForPart h s.objects.classes part p → TellsMore before after outs → StepAgrees h sizes program (resumed program s f below outs (Body p ∷ events)) new before after next
 

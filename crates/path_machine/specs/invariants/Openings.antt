@@ -18,7 +18,7 @@ use Rattle.cxx_program.specs.declared.statement.TypedCall.{TypedCall}
 use Rattle.cxx_program.specs.Typed.{Scope}
 use Rattle.path_model.specs.Values.{Sight, Unset, argument_value, value_of_operand}
 use Rattle.path_heap.specs.declared.heap.Heap.{Heap}
-use Rattle.path_heap.specs.declared.state.Part.{Part}
+use Rattle.path_heap.specs.declared.state.NumberedPart.{NumberedPart}
 use Rattle.path_heap.specs.declared.state.Value.{Value as ValueCode}
 use Rattle.path_heap.specs.Points.{StandsForPart}
 use Rattle.path_heap.specs.Stands.{Means}
@@ -61,13 +61,13 @@ OpensDelete run old new frame next pointer done = (e : Scope) (c : ClassId) (s :
     MoveAgreesIn run (move_by (deleted run.world.h.now run.program.now (gone_on s f next below) (value_of_operand (sight s f) pointer)) (limit_met run s f below (delete_demand (value_of_operand (sight s f) pointer)))) new outs outs done
 
 -- the destruction of this whole heap object begins, or a limit is met
-abbrev pub EndsWhole : Run → (old new : Machine) → BodyFrame → (next : ℕ) → Part → NextCode → Type 0
+abbrev pub EndsWhole : Run → (old new : Machine) → BodyFrame → (next : ℕ) → NumberedPart → NextCode → Type 0
 EndsWhole run old new frame next whole done = (sizes : ClassId → ℕ) (s : ProgramState) (f : RunningBody) (below : List Frame) (outs : Telling) (k : ℕ) (c : ClassId) →
     IsTaken run.world.h.now sizes run.program.now old frame s f below → slice_get s.objects.classes k ≡ Some c → StandsForPart run.world.h.now s.objects.classes whole (whole_part k c) →
     MoveAgrees run.world.h.now sizes run.program.now (move_by (object_ended run.world.h.now run.program.now (gone_on s f next below) k (Some c)) (call_limit (with_frames s (InBody f ∷ below)))) new outs outs done
 
 -- the plan of this whole heap object is put on top
-abbrev pub BeginsPlan : Run → (old new : Machine) → Part → Bool → Option Target → (depth : ℕ) → Type 0
+abbrev pub BeginsPlan : Run → (old new : Machine) → NumberedPart → Bool → Option Target → (depth : ℕ) → Type 0
 BeginsPlan run old new whole is_building target depth = (sizes : ClassId → ℕ) (s : ProgramState) (k : ℕ) (c : ClassId) →
     let plan = planned run.world.h.now run.program.now k is_building c target in
     MachineStands run.world.h.now sizes run.program.now old s → slice_get s.objects.classes k ≡ Some c → StandsForPart run.world.h.now s.objects.classes whole (whole_part k c) → depth ≡ open_count (plan ∷ s.frames) →

@@ -4,7 +4,7 @@ use Rattle.byte_code.specs.Images.{word_at}
 use Rattle.byte_code.specs.Readers.{image_of}
 use Rattle.byte_code.specs.declared.code.ImageBytes.{ImageBytes}
 use Rattle.byte_code.specs.declared.image.InfoRecord.{InfoRecord}
-use Rattle.abi_dyncast.specs.declared.parts.Part.{Part}
+use Rattle.abi_dyncast.specs.declared.parts.TypedPart.{TypedPart}
 use Rattle.abi_dyncast.specs.Graph.{graph_of, info_at, has_virtual_flag, base_record}
 use Rattle.abi_dyncast.specs.invariants.Searches.{MayDescend, LeadsOnlyTo}
 use Rattle.abi_dyncast.proofs.Edges.{base_is, plain_part}
@@ -30,7 +30,7 @@ descend-low-requires g t c κs within =
     let lt : 0 < gr.count c.args.part = omega (arith, c.if-info-ne1.false) in
     let base : c.base-base.result ≡ base_record image c.args.part 0 = base_is image memory c.args.part c.info-info.result 0 c.base-base.result info (c.requires.read.steps c.args.part 0 c.requires.has lt) c.base-base.ensures.record in
     let plain : has_virtual_flag c.base-base.result ≡ false = sym c.is_virtual.ensures ∙ c.if-is_virtual.false in
-    let next : Part = record { at = c.moved.result; info = c.base-base.result.info } in
+    let next : TypedPart = record { at = c.moved.result; info = c.base-base.result.info } in
     let is : next ≡ (gr.edge c.args.part 0).part = plain_part image memory c.args.part 0 c.base-base.result c.offset_word.result c.moved.result base plain c.offset_word.ensures c.moved.ensures in
     let falls = c.requires.are.falls c.args.part 0 c.requires.has lt in
     let lower : gr.class next ≡ gr.class (gr.edge c.args.part 0).part = ap gr.class is in
@@ -40,7 +40,7 @@ descend-low-requires g t c κs within =
       parts = c.requires.parts;
       are = c.requires.are;
       read = c.requires.read;
-      has = subst (λ (p : Part). Contains c.requires.parts p) (sym is) (c.requires.are.inside c.args.part 0 c.requires.has lt);
+      has = subst (λ (p : TypedPart). Contains c.requires.parts p) (sym is) (c.requires.are.inside c.args.part 0 c.requires.has lt);
     } in
     (omega (arith, c.decreases), (within, subst (λ (i : ImageBytes). MayDescend (word_at i) memory next) (sym on) may))
 
@@ -57,7 +57,7 @@ returns-clause-down g t c =
     let high : c.args.goal.class < gr.class c.args.part = omega (arith, c.if-info-goal.false) in
     let base : c.base-base.result ≡ base_record image c.args.part 0 = base_is image memory c.args.part c.info-info.result 0 c.base-base.result info (c.requires.read.steps c.args.part 0 c.requires.has lt) c.base-base.ensures.record in
     let plain : has_virtual_flag c.base-base.result ≡ false = sym c.is_virtual.ensures ∙ c.if-is_virtual.false in
-    let next : Part = record { at = c.moved.result; info = c.base-base.result.info } in
+    let next : TypedPart = record { at = c.moved.result; info = c.base-base.result.info } in
     let is : next ≡ (gr.edge c.args.part 0).part = plain_part image memory c.args.part 0 c.base-base.result c.offset_word.result c.moved.result base plain c.offset_word.ensures c.moved.ensures in
     let down = subst (λ (i : ImageBytes). LeadsOnlyTo (graph_of (word_at i) memory) c.args.goal next c.descend-low.result) c.base-base.ensures.image c.descend-low.ensures.down in
     descends gr c.args.goal c.args.part next c.descend-low.result one high is down

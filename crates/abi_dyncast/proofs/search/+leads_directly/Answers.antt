@@ -2,7 +2,7 @@ use Rattle.std.proofs.Common.{◌≡◌, ◌<◌, ap, sym, subst, ◌∙◌, ari
 use Rattle.std.specs.Prelude.{Contains}
 use Rattle.byte_code.specs.Images.{word_at}
 use Rattle.byte_code.specs.declared.image.InfoRecord.{InfoRecord}
-use Rattle.abi_dyncast.specs.declared.parts.Part.{Part}
+use Rattle.abi_dyncast.specs.declared.parts.TypedPart.{TypedPart}
 use Rattle.abi_dyncast.specs.Graph.{graph_of, info_at, has_virtual_flag, base_record}
 use Rattle.abi_dyncast.specs.invariants.Direct.{plain_base}
 use Rattle.abi_dyncast.specs.invariants.Searches.{MayDescend}
@@ -27,7 +27,7 @@ leads_directly-found-requires g t c κs within =
     let lt : c.loop-number.number < gr.count c.args.part = omega (arith, c.loop-number-test.true) in
     let base : c.base-base.result ≡ base_record image c.args.part c.loop-number.number = base_is image memory c.args.part c.info-info.result c.loop-number.number c.base-base.result info (c.requires.read.steps c.args.part c.loop-number.number c.requires.has lt) c.base-base.ensures in
     let plain : has_virtual_flag c.base-base.result ≡ false = sym c.is_virtual.ensures ∙ c.if-not-is_virtual.true in
-    let next : Part = record { at = c.moved.result; info = c.base-base.result.info } in
+    let next : TypedPart = record { at = c.moved.result; info = c.base-base.result.info } in
     let is : next ≡ (gr.edge c.args.part c.loop-number.number).part = plain_part image memory c.args.part c.loop-number.number c.base-base.result c.offset_word.result c.moved.result base plain c.offset_word.ensures c.moved.ensures in
     let falls = c.requires.are.falls c.args.part c.loop-number.number c.requires.has lt in
     let lower : gr.class next ≡ gr.class (gr.edge c.args.part c.loop-number.number).part = ap gr.class is in
@@ -35,7 +35,7 @@ leads_directly-found-requires g t c κs within =
       parts = c.requires.parts;
       are = c.requires.are;
       read = c.requires.read;
-      has = subst (λ (p : Part). Contains c.requires.parts p) (sym is) (c.requires.are.inside c.args.part c.loop-number.number c.requires.has lt);
+      has = subst (λ (p : TypedPart). Contains c.requires.parts p) (sym is) (c.requires.are.inside c.args.part c.loop-number.number c.requires.has lt);
     } in
     (omega (arith, c.decreases), (within, may))
 
@@ -61,6 +61,6 @@ returns-then-found g t c there =
     let lt : c.loop-number.number < gr.count c.args.part = omega (arith, c.loop-number-test.true) in
     let base : c.base-base.result ≡ base_record image c.args.part c.loop-number.number = base_is image memory c.args.part c.info-info.result c.loop-number.number c.base-base.result info (c.requires.read.steps c.args.part c.loop-number.number c.requires.has lt) c.base-base.ensures in
     let plain : has_virtual_flag (base_record image c.args.part c.loop-number.number) ≡ false = ap has_virtual_flag (sym base) ∙ (sym c.is_virtual.ensures ∙ c.if-not-is_virtual.true) in
-    let next : Part = record { at = c.moved.result; info = c.base-base.result.info } in
+    let next : TypedPart = record { at = c.moved.result; info = c.base-base.result.info } in
     let is : next ≡ plain_base image c.args.part c.loop-number.number = next_is image c.args.part c.loop-number.number c.base-base.result c.offset_word.result c.moved.result base c.offset_word.ensures c.moved.ensures in
     goes_on_directly image c.args.goal c.args.part next c.loop-number.number lt plain is (c.leads_directly-found.ensures c.if-found.true)
