@@ -19,3 +19,4 @@ pub mod Flattened
 pub mod KeptTwice
 pub mod Tables
 pub mod CodeCalls
+pub mod Unset

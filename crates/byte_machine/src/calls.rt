@@ -37,7 +37,7 @@ fn call_entry<M: Memory>(
         return Ok(Some(10));
     }
     let callee = find_callee(&setup.image, &running.heap, this, entry).unwrap();
-    let kept = keep(setup, outcome, callee.vbase, callee.add)?;
+    let kept = keep(setup, running, outcome, callee.vbase, callee.add)?;
     open_call(setup, running, callee.block, callee.this, arguments, kept)?;
     Ok(None)
 }
@@ -61,7 +61,7 @@ fn call_record<M: Memory>(
         return Ok(Some(10));
     }
     let callee = callee_by_record(&setup.image, &running.heap, this, entry, place).unwrap();
-    let kept = keep(setup, outcome, callee.vbase, callee.add)?;
+    let kept = keep(setup, running, outcome, callee.vbase, callee.add)?;
     open_call(setup, running, callee.block, callee.this, arguments, kept)?;
     Ok(None)
 }
@@ -121,7 +121,7 @@ fn call_code<M: Memory>(
     if running.calls >= MOST_CALLS {
         return Ok(Some(10));
     }
-    let kept = keep(setup, outcome, 0, 0)?;
+    let kept = keep(setup, running, outcome, 0, 0)?;
     open_call(setup, running, block, this, arguments, kept)?;
     Ok(None)
 }
@@ -145,7 +145,7 @@ fn make<M: Memory>(
     if running.calls >= MOST_CALLS {
         return Ok(Some(10));
     }
-    let kept = keep(setup, outcome, 0, 0)?;
+    let kept = keep(setup, running, outcome, 0, 0)?;
     let at = running.heap.make(size, class)?;
     open_call(setup, running, block, at, &[], kept)?;
     Ok(None)

@@ -1,6 +1,6 @@
 //! The frames that calls open.
 
-ghost use Rattle.std.specs.Prelude.{◌≡◌, ◌<◌, ◌++◌, [], IfOk, replicate};
+ghost use Rattle.std.specs.Prelude.{◌≡◌, ◌<◌, ◌-◌, ◌++◌, [], IfOk, None, length, replicate};
 ghost use Rattle.byte_machine.specs.Frames.{entry_registers};
 ghost use Rattle.byte_machine.specs.Calls.{calling, frame_at, kept_for, most_calls, register_words};
 ghost use Rattle.byte_machine.specs.GivenFrames.{frame_of, kept_of};
@@ -9,7 +9,7 @@ ghost use Rattle.byte_machine.specs.invariants.States.{fixed_by, running_of, Kee
 
 use crate::frames::{Frame, Handed, Kept};
 use crate::running::{Running, Setup};
-use byte_code::{Code, ResultUse};
+use byte_code::{Code, Finish, FinishList, ResultUse};
 use byte_memory::Memory;
 use foundation::{NoMemory, Sequence};
 use std::alloc::Global;
@@ -49,6 +49,19 @@ fn spare_registers<M: Memory>(
     }
 }
 
+/// Puts unset registers behind others, up to as many as a frame has.
+#[tactic(auto, using(crate::proofs::Unset::unset_rest, crate::proofs::Unset::no_rest))]
+fn fill_up(setup: &Setup, registers: &mut Vec<Option<u64>>) -> Result<(), NoMemory>
+    ensures { IfOk result (λ _. registers.new.items ≡ registers.old.items ++ replicate (setup.now.size - length registers.old.items) None) }
+{
+    let count = registers.len();
+    if count >= setup.unset.len() {
+        return Ok(());
+    }
+    registers.extend_from_slice(&setup.unset[count..])?;
+    Ok(())
+}
+
 /// The registers of a frame that is entered: `this`, the words of these registers, and unset ones.
 pub fn enter<M: Memory>(
     setup: &Setup,
@@ -63,22 +76,51 @@ pub fn enter<M: Memory>(
     let mut registers = spare_registers(setup, running)?;
     registers.push(Some(this))?;
     push_words(&mut registers, running, arguments)?;
-    let count = registers.len();
-    registers.resize(count.max(setup.size as usize), None)?;
+    fill_up(setup, &mut registers)?;
     Ok(registers)
 }
 
-/// What the return of a call does.
-pub fn keep(setup: &Setup, outcome: &ResultUse, vbase: u64, add: u64) -> Result<Kept, NoMemory>
-    ensures { IfOk result (λ kept. kept_of kept ≡ kept_for outcome.now vbase add) }
+/// A list with these ops: one that was given back, or a new one. Errors: want of memory.
+fn finish_list<M: Memory>(
+    setup: &Setup,
+    running: &mut Running<M>,
+    ops: &[Finish],
+) -> Result<FinishList, NoMemory>
+    ensures list { IfOk result (λ list. list ≡ ops.now) }
+    ensures same { running_of running.new ≡ running_of running.old }
+    ensures kept { KeepsRoomAndOuts setup.now.image running.old running.new }
 {
-    let finish = Vec::from_slice(setup.alloc, outcome.finish.as_slice())?;
+    if ops.is_empty() {
+        return Ok(Sequence::new(setup.alloc));
+    }
+    let mut list = match running.lists.pop() {
+        Some(list) => list.into_vec(),
+        None => Vec::new(setup.alloc),
+    };
+    list.clear();
+    list.extend_from_slice(ops)?;
+    Ok(Sequence::from_vec(list))
+}
+
+/// What the return of a call does.
+pub fn keep<M: Memory>(
+    setup: &Setup,
+    running: &mut Running<M>,
+    outcome: &ResultUse,
+    vbase: u64,
+    add: u64,
+) -> Result<Kept, NoMemory>
+    ensures is { IfOk result (λ kept. kept_of kept ≡ kept_for outcome.now vbase add) }
+    ensures same { running_of running.new ≡ running_of running.old }
+    ensures kept { KeepsRoomAndOuts setup.now.image running.old running.new }
+{
+    let finish = finish_list(setup, running, outcome.finish.as_slice())?;
     Ok(Kept {
         to: outcome.to,
         class: outcome.class,
         vbase,
         add,
-        finish: Sequence::from_vec(finish),
+        finish,
     })
 }
 

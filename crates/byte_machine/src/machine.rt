@@ -76,6 +76,7 @@ impl<M: Memory> Machine<M> {
             known: KnownParts::reserve(alloc)?,
             globals: same_words(alloc, code.globals, Some(0))?,
             spare: Vec::new(alloc),
+            lists: Vec::new(alloc),
             opened: Vec::new(alloc),
             top: enter_main(alloc, &code)?,
             below: Vec::new(alloc),
@@ -87,6 +88,7 @@ impl<M: Memory> Machine<M> {
             image,
             size: code.registers,
             parts: largest,
+            unset: same_words(alloc, code.registers, None)?,
             alloc,
         };
         Ok(Machine {

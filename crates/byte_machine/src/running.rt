@@ -1,6 +1,6 @@
 //! What the ops of a block work on.
 
-ghost use Rattle.std.specs.Prelude.{◌≡◌};
+ghost use Rattle.std.specs.Prelude.{◌≡◌, None, replicate};
 
 use crate::frames::Frame;
 use crate::heap::Heap;
@@ -17,7 +17,10 @@ pub struct Setup {
     pub image: ImageBytes,
     pub size: u32,
     pub parts: usize,
+    /// The registers of a frame in which none is set, to be copied into frames that are opened.
+    pub unset: Vec<Option<u64>>,
     pub alloc: Global,
+    ghost cleared: { unset.items ≡ replicate size None },
 }
 
 /// What the ops of a block work on. Of each list of frames the last one is the innermost.
@@ -31,6 +34,8 @@ pub struct Running<M: Memory> {
     pub globals: Vec<Option<u64>>,
     /// The registers of frames that were left, for frames that are opened later.
     pub spare: Vec<Vec<Option<u64>>>,
+    /// The lists of what followed returns that were done, for calls that are made later.
+    pub lists: Vec<FinishList>,
     /// The frames that the block opened.
     pub opened: Vec<Frame>,
     /// The frame whose block runs.

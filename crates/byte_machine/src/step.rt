@@ -28,7 +28,9 @@ fn settle<M: Memory>(_setup: &Setup, running: &mut Running<M>) -> Result<(), NoM
     };
     let top = std::mem::replace(&mut running.top, next);
     running.below.push(top)?;
-    running.below.append(&mut running.opened)?;
+    if running.opened.len() > 0 {
+        running.below.append(&mut running.opened)?;
+    }
     Ok(())
 }
 
