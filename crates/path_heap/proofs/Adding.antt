@@ -1,5 +1,5 @@
 -- A heap object is made: its columns stand behind the others.
-use Rattle.std.proofs.Common.{◌≡◌, ℕ, ◌+◌, ◌<◌, ◌≤◌, ⊎_elim, Bool, true, false, Option, Some, None, List, [], ◌∷◌, ◌++◌, length, refl, ap, subst, sym, ◌∙◌, arith}
+use Rattle.std.proofs.Common.{◌≡◌, ◌-◌, ℕ, ◌+◌, ◌<◌, ◌≤◌, ⊎_elim, Bool, true, false, Option, Some, None, List, [], ◌∷◌, ◌++◌, length, refl, ap, subst, sym, ◌∙◌, arith}
 use Rattle.std.specs.Prelude.{slice_get, replicate, nat_eq, if◌then◌else◌}
 use Rattle.std.proofs.lemmas.Bool.{eq-eqb}
 use Rattle.std.proofs.lemmas.List.{length-replicate, length-append}
@@ -87,7 +87,7 @@ cell_made h heap new s stands c size start is did y at = ⊎_elim
       listed = ap (λ t. slice_get t y.number) did.cells ∙ get_front heap.cells.items (replicate size no_cell) y.number old.cell old.listed;
       phase = old.phase ∙ sym as_before;
       class = λ begun. old.class (λ raw. begun (as_before ∙ raw));
-      owner = λ begun. owner_more h s.classes c y old.cell.whole old.cell.owner (old.owner (λ raw. begun (as_before ∙ raw)));
+      owner = λ begun. owner_more h s.classes c y (y.number - old.cell.back) old.cell.owner (old.owner (λ raw. begun (as_before ∙ raw)));
     })
     (λ object.
     let raw : (with_new_object s c).phases.phase y.part ≡ Raw = ap (λ b. if b then Raw else s.phases.phase y.part) (is_new_object y.part.object (length s.classes) object) in

@@ -1,5 +1,5 @@
 -- What the cell of a number tells of its part.
-use Rattle.std.proofs.Common.{◌≡◌, ℕ, Some, List, [], ◌∷◌, refl, ap, subst, sym, ◌∙◌}
+use Rattle.std.proofs.Common.{◌≡◌, ◌-◌, ℕ, Some, List, [], ◌∷◌, refl, ap, subst, sym, ◌∙◌}
 use Rattle.std.specs.Prelude.{slice_get, nat_eq, option_and_then}
 use Rattle.std.proofs.lemmas.Bool.{eqb-true, eq-eqb}
 use Rattle.foundation.proofs.Truth.{is_false}
@@ -49,11 +49,12 @@ pub class_told : (h : Classes) (heap : Heap) (s : Objects) → HeapStands h heap
 class_told h heap s stands n p q begun cell is =
     ap (λ (t : ObjectPart). class_of t.at) (sym q.is_part) ∙ ((at_good h (sizes_of h) s.classes q.node q.at).class ∙ ap (λ (t : ClassId). Some t) (sym (class_node h heap s stands n p q begun cell is)))
 
-pub owner_told : (h : Classes) (heap : Heap) (s : Objects) → HeapStands h heap s → (n : ℕ) (p : ObjectPart) (q : Points h s.classes n p) → HasBegun s p → (cell : Cell) → cell ≡ cell_at heap n → HasOwner h s.classes q.node cell.whole cell.owner
+pub owner_told : (h : Classes) (heap : Heap) (s : Objects) → HeapStands h heap s → (n : ℕ) (p : ObjectPart) (q : Points h s.classes n p) → HasBegun s p → (cell : Cell) → cell ≡ cell_at heap n → HasOwner h s.classes q.node (n - cell.back) cell.owner
 owner_told h heap s stands n p q begun cell is =
-    subst (λ (t : Cell). HasOwner h s.classes q.node t.whole t.owner) (sym (found h heap s stands n p q cell is)) ((stands.cells q.node q.at).owner (begun_at s p q.node.part q.is_part begun))
+    subst (λ k. HasOwner h s.classes q.node (k - cell.back) cell.owner) q.is_number
+    (subst (λ (t : Cell). HasOwner h s.classes q.node (q.node.number - t.back) t.owner) (sym (found h heap s stands n p q cell is)) ((stands.cells q.node q.at).owner (begun_at s p q.node.part q.is_part begun)))
 
-pub whole_told : (h : Classes) (heap : Heap) (s : Objects) → HeapStands h heap s → (n : ℕ) (p : ObjectPart) → Points h s.classes n p → HasBegun s p → (cell : Cell) → cell ≡ cell_at heap n → PointsWhole h s.classes cell.whole p
+pub whole_told : (h : Classes) (heap : Heap) (s : Objects) → HeapStands h heap s → (n : ℕ) (p : ObjectPart) → Points h s.classes n p → HasBegun s p → (cell : Cell) → cell ≡ cell_at heap n → PointsWhole h s.classes (n - cell.back) p
 whole_told h heap s stands n p q begun cell is =
     let o = owner_told h heap s stands n p q begun cell is in
     record {
@@ -89,7 +90,7 @@ class_of_whole h s y whole owner o =
 
 pub owner_class_told : (h : Classes) (heap : Heap) (s : Objects) → HeapStands h heap s → (n : ℕ) (p : ObjectPart) → Points h s.classes n p → HasBegun s p → (cell : Cell) → cell ≡ cell_at heap n → class_of_owner h s p ≡ Some cell.owner
 owner_class_told h heap s stands n p q begun cell is =
-    ap (class_of_owner h s) (sym q.is_part) ∙ class_of_whole h s q.node cell.whole cell.owner (owner_told h heap s stands n p q begun cell is)
+    ap (class_of_owner h s) (sym q.is_part) ∙ class_of_whole h s q.node (n - cell.back) cell.owner (owner_told h heap s stands n p q begun cell is)
 
 -- the row of the heap object of a part
 pub record RowFound (h : Classes) (s : Objects) (row : ObjectRow) (p : ObjectPart) : Type 0 where
@@ -134,7 +135,7 @@ object_class_told h heap s stands n p q k found row row_is =
 
 -- a part that has begun, by its cell
 pub part_told : (h : Classes) (heap : Heap) (s : Objects) → HeapStands h heap s → (n : ℕ) (p : ObjectPart) → Points h s.classes n p → HasBegun s p → (cell : Cell) → cell ≡ cell_at heap n
-    → StandsForPart h s.classes (record { number = n; class = cell.class; whole = cell.whole; owner = cell.owner }) p
+    → StandsForPart h s.classes (record { number = n; class = cell.class; whole = (n - cell.back); owner = cell.owner }) p
 part_told h heap s stands n p q begun cell is =
     record {
       node = q.node;
@@ -157,7 +158,7 @@ root_test h heap s stands k c listed w at full object (step ∷ o) owner =
     let same = heap_part h (sizes_of h) (sizes_are h stands.hierarchy) s.classes w (root_at (sizes_of h) s.classes k c) at (root_is_at h s.classes k c listed) (sym n) in
     let f : [] ≡ step ∷ o = ap (λ (t : Node). t.part.owner) (sym same) ∙ owner in cc))
 
-pub in_heap_told : (h : Classes) (heap : Heap) (s : Objects) → HeapStands h heap s → (n : ℕ) (p : ObjectPart) → Points h s.classes n p → HasBegun s p → (cell : Cell) → cell ≡ cell_at heap n → (k : ℕ) → IsObjectAt heap.objects.items n k → (row : ObjectRow) → row ≡ row_at heap k → is_in_heap_object p.owner ≡ nat_eq row.start cell.whole
+pub in_heap_told : (h : Classes) (heap : Heap) (s : Objects) → HeapStands h heap s → (n : ℕ) (p : ObjectPart) → Points h s.classes n p → HasBegun s p → (cell : Cell) → cell ≡ cell_at heap n → (k : ℕ) → IsObjectAt heap.objects.items n k → (row : ObjectRow) → row ≡ row_at heap k → is_in_heap_object p.owner ≡ nat_eq row.start (n - cell.back)
 in_heap_told h heap s stands n p q begun cell is k found row row_is =
     let r = row_found h heap s stands n p q k (object_found h heap s stands n p q k found) row row_is in
     let w = whole_told h heap s stands n p q begun cell is in

@@ -1,5 +1,5 @@
 -- An event: the part takes a phase, the stack of its complete object changes, and nothing else does.
-use Rattle.std.proofs.Common.{◌≡◌, ℕ, ◌<◌, ⊎_elim, Bool, true, false, Option, Some, List, length, ap, subst, sym, ◌∙◌}
+use Rattle.std.proofs.Common.{◌≡◌, ℕ, ◌+◌, ◌-◌, ◌%◌, ◌^◌, ◌≤◌, ◌<◌, ⊎_elim, Bool, true, false, Option, Some, List, length, ap, subst, sym, ◌∙◌, arith}
 use Rattle.std.specs.Prelude.{slice_get, slice_set}
 use Rattle.std.proofs.lemmas.List.{length-set}
 use Rattle.std.proofs.lemmas.Option.{slice_get_within}
@@ -7,7 +7,7 @@ use Rattle.foundation.proofs.Deciding.{decide_number}
 use Rattle.cxx_hierarchy.specs.declared.records.ClassId.{ClassId}
 use Rattle.cxx_hierarchy.specs.Classes.{Classes}
 use Rattle.cxx_subobject.specs.declared.Subobject.{Subobject}
-use Rattle.path_plan.specs.Places.{Step, ObjectPart}
+use Rattle.path_plan.specs.Places.{Step, ObjectPart, part}
 use Rattle.path_plan.specs.Phases.{put, with_pushed_part, is_running}
 use Rattle.path_plan.specs.Phases as Plan
 use Rattle.path_plan.specs.Plans.{InFull}
@@ -16,7 +16,9 @@ use Rattle.path_numbers.specs.Sizes.{sizes_of, total}
 use Rattle.path_numbers.specs.Nodes.{Node}
 use Rattle.path_numbers.specs.Heap.{IsAt}
 use Rattle.path_numbers.proofs.Sized.{sizes_are}
-use Rattle.path_numbers.proofs.Heap.{heap_part, heap_number}
+use Rattle.path_numbers.proofs.Intervals.{size_some, under_lies}
+use Rattle.path_numbers.proofs.Within.{part_at}
+use Rattle.path_numbers.proofs.Heap.{at_good, at_range, heap_part, heap_number}
 use Rattle.path_model.specs.Values.{Objects}
 use Rattle.path_heap.specs.declared.state.Phase.{Phase}
 use Rattle.path_heap.specs.declared.state.Cell.{Cell}
@@ -27,12 +29,39 @@ use Rattle.path_heap.specs.Points.{StandsForPart, HasOwner}
 use Rattle.path_heap.specs.Running.{entry_at, ViewsStand}
 use Rattle.path_heap.specs.Stands.{phase_of, CellStands, ObjectStands, HeapStands}
 use Rattle.path_heap.specs.invariants.Columns.{marked_cell, Marked, Entered}
+use Rattle.path_heap.proofs.Reaching.{at_below}
 use Rattle.path_heap.proofs.Sets.{set_same, set_other}
 use Rattle.path_heap.proofs.Viewing.{at_less, begins_stand, stays_stand}
 
 -- the objects with one part in another phase
 abbrev pub turned : Objects → ObjectPart → Plan.Phase → (ℕ → List Step → List Subobject) → (ℕ → Bool) → Objects
 turned s p x running closed = record { classes = s.classes; is_closed = closed; phases = record { phase = put s.phases.phase p x; running = running }; leaf = s.leaf }
+
+-- a part stands near to its complete object
+record IsNear (code : NumberedPart) : Type 0 where
+  low : code.whole ≤ code.number
+  high : code.number < code.whole + 2 ^ 32
+
+near : (h : Classes) (heap : Heap) (s : Objects) → HeapStands h heap s → (code : NumberedPart) (p : ObjectPart) → StandsForPart h s.classes code p → IsNear code
+near h heap s stands code p r =
+    let keeps = stands.hierarchy in
+    let y = r.node in
+    let w = r.owned.node in
+    let b = part_at h keeps w y.part.at (at_good h (sizes_of h) s.classes w r.owned.at) r.owned.full r.owned.valid in
+    let there : b.0.part ≡ y.part = b.1.is_part ∙ (ap (λ k. part k w.part.owner y.part.at) r.owned.same_object ∙ ap (λ o. part y.part.object o y.part.at) r.owned.same_owner) in
+    let same : b.0 ≡ y = heap_number h (sizes_of h) keeps s.classes b.0 y (at_below h s.classes w b.0 r.owned.at b.1.under) r.at there in
+    let placed : b.0.number ≡ y.number = ap (λ (t : Node). t.number) same in
+    let inner = under_lies h (sizes_of h) (sizes_are h keeps) b.0 w b.1.under in
+    let outer = at_range h (sizes_of h) (sizes_are h keeps) s.classes w r.owned.at in
+    let some = size_some h (sizes_of h) (sizes_are h keeps) b.0.form b.0.class in
+    let first = inner.low in
+    let last = inner.high in
+    let start = outer.low in
+    let end = outer.high in
+    let limit = stands.counts.small r.owned.at.object r.owned.at.class r.owned.at.listed in
+    let number = r.is_number in
+    let whole = r.owned.is_number in
+    record { low = omega arith; high = omega arith }
 
 -- the column of cells
 cell_marked : (h : Classes) (heap : Heap) (s : Objects) → HeapStands h heap s → (code : NumberedPart) (p : ObjectPart) → StandsForPart h s.classes code p → (x : Phase) (running : ℕ → List Step → List Subobject) (closed : ℕ → Bool) (z : Node) → IsAt h (sizes_of h) s.classes z
@@ -50,7 +79,12 @@ cell_marked h heap s stands code p r x running closed z z_at =
       listed = ap (slice_get (slice_set heap.cells.items code.number (marked_cell x code))) (sym e) ∙ set_same heap.cells.items code.number (marked_cell x code) lt;
       phase = sym (ap (put s.phases.phase p (phase_of x)) place ∙ put_same s.phases.phase p (phase_of x));
       class = λ _. sym r.is_class ∙ ap (λ (t : Node). t.class) same;
-      owner = λ _. subst (λ (t : Node). HasOwner h s.classes t code.whole code.owner) same r.owned;
+      owner = λ _.
+          let n = near h heap s stands code p r in
+          let low = n.low in
+          let high = n.high in
+          let back : code.whole ≡ z.number - (code.number - code.whole) % 2 ^ 32 = omega arith in
+          subst (λ k. HasOwner h s.classes z k code.owner) back (subst (λ (t : Node). HasOwner h s.classes t code.whole code.owner) same r.owned);
     })
     (λ differ.
     let d = stands.cells z z_at in

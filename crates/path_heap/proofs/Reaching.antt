@@ -139,7 +139,7 @@ own_base h heap s stands n p q begun c class cell is path leads step k told k_is
 -- a base behind a virtual base
 shared_base_reached : (h : Classes) (heap : Heap) (s : Objects) → HeapStands h heap s → (n : ℕ) (p : ObjectPart) → Points h s.classes n p → HasBegun s p → (c : ClassId) → class_of p.at ≡ Some c → (cell : Cell) → cell ≡ cell_at heap n
     → (v : ClassId) (path : List ClassId) → HasVirtualBase h c v → Leads h v path → (far step k : ℕ) → (HasVirtualBase h cell.owner v → far ≡ shared_number h cell.owner v) → (Leads h v path → step ≡ path_number h v path % 2 ^ 64)
-    → k ≡ (cell.whole + (far + step) % 2 ^ 64) % 2 ^ 64 → Points h s.classes k (inner_part p (subobject (Shared v) (v ∷ path)))
+    → k ≡ ((n - cell.back) + (far + step) % 2 ^ 64) % 2 ^ 64 → Points h s.classes k (inner_part p (subobject (Shared v) (v ∷ path)))
 shared_base_reached h heap s stands n p q begun c class cell is v path has leads far step k far_told told k_is =
     let o = owner_told h heap s stands n p q begun cell is in
     let w = o.node in
@@ -154,8 +154,8 @@ shared_base_reached h heap s stands n p q begun c class cell is v path has leads
     let step_is = told leads in
     let e = a.is_number in
     let r = o.is_number in
-    let f : cell.whole + (far + path_number h v path) < 2 ^ 64 = omega arith in
-    let g : k ≡ cell.whole + (far + path_number h v path) = turned_three cell.whole far (path_number h v path) k f (k_is ∙ ap (λ t. (cell.whole + (far + t) % 2 ^ 64) % 2 ^ 64) step_is) in
+    let f : (n - cell.back) + (far + path_number h v path) < 2 ^ 64 = omega arith in
+    let g : k ≡ (n - cell.back) + (far + path_number h v path) = turned_three (n - cell.back) far (path_number h v path) k f (k_is ∙ ap (λ t. ((n - cell.back) + (far + t) % 2 ^ 64) % 2 ^ 64) step_is) in
     record {
       node = a.end;
       at = end_at;
@@ -170,7 +170,7 @@ base_reached h heap s stands n p q begun c class cell is _ (shared v path has le
 
 pub shared_reached : (h : Classes) (heap : Heap) (s : Objects) → HeapStands h heap s → (n : ℕ) (p : ObjectPart) → Points h s.classes n p → HasBegun s p → (c : ClassId) → class_of p.at ≡ Some c → (cell : Cell) → cell ≡ cell_at heap n
     → (i : Subobject) → IsSubobject h c i → (v : ClassId) → i.root ≡ Shared v → (path : List ClassId) → path ≡ tail_of i.path → (far step k : ℕ) → (HasVirtualBase h cell.owner v → far ≡ shared_number h cell.owner v) → (Leads h v path → step ≡ path_number h v path % 2 ^ 64)
-    → k ≡ (cell.whole + (far + step) % 2 ^ 64) % 2 ^ 64 → Points h s.classes k (inner_part p i)
+    → k ≡ ((n - cell.back) + (far + step) % 2 ^ 64) % 2 ^ 64 → Points h s.classes k (inner_part p i)
 shared_reached h heap s stands n p q begun c class cell is _ (whole path leads) v root list list_is far step k far_told told k_is = absurd (cc)
 shared_reached h heap s stands n p q begun c class cell is _ (shared w path has leads) v root list list_is far step k far_told told k_is =
     let same : w ≡ v = cc in
@@ -206,7 +206,7 @@ numbered_whole h heap s stands n p q begun c class i sub root x k small x_is k_i
 
 pub numbered_shared : (h : Classes) (heap : Heap) (s : Objects) → HeapStands h heap s → (n : ℕ) (p : ObjectPart) → Points h s.classes n p → HasBegun s p → (c : ClassId) → class_of p.at ≡ Some c → (cell : Cell) → cell ≡ cell_at heap n
     → (i : Subobject) → IsSubobject h c i → (v : ClassId) → i.root ≡ Shared v → (far near x k : ℕ) → (HasVirtualBase h cell.owner v → far ≡ shared_number h cell.owner v) → (HasVirtualBase h c v → near ≡ shared_number h c v) → x < 2 ^ 32 → x ≡ subobject_number h c i
-    → k ≡ (cell.whole + (far + (x - near)) % 2 ^ 64) % 2 ^ 64 → Points h s.classes k (inner_part p i)
+    → k ≡ ((n - cell.back) + (far + (x - near)) % 2 ^ 64) % 2 ^ 64 → Points h s.classes k (inner_part p i)
 numbered_shared h heap s stands n p q begun c class cell is _ (whole path leads) v root far near x k far_told near_told small x_is k_is = absurd (cc)
 numbered_shared h heap s stands n p q begun c class cell is _ (shared w path has leads) v root far near x k far_told near_told small x_is k_is =
     let same : w ≡ v = cc in

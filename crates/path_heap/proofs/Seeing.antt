@@ -1,5 +1,5 @@
 -- The number of the view is that of the view.
-use Rattle.std.proofs.Common.{◌≡◌, ℕ, Option, Some, None, List, [], ◌∷◌, refl, ap, subst, sym, ◌∙◌}
+use Rattle.std.proofs.Common.{◌≡◌, ◌-◌, ℕ, Option, Some, None, List, [], ◌∷◌, refl, ap, subst, sym, ◌∙◌}
 use Rattle.std.specs.Prelude.{if◌then◌else◌}
 use Rattle.cxx_hierarchy.specs.declared.records.ClassId.{ClassId}
 use Rattle.cxx_hierarchy.specs.Classes.{Classes}
@@ -67,8 +67,8 @@ moved_view h s p q object owner d n v =
     (subst (λ k. PointsView h s.classes p n (view s.phases k q.owner d)) object
     (by_place h s.classes p q object owner n (view s.phases q.object q.owner d) v))
 
-pub view_told : (h : Classes) (heap : Heap) (s : Objects) → HeapStands h heap s → (n : ℕ) (p : ObjectPart) → Points h s.classes n p → HasBegun s p → (cell : Cell) → cell ≡ cell_at heap n → (top : Cell) → top ≡ cell_at heap cell.whole
-    → PointsView h s.classes p (view_number top.phase cell.whole (entry_at heap.tops.items cell.whole)) (view_of h s p)
+pub view_told : (h : Classes) (heap : Heap) (s : Objects) → HeapStands h heap s → (n : ℕ) (p : ObjectPart) → Points h s.classes n p → HasBegun s p → (cell : Cell) → cell ≡ cell_at heap n → (top : Cell) → top ≡ cell_at heap (n - cell.back)
+    → PointsView h s.classes p (view_number top.phase (n - cell.back) (entry_at heap.tops.items (n - cell.back))) (view_of h s p)
 view_told h heap s stands n p q begun cell is top top_is =
     let o = owner_told h heap s stands n p q begun cell is in
     let w = o.node in

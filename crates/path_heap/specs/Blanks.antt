@@ -8,7 +8,7 @@ use Rattle.path_heap.specs.declared.state.Cell.{Cell}
 
 -- the cell of a part of which nothing has begun
 abbrev pub no_cell : Cell
-no_cell = record { phase = Raw; class = record { 0 = 0 }; whole = 0; owner = record { 0 = 0 } }
+no_cell = record { phase = Raw; class = record { 0 = 0 }; back = 0; owner = record { 0 = 0 } }
 
 -- a part has not begun, a leaf is unset, and no part runs
 pub record AreBlank (cells : Column Cell) (leaves : Column Value) (tops around : Column (Option ℕ)) : Type 0 where

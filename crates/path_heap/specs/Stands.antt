@@ -1,5 +1,5 @@
 -- When numbers stand for the parts, the leaves and the objects of a run.
-use Rattle.std.specs.Prelude.{◌≡◌, ℕ, ◌≤◌, ◌^◌, Some, List, length, slice_get}
+use Rattle.std.specs.Prelude.{◌≡◌, ◌-◌, ℕ, ◌≤◌, ◌^◌, Some, List, length, slice_get}
 use Rattle.cxx_hierarchy.specs.declared.records.ClassId.{ClassId}
 use Rattle.cxx_hierarchy.specs.Classes.{Classes}
 use Rattle.cxx_hierarchy.specs.Hierarchies.{IsHierarchy}
@@ -60,7 +60,7 @@ pub record CellStands (h : Classes) (s : Objects) (cells : List Cell) (y : Node)
   pub listed : slice_get cells y.number ≡ Some cell
   pub phase : phase_of cell.phase ≡ s.phases.phase y.part
   pub class : HasBegun s y.part → cell.class ≡ y.class
-  pub owner : HasBegun s y.part → HasOwner h s.classes y cell.whole cell.owner
+  pub owner : HasBegun s y.part → HasOwner h s.classes y (y.number - cell.back) cell.owner
 
 -- the value of the leaf of number n
 pub record LeafStands (h : Classes) (s : Objects) (leaves : List ValueCode) (n : ℕ) (l : Leaf) : Type 0 where

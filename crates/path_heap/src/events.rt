@@ -15,6 +15,7 @@ ghost use Rattle.path_heap.specs.invariants.Columns.{Marked, Entered, Left, Clos
 
 use crate::heap::Heap;
 use crate::lists::set;
+use crate::parts::back_of;
 use crate::state::{Cell, NumberedPart, ObjectRow, Phase};
 use foundation::NoMemory;
 
@@ -26,7 +27,7 @@ impl Heap {
         let cell = Cell {
             phase,
             class: part.class,
-            whole: part.whole,
+            back: back_of(part),
             owner: part.owner,
         };
         self.cells.set(part.number, cell)?;

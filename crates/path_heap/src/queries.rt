@@ -17,6 +17,7 @@ ghost use Rattle.path_heap.specs.invariants.Cuts.{IsObjectAt};
 
 use crate::heap::Heap;
 use crate::lists::object_at;
+use crate::parts::whole_behind;
 use crate::state::{Cell, NumberedPart, ObjectRow, Phase};
 use cxx_hierarchy::ClassId;
 
@@ -111,7 +112,7 @@ impl Heap {
     pub fn whole(&self, n: u64) -> u64
         ensures { (h : Classes) (s : Objects) (p : ObjectPart) → HeapStands h self.now s → Points h s.classes n p → HasBegun s p → PointsWhole h s.classes result p }
     {
-        self.cell(n).whole
+        whole_behind(n, self.cell(n).back)
     }
 
     /// The class of the complete object of a part that has begun.
@@ -129,7 +130,7 @@ impl Heap {
         NumberedPart {
             number: n,
             class: cell.class,
-            whole: cell.whole,
+            whole: whole_behind(n, cell.back),
             owner: cell.owner,
         }
     }
@@ -138,14 +139,15 @@ impl Heap {
     pub fn is_in_heap_object(&self, n: u64) -> bool
         ensures { (h : Classes) (s : Objects) (p : ObjectPart) → HeapStands h self.now s → Points h s.classes n p → HasBegun s p → is_in_heap_object p.owner ≡ result }
     {
-        self.row(self.object_at(n)).start == self.cell(n).whole
+        self.row(self.object_at(n)).start == whole_behind(n, self.cell(n).back)
     }
 
     /// The number of the view of the complete object of a part that has begun, and None where it has no view.
     pub fn view(&self, n: u64) -> Option<u64>
         ensures { (h : Classes) (s : Objects) (p : ObjectPart) → HeapStands h self.now s → Points h s.classes n p → HasBegun s p → PointsView h s.classes p result (view_of h s p) }
     {
-        let whole = self.cell(n).whole;
+        let own = self.cell(n);
+        let whole = whole_behind(n, own.back);
         view_of_whole(self.cell(whole).phase, whole, self.top(whole))
     }
 }

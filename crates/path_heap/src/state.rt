@@ -34,17 +34,18 @@ pub enum Value {
 #[derive(Clone, Copy)]
 pub struct NumberedPart {
     pub number: u64,
-    pub class: ClassId,
     pub whole: u64,
+    pub class: ClassId,
     pub owner: ClassId,
 }
 
-/// What is kept of a part: its phase, and, once it has begun, its class, and the number and the class of its complete object.
+/// What is kept of a part: its phase, and, once it has begun, its class, how far its number stands behind that of its complete
+/// object, and the class of that.
 #[derive(Clone, Copy)]
 pub struct Cell {
     pub phase: Phase,
     pub class: ClassId,
-    pub whole: u64,
+    pub back: u32,
     pub owner: ClassId,
 }
 
@@ -52,14 +53,14 @@ pub struct Cell {
 pub(crate) const BLANK: Cell = Cell {
     phase: Phase::Raw,
     class: ClassId(0),
-    whole: 0,
+    back: 0,
     owner: ClassId(0),
 };
 
 /// A heap object: its class, the number of its whole, and whether its destruction has ended.
 #[derive(Clone, Copy)]
 pub struct ObjectRow {
-    pub class: ClassId,
     pub start: u64,
+    pub class: ClassId,
     pub is_closed: bool,
 }

@@ -17,6 +17,7 @@ ghost use Rattle.path_heap.specs.Stands.{HeapStands, HasBegun};
 ghost use Rattle.path_heap.specs.invariants.Distances.{IsPathDistance, IsSharedDistance};
 
 use crate::heap::Heap;
+use crate::parts::whole_behind;
 use cxx_hierarchy::{ClassId, FieldType, Hierarchy, Member};
 use cxx_subobject::{Root, Subobject};
 use path_numbers::Numbers;
@@ -129,7 +130,7 @@ impl Heap {
         let path = below_first(i.path.as_slice());
         match i.root {
             Root::Whole => n.wrapping_add(path_distance(numbers, h, cell.class, path)),
-            Root::Shared(v) => cell.whole.wrapping_add(shared_distance(
+            Root::Shared(v) => whole_behind(n, cell.back).wrapping_add(shared_distance(
                 numbers, h, cell.owner, v,
             ).wrapping_add(path_distance(numbers, h, v, path))),
         }
@@ -156,8 +157,9 @@ impl Heap {
                 let far = shared_distance(numbers, h, cell.owner, v);
                 let near = shared_distance(numbers, h, c, v);
                 // a cut at 0 is never met: what lies in a virtual base has no number below its own
-                cell.whole
-                    .wrapping_add(far.wrapping_add((x as u64).saturating_sub(near)))
+                whole_behind(n, cell.back).wrapping_add(far.wrapping_add(
+                    (x as u64).saturating_sub(near),
+                ))
             }
         }
     }

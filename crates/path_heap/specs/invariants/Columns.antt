@@ -1,5 +1,5 @@
 -- What a call changes in the columns of the heap, over numbers alone.
-use Rattle.std.specs.Prelude.{◌≡◌, ◌≤◌, ◌^◌, ◌+◌, ℕ, true, false, nat_eq, if◌then◌else◌, Option, Some, None, [], ◌∷◌, ◌++◌, length, replicate, slice_get, slice_set}
+use Rattle.std.specs.Prelude.{◌≡◌, ◌≤◌, ◌^◌, ◌+◌, ◌-◌, ◌%◌, ℕ, true, false, nat_eq, if◌then◌else◌, Option, Some, None, [], ◌∷◌, ◌++◌, length, replicate, slice_get, slice_set}
 use Rattle.cxx_hierarchy.specs.declared.records.ClassId.{ClassId}
 use Rattle.cxx_subobject.specs.Parts.{most_parts}
 use Rattle.path_heap.specs.declared.state.Phase.{Phase}
@@ -46,7 +46,7 @@ view_number Ended whole top = top
 
 -- the part's cell in another phase
 abbrev pub marked_cell : Phase → NumberedPart → Cell
-marked_cell phase part = record { phase = phase; class = part.class; whole = part.whole; owner = part.owner }
+marked_cell phase part = record { phase = phase; class = part.class; back = (part.number - part.whole) % 2 ^ 32; owner = part.owner }
 
 -- one cell is in another phase, and nothing else has changed
 pub record Marked (old new : Heap) (part : NumberedPart) (phase : Phase) : Type 0 where

@@ -11,4 +11,5 @@ returns-in-Whole c = λ s p class stands q begun is_class sub.
 pub returns-in-Shared : goal.returns-in-Shared
 returns-in-Shared c = λ s p class stands q begun is_class sub.
     shared_reached c.args.h.now c.args.self.now s stands c.args.n p q begun class is_class c.cell-cell.result c.cell-cell.ensures c.args.i.now sub c.in-Shared.v c.in-Shared.is c.below_first-path.result.now (c.below_first-path.ensures ∙ ap tail_of c.as_slice.ensures)
-    c.shared_distance.result c.path_distance-in-Shared.result ((c.cell-cell.result.whole + (c.shared_distance.result + c.path_distance-in-Shared.result) % 18446744073709551616) % 18446744073709551616) c.shared_distance.ensures c.path_distance-in-Shared.ensures refl
+    c.shared_distance.result c.path_distance-in-Shared.result ((c.whole_behind.result + (c.shared_distance.result + c.path_distance-in-Shared.result) % 18446744073709551616) % 18446744073709551616) c.shared_distance.ensures c.path_distance-in-Shared.ensures
+    (ap (λ t. (t + (c.shared_distance.result + c.path_distance-in-Shared.result) % 18446744073709551616) % 18446744073709551616) c.whole_behind.ensures)

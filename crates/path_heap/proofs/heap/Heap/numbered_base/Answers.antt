@@ -1,4 +1,4 @@
-use Rattle.std.proofs.Common.{◌+◌, ◌%◌, ap, refl}
+use Rattle.std.proofs.Common.{◌+◌, ◌-◌, ◌%◌, ◌∙◌, ap, refl}
 use Rattle.path_heap.proofs.Reaching.{numbered_whole, numbered_shared}
 use Rattle.path_heap.proofs.heap.Heap.numbered_base.Goals as goal
 
@@ -12,5 +12,5 @@ returns-in-Shared c = λ s p stands q begun class sub is.
     let far = c.shared_distance-far.result in
     let behind = c.saturating_sub.result in
     numbered_shared c.args.h.now c.args.self.now s stands c.args.n p q begun c.args.c class cell c.cell-cell.ensures c.args.i.now sub c.in-Shared.v c.in-Shared.is
-    far c.shared_distance-near.result c.args.x ((cell.whole + (far + behind) % 18446744073709551616) % 18446744073709551616) c.shared_distance-far.ensures c.shared_distance-near.ensures c.ranges.x.fits is
-    (ap (λ t. (cell.whole + (far + t) % 18446744073709551616) % 18446744073709551616) c.saturating_sub.ensures)
+    far c.shared_distance-near.result c.args.x ((c.whole_behind.result + (far + behind) % 18446744073709551616) % 18446744073709551616) c.shared_distance-far.ensures c.shared_distance-near.ensures c.ranges.x.fits is
+    (ap (λ t. (t + (far + behind) % 18446744073709551616) % 18446744073709551616) c.whole_behind.ensures ∙ ap (λ t. (c.args.n - cell.back + (far + t) % 18446744073709551616) % 18446744073709551616) c.saturating_sub.ensures)
