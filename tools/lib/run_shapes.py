@@ -148,4 +148,11 @@ def deep_members(part):
     return f"{chain}struct H {{ H() {{ X* p = new X; }} }};\nstruct X : H {{ C{count - 1} m[60]; }};\nint main() {{ X* p = new X; }}\n"
 
 
+def open_bases(part):
+    """Objects of a chain of 960 classes, each made by the constructor of the last base of the one before, until 4,096 are open: the most parts that are known to be open at once."""
+    count = 960 // part
+    chain = "".join(f"struct C{n} : C{n - 1} {{}};\n" for n in range(1, count))
+    return f"struct C0 {{ C0() {{ X* p = new X; }} }};\n{chain}struct X : C{count - 1} {{}};\nint main() {{ X* p = new X; }}\n"
+
+
 RUNS = [loop, calls, thunks, shared_thunks, casts, cross_casts, small_news, news, deep_news, shared_news, copies, many_objects, text, dump, dumps]

@@ -55,9 +55,10 @@ def made_row(shape):
     return row("run", shape, lambda part: shapes.with_main(shape(part)))
 
 
-def room_row(shape, limit, most):
-    """A run by `paths` that meets a limit, with the megabytes that it may have in use."""
-    return Row(f"paths-{spelled(shape)}", "paths", spelled(shape), lambda part: ["paths", "--steps", BUDGET], shape, limit=limit, most=most)
+def room_row(shape, limit, most, command="paths"):
+    """A run that meets a limit, with the megabytes that it may have in use."""
+    what = spelled(shape) if command == "paths" else f"{spelled(shape)} by {command}"
+    return Row(f"{command}-{spelled(shape)}", "paths", what, lambda part: [command, "--steps", BUDGET], shape, limit=limit, most=most)
 
 
 def gen_row():
@@ -69,7 +70,8 @@ def rows():
     return [*[run_row(shape, command, unit) for shape, unit in RUNS for command in ("run", "paths")], gen_row(),
             *[row("check", shape) for shape in TEXTS + HIERARCHIES + WORST], *[row(command, shape) for command in ("layout", "tables") for shape in HIERARCHIES],
             *[row("run", shape) for shape in PROGRAMS], *[made_row(shape) for shape in MADE],
-            room_row(run_shapes.large_arrays, "limit L8", 50), room_row(run_shapes.deep_members, "limit L10", 50)]
+            room_row(run_shapes.large_arrays, "limit L8", 50), room_row(run_shapes.deep_members, "limit L10", 50),
+            room_row(run_shapes.open_bases, "limit L10", 300), room_row(run_shapes.open_bases, "limit L10", 300, "run")]
 
 
 @dataclass
