@@ -58,11 +58,11 @@ class Halving(unittest.TestCase):
 
 @support.needs_program
 class Depth(unittest.TestCase):
-    def test_each_command_does_with_256_kb(self):
+    def test_each_command_does_with_288_kb(self):
         """A run that needs more is ended by a signal. The system begins a stack at a place by chance, so that one of five goes counts; what the environment says lies on it too."""
         few = {"PATH": os.environ.get("PATH", os.defpath), "TAGYMELUR": os.path.abspath(program.path())}
         with unittest.mock.patch.dict(os.environ, few, clear=True):
-            ended = [f"{row.name()}, {row.what}" for row in deep.rows() if all(stack.answer(row.words, row.source, 256).status < 0 for _ in range(5))]
+            ended = [f"{row.name()}, {row.what}" for row in deep.rows() if all(stack.answer(row.words, row.source, 288).status < 0 for _ in range(5))]
         self.assertEqual(ended, [])
 
 
