@@ -60,19 +60,19 @@ def columns():
     return "".join(chains) + f"struct D : {', '.join(f'C{c}_{HEIGHT - 1}' for c in range(COLUMNS))} {{}};\n"
 
 
-def casts_to(name, part):
+def casts_to(name, number):
     before = Piece("D* d = new D; C0_0* p = d; ", made(COLUMNS * HEIGHT + 1) + 1)
-    return turns(columns(), before, Piece(f"{name}* q = dynamic_cast<{name}*>(p); ", 1), 10_000 // part)
+    return turns(columns(), before, Piece(f"{name}* q = dynamic_cast<{name}*>(p); ", 1), number)
 
 
 def casts(part):
     """A dynamic_cast from an innermost base to the class of an object with 1,000 subobjects."""
-    return casts_to("D", part)
+    return casts_to("D", 500_000 // part)
 
 
 def cross_casts(part):
     """A dynamic_cast from an innermost base of the first column to that of the last, in the same object."""
-    return casts_to(f"C{COLUMNS - 1}_0", part)
+    return casts_to(f"C{COLUMNS - 1}_0", 10_000 // part)
 
 
 def small_news(part):

@@ -65,7 +65,7 @@ class LargeSource(unittest.TestCase):
     def test_the_whole_of_a_run_is_within_the_budget(self):
         for shape in run_shapes.RUNS:
             self.assertLessEqual(shape(1).steps, 4_000_000, shape.__name__)
-        self.assertEqual(program.answer(["run"], run_shapes.casts(SMALLEST).source), ("1000\n", 0))
+        self.assertEqual(program.answer(["run"], run_shapes.casts(SMALLEST).source), ("50000\n", 0))
         self.assertEqual(program.answer(["run"], run_shapes.cross_casts(SMALLEST).source), ("1000\n", 0))
 
     @support.needs_program
