@@ -1,8 +1,9 @@
 -- From what the program's call says of a sink to what stands in a buffer.
-use Rattle.std.proofs.Common.{◌≡◌, ℕ, ◌<◌, Option, Some, None, List, [], ◌++◌, take, drop, length, refl, sym, ◌∙◌, ap, subst, arith}
+use Rattle.std.proofs.Common.{◌≡◌, ℕ, ◌<◌, ◌⊎◌, inl, inr, Option, Some, None, List, [], ◌++◌, take, drop, length, refl, sym, ◌∙◌, ap, subst, arith}
 use Rattle.std.proofs.lemmas.List.{append_assoc, take-append-drop}
 use Rattle.cxxabi_cmd.specs.declared.status.Status.{Status}
 use Rattle.cxxabi_cmd.specs.declared.status.Status.TheVariants.{Done, Refused, BadInput, Usage, Undefined, OutOfSteps, Limit, ReadFault, WriteFault, NoMemory}
+use Rattle.cxxabi_streams.specs.Streams.{Rose}
 use Rattle.cxxabi_cmd.specs.Statuses.{exit_status}
 use Rattle.cxxabi_cmd.specs.Output.{WritesAnswer, BreaksOff, IsAnswerWritten, IsSilent}
 use Rattle.tagymelur_c.specs.Answered.{IsWhole, IsAnswerFront}
@@ -100,3 +101,21 @@ front_of_fault words bytes taken text before after (Limit limit) b a e breaks is
 front_of_fault words bytes taken text before after Usage b a e breaks is = absurd (omega (arith, is))
 front_of_fault words bytes taken text before after ReadFault b a e breaks is = absurd (omega (arith, is))
 front_of_fault words bytes taken text before after NoMemory b a e breaks is = absurd (omega (arith, is))
+
+-- a code other than that of a fault of the source
+pub code_of_no_fault : (status : Status) → (status ≡ ReadFault → ⊥) → (exit_status status < 6) ⊎ (6 < exit_status status)
+code_of_no_fault Done other = inl (omega arith)
+code_of_no_fault (Refused rule at) other = inl (omega arith)
+code_of_no_fault (BadInput rule line) other = inl (omega arith)
+code_of_no_fault (Undefined number line) other = inl (omega arith)
+code_of_no_fault OutOfSteps other = inl (omega arith)
+code_of_no_fault (Limit limit) other = inl (omega arith)
+code_of_no_fault Usage other = inl (omega arith)
+code_of_no_fault ReadFault other = absurd (other refl)
+code_of_no_fault WriteFault other = inr (omega arith)
+code_of_no_fault NoMemory other = inr (omega arith)
+
+-- a count that is always 0 does not rise
+pub never_rose : Rose 0 0 → ⊥
+never_rose (inl more) = omega (arith, more)
+never_rose (inr last) = omega (arith, last)

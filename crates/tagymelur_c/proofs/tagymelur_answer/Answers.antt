@@ -1,10 +1,10 @@
-use Rattle.std.proofs.Common.{ℕ, ◌≡◌, ◌<◌, take, List, map, string_bytes, String, Global, Some, refl, ap, sym, ◌∙◌, subst}
+use Rattle.std.proofs.Common.{ℕ, ◌≡◌, ◌<◌, ◌⊎◌, take, List, map, string_bytes, String, Global, Some, refl, ap, sym, ◌∙◌, subst}
 use Rattle.cxxabi_streams.specs.declared.sinks.BytesSink.{BytesSink}
 use Rattle.cxxabi_streams.specs.BytesStreams.{bytes_taken}
 use Rattle.cxxabi_cmd.specs.Statuses.{exit_status}
 use Rattle.tagymelur_c.specs.Words.{words_in}
 use Rattle.tagymelur_c.specs.Answered.{IsWhole, IsAnswerFront}
-use Rattle.tagymelur_c.proofs.AnsweredLemmas.{whole_of, front_of, front_of_fault}
+use Rattle.tagymelur_c.proofs.AnsweredLemmas.{whole_of, front_of, front_of_fault, code_of_no_fault, never_rose}
 use Rattle.tagymelur_c.proofs.tagymelur_answer.Goals as goal
 
 pub returns-then-put_front-clause-whole : goal.returns-then-put_front-clause-whole
@@ -33,3 +33,8 @@ returns-clause-front g c =
     (g.run_cxxabi-status.ensures.answered g.args.source.now (λ command says reads. g.new-source.ensures.remaining ∙ ap (λ (bytes : List ℕ). Some bytes) g.in-Ok-from_slice.ensures.items))
     (g.run_cxxabi-status.ensures.breaks_off g.args.source.now (λ command says reads. g.new-source.ensures.remaining ∙ ap (λ (bytes : List ℕ). Some bytes) g.in-Ok-from_slice.ensures.items))
     (λ silent. ap (λ (sink : BytesSink). Some (bytes_taken sink)) (g.run_cxxabi-status.ensures.silent silent))))
+
+pub returns-then-put_front-clause-no_fault : goal.returns-then-put_front-clause-no_fault
+returns-then-put_front-clause-no_fault c =
+    subst (λ (code : ℕ). (code < 6) ⊎ (6 < code)) (sym c.code-then-put_front.ensures)
+    (code_of_no_fault c.run_cxxabi-status.result (λ e. never_rose (c.run_cxxabi-status.ensures.read_fault e)))
