@@ -9,7 +9,7 @@ use Rattle.abi_slots.proofs.Lists.{get_past}
 use Rattle.cxx_hierarchy.specs.declared.records.ClassId.{ClassId}
 use Rattle.cxx_program.specs.declared.statement.TypedStatement.{TypedStatement}
 use Rattle.cxx_program.specs.declared.program.TypedBody.{TypedBody}
-use Rattle.path_plan.specs.Plans.{Form}
+use Rattle.path_plan.specs.declared.form.Form.{Form}
 use Rattle.byte_code.specs.declared.code.Block.{Block}
 use Rattle.code_ops.specs.declared.routines.Course.{Course}
 use Rattle.code_ops.specs.Setups.{Setup, Routine, MainCode, FunctionCode, PlanCode, body_of_routine}

@@ -9,11 +9,11 @@ use Rattle.cxx_program.specs.declared.program.TypedBody.{TypedBody}
 use Rattle.path_model.specs.States.{owned_body, is_body}
 use Rattle.code_ops.specs.declared.routines.Course.{Course}
 use Rattle.code_ops.specs.Setups.{Setup, Routine, PlanCode, body_of_routine, routine_owner}
-use Rattle.code_blocks.specs.declared.items.Form.{Form as FormCode}
+use Rattle.path_plan.specs.declared.form.Form.{Form}
 use Rattle.code_blocks.specs.declared.items.Item.{Item as ItemCode}
 use Rattle.code_blocks.specs.Items.{Item, Does, Shares, Inherits, Holds}
 use Rattle.code_blocks.specs.Blocks.{items}
-use Rattle.code_blocks.specs.invariants.ItemCodes.{item_code, item_codes, code_form}
+use Rattle.code_blocks.specs.invariants.ItemCodes.{item_code, item_codes}
 use Rattle.abi_lower.specs.declared.routines.Routine.{Routine as RoutineCode}
 use Rattle.abi_lower.specs.declared.routines.Routine.TheVariants.{Main, Function, Plan}
 use Rattle.abi_lower.specs.Bounds.{body_blocks}
@@ -36,14 +36,14 @@ codes_own has (i ∷ list) =
     ∙ sym (sum_by-cons (λ (o : Item). cond (is_own_item has o) 1 0) i list)
 
 -- the own events of a plan
-pub plan_counted : (x : Setup) (r : RoutineCode) (course : Course) (form : FormCode) (c : ClassId) (owner : Owner) (n : ℕ) (has : Bool) (codes : List ItemCode) → r ≡ Plan course form c → owner ≡ routine_owner (PlanCode course (code_form form) c) →
-    has ≡ is_body (owned_body x.program owner) → codes ≡ item_codes (items x course (code_form form) c) → n ≡ count_by (is_own_code has) codes → n ≡ own_events x (routine_from r)
+pub plan_counted : (x : Setup) (r : RoutineCode) (course : Course) (form : Form) (c : ClassId) (owner : Owner) (n : ℕ) (has : Bool) (codes : List ItemCode) → r ≡ Plan course form c → owner ≡ routine_owner (PlanCode course form c) →
+    has ≡ is_body (owned_body x.program owner) → codes ≡ item_codes (items x course form c) → n ≡ count_by (is_own_code has) codes → n ≡ own_events x (routine_from r)
 unfolding own_events
 plan_counted x r course form c owner n has codes is of body list counted =
-    let plan = PlanCode course (code_form form) c in
+    let plan = PlanCode course form c in
     let same : has ≡ is_body (body_of_routine x plan) = body ∙ ap (λ (o : Owner). is_body (owned_body x.program o)) of in
     counted ∙ ap (λ (b : Bool). count_by (is_own_code b) codes) same ∙ ap (λ (l : List ItemCode). count_by (is_own_code (is_body (body_of_routine x plan))) l) list
-    ∙ codes_own (is_body (body_of_routine x plan)) (items x course (code_form form) c) ∙ ap (λ (q : RoutineCode). own_events x (routine_from q)) (sym is)
+    ∙ codes_own (is_body (body_of_routine x plan)) (items x course form c) ∙ ap (λ (q : RoutineCode). own_events x (routine_from q)) (sym is)
 
 -- `main` and a function have none
 pub none_counted : (x : Setup) (r : RoutineCode) → (r ≡ Main) ⊎ ((f : FunctionId) × (r ≡ Function f)) → 0 ≡ own_events x (routine_from r)

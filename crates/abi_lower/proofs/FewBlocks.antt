@@ -20,7 +20,9 @@ use Rattle.cxx_program.specs.declared.program.Owner.TheVariants.{Main, Function,
 use Rattle.cxx_program.specs.declared.program.TypedBody.{TypedBody}
 use Rattle.cxx_program.specs.Typed.{IsTypedProgram}
 use Rattle.cxx_search.proofs.Finding.{finds_some}
-use Rattle.path_plan.specs.Plans.{Form, InFull, AsBase, count_from, upto, backwards, virtual_order}
+use Rattle.path_plan.specs.declared.form.Form.{Form}
+use Rattle.path_plan.specs.declared.form.Form.TheVariants.{InFull, AsBase}
+use Rattle.path_plan.specs.Plans.{count_from, upto, backwards, virtual_order}
 use Rattle.path_model.specs.States.{same_owner, owned_body, plan_bodies, is_body}
 use Rattle.path_model.proofs.TypedBodies.{body_typed, same_function_itself}
 use Rattle.code_ops.specs.declared.routines.Course.{Course}

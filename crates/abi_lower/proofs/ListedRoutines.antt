@@ -13,7 +13,9 @@ use Rattle.cxx_program.specs.declared.program.Owner.TheVariants.{Main, Function,
 use Rattle.cxx_program.specs.declared.program.TypedBody.{TypedBody}
 use Rattle.cxx_program.specs.declared.program.TypedProgram.{TypedProgram}
 use Rattle.cxx_program.specs.Typed.{IsTypedProgram}
-use Rattle.path_plan.specs.Plans.{Form, InFull, AsBase, upto, count_from}
+use Rattle.path_plan.specs.declared.form.Form.{Form}
+use Rattle.path_plan.specs.declared.form.Form.TheVariants.{InFull, AsBase}
+use Rattle.path_plan.specs.Plans.{upto, count_from}
 use Rattle.path_plan.proofs.Members.{has_count, count_has}
 use Rattle.path_model.specs.States.{same_owner, owned_body, is_body}
 use Rattle.path_model.proofs.TypedBodies.{body_typed, same_function_itself}

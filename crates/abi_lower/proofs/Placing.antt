@@ -5,7 +5,7 @@ use Rattle.cxx_hierarchy.specs.declared.records.ClassId.{ClassId}
 use Rattle.cxx_overrider.specs.declared.FunctionId.{FunctionId}
 use Rattle.cxx_program.specs.declared.program.TypedBody.{TypedBody}
 use Rattle.cxx_program.specs.Typed.{IsTypedProgram}
-use Rattle.path_plan.specs.Plans.{Form}
+use Rattle.path_plan.specs.declared.form.Form.{Form}
 use Rattle.byte_code.specs.declared.code.Block.{Block}
 use Rattle.byte_code.specs.declared.code.Code.{Code}
 use Rattle.abi_slots.specs.declared.code_numbers.BlockKind.{BlockKind}

@@ -4,7 +4,7 @@ use Rattle.std.specs.Prelude.{if◌then◌else◌, option_to_list}
 use Rattle.std.proofs.lemmas.List.{append-nil, length-map, drop-map, take_rest, take-append-drop}
 use Rattle.std.specs.List.{count_by}
 use Rattle.cxx_hierarchy.specs.declared.records.ClassId.{ClassId}
-use Rattle.path_plan.specs.Plans.{Form}
+use Rattle.path_plan.specs.declared.form.Form.{Form}
 use Rattle.abi_slots.specs.declared.code_numbers.CodeRow.{CodeRow}
 use Rattle.byte_code.specs.declared.code.Block.{Block}
 use Rattle.code_ops.specs.declared.routines.Course.{Course}
@@ -16,7 +16,7 @@ use Rattle.code_blocks.specs.declared.items.Kind.TheVariants.{AtBegin, AtReady, 
 use Rattle.code_blocks.specs.Items.{Item, Does, Shares, Inherits, Holds}
 use Rattle.code_blocks.specs.Blocks.{Place, items, next_place, behind_body, plan_tail, event_block, closing_ops}
 use Rattle.code_blocks.specs.Lowered.{own_block}
-use Rattle.code_blocks.specs.invariants.ItemCodes.{item_code, item_codes, code_form}
+use Rattle.code_blocks.specs.invariants.ItemCodes.{item_code, item_codes}
 use Rattle.code_plans.specs.Tails.{AreLeft, StartsBy}
 use Rattle.abi_lower.specs.invariants.Numbers.{own_count, own_events, code_rows, block_number}
 use Rattle.abi_lower.specs.invariants.Codes.{is_own_code, is_body_code, is_body_next}
@@ -66,10 +66,10 @@ module _ (x : Setup) (course : Course) (form : Form) (c : ClassId) where
 
 -- the number that code finds is that of the next place
 pub next_is : (x : Setup) (numbers : List CodeRow) (run : PlanRun) (codes : List ItemCode) (done next : ℕ) (left : List Item) → IsPlanRun x numbers run → codes ≡ item_codes left → done + count_by (is_own_code run.has_body) codes ≡ run.own →
-    next ≡ (if is_body_next codes then run.first + run.own else run.first + done) → block_number x (next_place run.plan.course (code_form run.plan.form) run.plan.class left) ≡ next
+    next ≡ (if is_body_next codes then run.first + run.own else run.first + done) → block_number x (next_place run.plan.course run.plan.form run.plan.class left) ≡ next
 next_is x numbers run codes done next left known is count made =
     let course = run.plan.course in
-    let form = code_form run.plan.form in
+    let form = run.plan.form in
     let c = run.plan.class in
     let begins : run.first ≡ start x course form c = known.begins ∙ ap (λ (l : List CodeRow). start_by x l (PlanCode course form c)) known.rows in
     let counted : count_by (is_own_code run.has_body) codes ≡ own_count (has x course form c) left = ap (λ (b : Bool). count_by (is_own_code b) codes) known.body ∙ ap (λ (l : List ItemCode). count_by (is_own_code (has x course form c)) l) is ∙ codes_own (has x course form c) left in
@@ -189,18 +189,18 @@ left_behind x course form c codes is = let r = behind_end (items x course form c
 pub all_own : (x : Setup) (numbers : List CodeRow) (run : PlanRun) (codes : List ItemCode) → IsPlanRun x numbers run → codes ≡ plan_items x run.plan → count_by (is_own_code run.has_body) codes ≡ run.own
 unfolding own_events
 all_own x numbers run codes known is =
-    let flag = has x run.plan.course (code_form run.plan.form) run.plan.class in
+    let flag = has x run.plan.course run.plan.form run.plan.class in
     ap (λ (b : Bool). count_by (is_own_code b) codes) known.body ∙ ap (λ (l : List ItemCode). count_by (is_own_code flag) l) is
-    ∙ codes_own flag (items x run.plan.course (code_form run.plan.form) run.plan.class) ∙ sym known.counted
+    ∙ codes_own flag (items x run.plan.course run.plan.form run.plan.class) ∙ sym known.counted
 
 -- no more own events are left than there are
-pub behind_low : (x : Setup) (numbers : List CodeRow) (run : PlanRun) (codes : List ItemCode) → IsPlanRun x numbers run → codes ≡ item_codes (behind_body (items x run.plan.course (code_form run.plan.form) run.plan.class)) →
+pub behind_low : (x : Setup) (numbers : List CodeRow) (run : PlanRun) (codes : List ItemCode) → IsPlanRun x numbers run → codes ≡ item_codes (behind_body (items x run.plan.course run.plan.form run.plan.class)) →
     count_by (is_own_code run.has_body) codes ≤ run.own
 unfolding own_events
 behind_low x numbers run codes known is =
-    let plan = items x run.plan.course (code_form run.plan.form) run.plan.class in
+    let plan = items x run.plan.course run.plan.form run.plan.class in
     let r = behind_end plan in
-    let flag = has x run.plan.course (code_form run.plan.form) run.plan.class in
+    let flag = has x run.plan.course run.plan.form run.plan.class in
     let left : count_by (is_own_code run.has_body) codes ≡ own_count flag (behind_body plan) = ap (λ (b : Bool). count_by (is_own_code b) codes) known.body ∙ ap (λ (l : List ItemCode). count_by (is_own_code flag) l) is ∙ codes_own flag (behind_body plan) in
     let whole : own_count flag plan ≡ own_count flag r.0 + own_count flag (behind_body plan) = ap (own_count flag) (sym r.1) ∙ own_both flag r.0 (behind_body plan) in
     let counted : run.own ≡ own_count flag plan = known.counted in omega arith

@@ -12,7 +12,7 @@ use Rattle.cxx_program.specs.declared.program.Owner.TheVariants.{Function}
 use Rattle.cxx_program.specs.declared.program.TypedBody.{TypedBody}
 use Rattle.cxx_program.specs.declared.program.TypedProgram.{TypedProgram}
 use Rattle.cxx_program.specs.Typed.{HasBody, IsTypedProgram}
-use Rattle.path_plan.specs.Plans.{Form}
+use Rattle.path_plan.specs.declared.form.Form.{Form}
 use Rattle.path_numbers.specs.declared.numbers.ClassNumbers.{ClassNumbers}
 use Rattle.path_bodies.specs.declared.index.BodyIndex.{BodyIndex}
 use Rattle.path_model.specs.States.{owned_body, is_body}

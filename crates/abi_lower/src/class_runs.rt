@@ -5,7 +5,6 @@ ghost use Rattle.std.specs.List.{flat_map};
 ghost use Rattle.code_ops.specs.Setups.{PlanCode};
 ghost use Rattle.code_ops.specs.Routines.{IsRoutine};
 ghost use Rattle.code_blocks.specs.Blocks.{items};
-ghost use Rattle.code_blocks.specs.invariants.ItemCodes.{code_form};
 ghost use Rattle.code_plans.specs.Settings.{ArePointers};
 ghost use Rattle.abi_lower.specs.invariants.Numbers.{class_ids};
 ghost use Rattle.abi_lower.specs.invariants.Runs.{routine_blocks as run_of, class_blocks};
@@ -17,11 +16,12 @@ use crate::plan_blocks::{PlanRun, end_of_body, push_events};
 use crate::routines::{Routine, owner};
 use abi_sound::SoundLayout;
 use byte_code::BlockList;
-use code_blocks::items::{Form, Item};
+use code_blocks::items::Item;
 use code_ops::routines::Course;
 use code_plans::{ClassPlan, ClassPointers, PlanSite};
 use cxx_hierarchy::ClassId;
 use foundation::NoMemory;
+use path_plan::Form;
 
 impl<'a, L: SoundLayout> BlockSite<'a, L> {
     /// How the virtual pointers of a class are set, for all its plans.
@@ -94,8 +94,8 @@ impl<'a, L: SoundLayout> BlockSite<'a, L> {
     ) -> Result<(), NoMemory>
         requires site { IsBlockSite L.lays_out L.rows self.now }
         requires pointers { ArePointers (block_setup L.rows self.now) class pointers.now }
-        requires routine { IsRoutine (block_setup L.rows self.now) (PlanCode course (code_form form) class) }
-        ensures { OnOk result (blocks.new ≡ blocks.old ++ run_of (block_setup L.rows self.now) (PlanCode course (code_form form) class)) }
+        requires routine { IsRoutine (block_setup L.rows self.now) (PlanCode course form class) }
+        ensures { OnOk result (blocks.new ≡ blocks.old ++ run_of (block_setup L.rows self.now) (PlanCode course form class)) }
     {
         let r = Routine::Plan(course, form, class);
         let all = self.lowering.items(course, form, class)?;

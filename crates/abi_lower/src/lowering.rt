@@ -5,14 +5,14 @@ ghost use Rattle.std.specs.Option.{option_copied};
 ghost use Rattle.path_bodies.specs.Places.{IsIndexOf};
 ghost use Rattle.code_ops.specs.Setups.{body_of_routine};
 ghost use Rattle.code_blocks.specs.Blocks.{items};
-ghost use Rattle.code_blocks.specs.invariants.ItemCodes.{item_codes, ArePlans, code_form};
+ghost use Rattle.code_blocks.specs.invariants.ItemCodes.{item_codes, ArePlans};
 ghost use Rattle.abi_lower.specs.invariants.Codes.{routine_from};
 ghost use Rattle.abi_lower.specs.invariants.Lowerings.{lowering_setup};
 
 use crate::routines::{Routine, owner};
 use abi_slots::Slots;
 use abi_sound::SoundLayout;
-use code_blocks::items::{Form, ItemList, Plans};
+use code_blocks::items::{ItemList, Plans};
 use code_ops::routines::Course;
 use cxx_hierarchy::{ClassId, Hierarchy};
 use cxx_overrider::Overriders;
@@ -20,6 +20,7 @@ use cxx_program::{TypedBody, TypedProgram};
 use foundation::NoMemory;
 use path_bodies::BodyIndex;
 use path_numbers::Numbers;
+use path_plan::Form;
 use std::alloc::Global;
 
 /// The classes with their layout, overriders and words, and the program with the places of its bodies and the order of virtual bases.
@@ -50,7 +51,7 @@ impl<'a, L: SoundLayout> Lowering<'a, L> {
     pub fn items(&self, course: Course, form: Form, c: ClassId) -> Result<ItemList, NoMemory>
         requires plans { ArePlans self.now.h.now self.now.program.now self.now.index.now self.now.orders.now }
         requires known { c.0 < length self.now.h.now }
-        ensures { IfOk result (λ list. list ≡ item_codes (items (lowering_setup L.rows self.now) course (code_form form) c)) }
+        ensures { IfOk result (λ list. list ≡ item_codes (items (lowering_setup L.rows self.now) course form c)) }
     {
         let plans = Plans {
             alloc: self.alloc,

@@ -4,7 +4,7 @@ ghost use Rattle.std.specs.Prelude.{◌≡◌, ◌<◌, ◌+◌, ◌++◌, ◌�
 ghost use Rattle.std.specs.List.{count_by};
 ghost use Rattle.code_blocks.specs.Blocks.{behind_body, closing_ops, event_block, items};
 ghost use Rattle.code_blocks.specs.Items.{Item as ItemOf};
-ghost use Rattle.code_blocks.specs.invariants.ItemCodes.{item_code, item_codes, code_form};
+ghost use Rattle.code_blocks.specs.invariants.ItemCodes.{item_code, item_codes};
 ghost use Rattle.code_plans.specs.PlanSites.{plan_setup};
 ghost use Rattle.code_plans.specs.Settings.{ArePointers};
 ghost use Rattle.code_plans.specs.Tails.{IsLeftOf};
@@ -69,7 +69,7 @@ fn push_event_block<L: SoundLayout>(
     requires run { IsRunAt L.lays_out L.rows site.now run }
     requires left { IsLeftOf L.rows site.now run.plan left.now }
     requires done { done + count_by (is_own_code run.has_body) left.now ≡ run.own }
-    ensures { OnOk result ((plan : List ItemOf) → left.now ≡ item_codes plan → blocks.new ≡ blocks.old ++ record { ops = event_block (plan_setup L.rows site.now) (block_number (plan_setup L.rows site.now)) run.plan.course (code_form run.plan.form) run.plan.class kind plan; line = 0 } ∷ []) }
+    ensures { OnOk result ((plan : List ItemOf) → left.now ≡ item_codes plan → blocks.new ≡ blocks.old ++ record { ops = event_block (plan_setup L.rows site.now) (block_number (plan_setup L.rows site.now)) run.plan.course run.plan.form run.plan.class kind plan; line = 0 } ∷ []) }
 {
     let mut ops = Sequence::new(site.alloc);
     let next = next_number(run, left, done);
@@ -118,7 +118,7 @@ pub fn push_events<L: SoundLayout>(
     requires run { IsRunAt L.lays_out L.rows site.now run }
     requires left { IsLeftOf L.rows site.now run.plan items.now }
     requires count { count_by (is_own_code run.has_body) items.now ≡ run.own }
-    ensures { OnOk result ((plan : List ItemOf) → items.now ≡ item_codes plan → blocks.new ≡ blocks.old ++ event_blocks (plan_setup L.rows site.now) (block_number (plan_setup L.rows site.now)) run.plan.course (code_form run.plan.form) run.plan.class plan) }
+    ensures { OnOk result ((plan : List ItemOf) → items.now ≡ item_codes plan → blocks.new ≡ blocks.old ++ event_blocks (plan_setup L.rows site.now) (block_number (plan_setup L.rows site.now)) run.plan.course run.plan.form run.plan.class plan) }
 {
     let mut done = 0;
     for (i, item) in items.iter().enumerate() {

@@ -6,17 +6,16 @@ ghost use Rattle.cxx_program.specs.declared.program.TypedBody.{TypedBody};
 ghost use Rattle.abi_sound.specs.declared.class_layout.ClassLayout.{ClassLayout};
 ghost use Rattle.code_ops.specs.Setups.{setup, routine_owner};
 ghost use Rattle.code_ops.specs.Routines.{routine_kind, plan_kind as plan_kind_of, plan_function as plan_function_of};
-ghost use Rattle.code_blocks.specs.invariants.ItemCodes.{code_form};
 ghost use Rattle.abi_lower.specs.invariants.Numbers.{main_routines, owned_routines, plain_routines, plan_routines, class_ids, routines};
 ghost use Rattle.abi_lower.specs.invariants.Codes.{routine_from, routines_from};
 
 use abi_slots::BlockKind;
-use code_blocks::items::Form;
 use code_ops::routines::{Course, constructor_of, destructor_of};
 use cxx_hierarchy::{ClassId, Hierarchy};
 use cxx_overrider::FunctionId;
 use cxx_program::{Owner, TypedBody, TypedProgram};
 use foundation::{NoMemory, Sequence};
+use path_plan::Form;
 use std::alloc::Global;
 
 /// What becomes code of its own: `main`, a function, or a plan of a class, for a complete object or for a base (Itanium C++ ABI 5.1.4.3).
@@ -44,7 +43,7 @@ pub fn owner(r: Routine) -> Owner
 
 /// The form of a function's code that a plan is.
 fn plan_kind(course: Course, form: Form) -> BlockKind
-    ensures { result ≡ plan_kind_of course (code_form form) }
+    ensures { result ≡ plan_kind_of course form }
 {
     match course {
         Course::Deletes => BlockKind::EndDeleting,

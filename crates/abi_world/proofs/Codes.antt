@@ -10,7 +10,7 @@ use Rattle.cxx_overrider.specs.declared.FunctionId.{FunctionId}
 use Rattle.cxx_overrider.specs.Functions.{Signature, named, destructor, signature_of, signature_in, signature_at, declaration_of, is_pure}
 use Rattle.cxx_search.specs.Searches.{destructor_of}
 use Rattle.cxx_program.specs.Typed.{IsTypedProgram}
-use Rattle.path_plan.specs.Plans.{InFull}
+use Rattle.path_plan.specs.declared.form.Form.TheVariants.{InFull}
 use Rattle.path_model.proofs.TypedBodies.{function_found}
 use Rattle.abi_slots.specs.declared.code_numbers.BlockKind.{BlockKind}
 use Rattle.abi_slots.specs.declared.code_numbers.CodeRow.{CodeRow}

@@ -11,7 +11,9 @@ use Rattle.cxx_hierarchy.specs.Classes.{bases_of, members_of}
 use Rattle.cxx_hierarchy.specs.Declarations.{elements_of}
 use Rattle.foundation.proofs.Truth.{split}
 use Rattle.foundation.proofs.Members.{Has, has_cases, has_right, from_flat_map}
-use Rattle.path_plan.specs.Plans.{Form, InFull, AsBase, upto, backwards, virtual_order}
+use Rattle.path_plan.specs.declared.form.Form.{Form}
+use Rattle.path_plan.specs.declared.form.Form.TheVariants.{InFull, AsBase}
+use Rattle.path_plan.specs.Plans.{upto, backwards, virtual_order}
 use Rattle.code_blocks.specs.Blocks.{items, behind_body}
 use Rattle.code_blocks.specs.Items.{Item, Does, Shares, Inherits, Holds, shared_base_items, base_items, init_items, body_items, typed_items, member_items}
 use Rattle.code_blocks.specs.Lowered.{IsEnd}

@@ -4,7 +4,8 @@ use Rattle.cxx_hierarchy.specs.declared.records.ClassId.{ClassId}
 use Rattle.cxx_subobject.specs.declared.Subobject.{Subobject}
 use Rattle.cxx_subobject.specs.Locations.{ObjectPart}
 use Rattle.path_plan.specs.Phases.{Phase, Raw, InBases, ReadyBuilding, Complete, ReadyEnding, EndingBases, Ended, Phases, is_running}
-use Rattle.path_plan.specs.Plans.{Form, InFull, AsBase}
+use Rattle.path_plan.specs.declared.form.Form.{Form}
+use Rattle.path_plan.specs.declared.form.Form.TheVariants.{InFull, AsBase}
 use Rattle.path_model.specs.Values.{Objects}
 use Rattle.byte_code.specs.declared.op.Phase.{Phase as BytePhase}
 use Rattle.byte_code.specs.declared.op.Phase.TheVariants.{Raw as ByteRaw}

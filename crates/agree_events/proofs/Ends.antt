@@ -9,7 +9,8 @@ use Rattle.foundation.proofs.Truth.{split, is_false, not_both}
 use Rattle.path_plan.specs.Places.{part, same_part}
 use Rattle.path_plan.specs.Phases.{Phase, Raw, EndingBases, Ended, Phases, phases_after}
 use Rattle.path_plan.specs.Views.{view}
-use Rattle.path_plan.specs.Plans.{Form, InFull, AsBase}
+use Rattle.path_plan.specs.declared.form.Form.{Form}
+use Rattle.path_plan.specs.declared.form.Form.TheVariants.{InFull, AsBase}
 use Rattle.path_plan.specs.Whole.{whole_part}
 use Rattle.path_plan.proofs.Same.{put_same, popped_same, part_same, part_itself, Owns}
 use Rattle.path_model.specs.Values.{Objects}

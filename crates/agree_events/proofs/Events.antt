@@ -15,7 +15,9 @@ use Rattle.cxx_subobject.specs.Locations.{ObjectPart}
 use Rattle.foundation.proofs.Truth.{split}
 use Rattle.path_plan.specs.Places.{base_part, shared_part, element}
 use Rattle.path_plan.specs.Phases.{PartEvent, Begin, Ready, Done, Ending, Bases, End}
-use Rattle.path_plan.specs.Plans.{Bodies, Form, InFull, AsBase, Inner, upto, backwards, virtual_order}
+use Rattle.path_plan.specs.declared.form.Form.{Form}
+use Rattle.path_plan.specs.declared.form.Form.TheVariants.{InFull, AsBase}
+use Rattle.path_plan.specs.Plans.{Bodies, Inner, upto, backwards, virtual_order}
 use Rattle.path_plan.specs.Pieces.{Piece, Own, Sub, expand, shared_pieces, base_pieces, init_pieces, body_pieces, typed_pieces, member_pieces, built_pieces, ended_pieces}
 use Rattle.path_plan.specs.Whole.{whole_part, construction, destruction}
 use Rattle.path_plan.proofs.Pieces.{plan_pieces, unplan_pieces}

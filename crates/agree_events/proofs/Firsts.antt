@@ -11,7 +11,8 @@ use Rattle.foundation.proofs.Deciding.{decide_number}
 use Rattle.foundation.proofs.Members.{has_from_contains}
 use Rattle.path_plan.specs.Places.{part, same_complete_object}
 use Rattle.path_plan.specs.Phases.{Phases, is_in_bases, is_running}
-use Rattle.path_plan.specs.Plans.{Form, InFull, AsBase}
+use Rattle.path_plan.specs.declared.form.Form.{Form}
+use Rattle.path_plan.specs.declared.form.Form.TheVariants.{InFull, AsBase}
 use Rattle.path_plan.specs.Whole.{whole_part, IsNew, IsSameBut}
 use Rattle.path_plan.proofs.Same.{owner_same}
 use Rattle.agree_parts.proofs.Made.{whole_made}

@@ -9,7 +9,8 @@ use Rattle.cxx_subobject.specs.declared.Subobject.{Subobject}
 use Rattle.cxx_subobject.specs.Subobjects.{whole_of, shared_base, base_subobject}
 use Rattle.cxx_subobject.specs.Locations.{ObjectPart}
 use Rattle.path_plan.specs.Places.{part, base_part, shared_part}
-use Rattle.path_plan.specs.Plans.{Form, InFull}
+use Rattle.path_plan.specs.declared.form.Form.{Form}
+use Rattle.path_plan.specs.declared.form.Form.TheVariants.{InFull}
 use Rattle.abi_slots.specs.Groups.{GoAlong}
 use Rattle.foundation.proofs.Places.{get_within}
 use Rattle.foundation.proofs.Truth.{split}

@@ -6,7 +6,8 @@ use Rattle.cxx_subobject.specs.Subobjects.{whole_of}
 use Rattle.foundation.proofs.Places.{contains_first}
 use Rattle.path_plan.specs.Places.{part}
 use Rattle.path_plan.specs.Phases.{Phase, Raw, ReadyBuilding, Complete, Phases, phases_after, is_ready, top_subobject, rest_of, is_running}
-use Rattle.path_plan.specs.Plans.{Form, InFull, AsBase}
+use Rattle.path_plan.specs.declared.form.Form.{Form}
+use Rattle.path_plan.specs.declared.form.Form.TheVariants.{InFull, AsBase}
 use Rattle.path_plan.proofs.Same.{put_same, popped_same}
 use Rattle.path_model.specs.Values.{Objects}
 use Rattle.path_model.specs.Steps.{objects_after, event_outs}

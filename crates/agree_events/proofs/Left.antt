@@ -15,7 +15,9 @@ use Rattle.cxx_hierarchy.specs.Hierarchies.{IsHierarchy}
 use Rattle.cxx_subobject.specs.Locations.{IsElement}
 use Rattle.foundation.proofs.Truth.{split}
 use Rattle.foundation.proofs.Members.{Has, contains_from_has}
-use Rattle.path_plan.specs.Plans.{Bodies, Form, InFull, AsBase, upto, backwards, virtual_order}
+use Rattle.path_plan.specs.declared.form.Form.{Form}
+use Rattle.path_plan.specs.declared.form.Form.TheVariants.{InFull, AsBase}
+use Rattle.path_plan.specs.Plans.{Bodies, upto, backwards, virtual_order}
 use Rattle.path_plan.specs.Pieces.{Choice}
 use Rattle.path_plan.proofs.Order.{order_virtual}
 use Rattle.path_plan.proofs.Members.{has_count, has_backwards}

@@ -12,7 +12,8 @@ use Rattle.foundation.proofs.Truth.{split}
 use Rattle.foundation.proofs.Members.{Has}
 use Rattle.foundation.proofs.Places.{contains_first, contains_later}
 use Rattle.path_plan.specs.Places.{part, base_part, shared_part, element, same_complete_object}
-use Rattle.path_plan.specs.Plans.{Form, InFull, AsBase}
+use Rattle.path_plan.specs.declared.form.Form.{Form}
+use Rattle.path_plan.specs.declared.form.Form.TheVariants.{InFull, AsBase}
 use Rattle.path_plan.proofs.Same.{owner_same, owner_itself}
 use Rattle.path_model.specs.TypedStates.{IsPartMade}
 use Rattle.agree_parts.specs.Heaps.{Heap}

@@ -8,7 +8,8 @@ use Rattle.cxx_subobject.specs.declared.Subobject.{Subobject}
 use Rattle.cxx_subobject.specs.Locations.{ObjectPart, IsElement}
 use Rattle.foundation.proofs.Members.{Has}
 use Rattle.path_plan.specs.Places.{part, base_part, shared_part, element}
-use Rattle.path_plan.specs.Plans.{Form, InFull, AsBase}
+use Rattle.path_plan.specs.declared.form.Form.{Form}
+use Rattle.path_plan.specs.declared.form.Form.TheVariants.{InFull, AsBase}
 use Rattle.path_model.specs.States.{Planned, Frame as PathFrame}
 use Rattle.code_blocks.specs.Blocks.{AtEvent, items, base_course, routine_start, next_place, whose_of, hand_to, opening_of, openings_then}
 use Rattle.code_blocks.specs.Items.{Item, Does, Shares, Inherits, Holds, indices, first_index}

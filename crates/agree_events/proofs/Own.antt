@@ -10,7 +10,8 @@ use Rattle.cxx_subobject.specs.Locations.{ObjectPart}
 use Rattle.path_plan.specs.Places.{part}
 use Rattle.path_plan.specs.Phases.{Phase, Raw, InBases, ReadyBuilding, Complete, ReadyEnding, EndingBases, Ended, is_half, Phases, phases_after, is_complete, is_ready, top_subobject, rest_of, is_in_bases, is_running}
 use Rattle.path_plan.specs.Views.{view, Fits, IsOnTop}
-use Rattle.path_plan.specs.Plans.{Form, InFull, AsBase}
+use Rattle.path_plan.specs.declared.form.Form.{Form}
+use Rattle.path_plan.specs.declared.form.Form.TheVariants.{InFull, AsBase}
 use Rattle.path_plan.proofs.Same.{put_same, pushed_same, popped_same}
 use Rattle.code_blocks.specs.Items.{Item, Does, event_of}
 use Rattle.code_blocks.specs.declared.items.Kind.{Kind}

@@ -3,7 +3,7 @@ use Rattle.std.proofs.Common.{◌≡◌, inl, inr, ⊎_elim, ℕ, ◌+◌, ◌<�
 use Rattle.cxx_hierarchy.specs.declared.records.ClassId.{ClassId}
 use Rattle.cxx_program.specs.declared.program.TypedBody.{TypedBody}
 use Rattle.path_plan.specs.Places.{base_part, shared_part}
-use Rattle.path_plan.specs.Plans.{AsBase}
+use Rattle.path_plan.specs.declared.form.Form.TheVariants.{AsBase}
 use Rattle.path_plan.specs.Phases.{PartEvent}
 use Rattle.path_model.specs.States.{Planned, Frame as PathFrame}
 use Rattle.code_blocks.specs.Blocks.{base_course}

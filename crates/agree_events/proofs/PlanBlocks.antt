@@ -5,7 +5,7 @@ use Rattle.cxx_hierarchy.specs.declared.records.ClassId.{ClassId}
 use Rattle.cxx_subobject.specs.Locations.{ObjectPart}
 use Rattle.cxx_program.specs.declared.program.TypedProgram.{TypedProgram}
 use Rattle.path_plan.specs.Phases.{PartEvent, part_of}
-use Rattle.path_plan.specs.Plans.{Form}
+use Rattle.path_plan.specs.declared.form.Form.{Form}
 use Rattle.path_plan.specs.Views.{Fits}
 use Rattle.path_model.specs.declared.outs.Out.{Out}
 use Rattle.path_model.specs.States.{ProgramState, Planned, Frame as PathFrame, InPlan, with_objects, is_body}

@@ -12,7 +12,8 @@ use Rattle.foundation.proofs.Places.{contains_first, contains_later}
 use Rattle.path_plan.specs.Places.{part, base_part, shared_part, same_complete_object}
 use Rattle.path_plan.specs.Phases.{InBases, ReadyBuilding, Complete, ReadyEnding, EndingBases, Ended, Phases, phases_after, is_in_bases, is_running}
 use Rattle.path_plan.specs.Views.{Fits}
-use Rattle.path_plan.specs.Plans.{Form, InFull, AsBase}
+use Rattle.path_plan.specs.declared.form.Form.{Form}
+use Rattle.path_plan.specs.declared.form.Form.TheVariants.{InFull, AsBase}
 use Rattle.path_plan.specs.Pieces.{Choice}
 use Rattle.path_plan.proofs.Same.{put_same, put_other}
 use Rattle.code_blocks.specs.Items.{Item, Does, Shares, Inherits, Holds, indices, event_of}

@@ -10,7 +10,8 @@ use Rattle.cxx_subobject.specs.Locations.{ObjectPart}
 use Rattle.cxx_subobject.proofs.TreeLemmas.{has_preorder}
 use Rattle.foundation.proofs.Truth.{split, is_false, not_both}
 use Rattle.foundation.proofs.Members.{Has}
-use Rattle.path_plan.specs.Plans.{Form, InFull, AsBase}
+use Rattle.path_plan.specs.declared.form.Form.{Form}
+use Rattle.path_plan.specs.declared.form.Form.TheVariants.{InFull, AsBase}
 use Rattle.path_model.specs.Places.{owner_class}
 use Rattle.path_model.specs.Values.{Objects, inner_part}
 use Rattle.abi_primary.specs.Kinds.{IsDynamic}

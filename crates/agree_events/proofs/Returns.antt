@@ -1,7 +1,7 @@
 -- The end of a part's plan: the next element of its array is next, or the frame below goes on.
 use Rattle.std.proofs.Common.{◌≡◌, inl, ⊎_elim, ℕ, zero, suc, ◌-◌, ◌<◌, ◌^◌, Option, Some, None, List, [], ◌∷◌, ◌++◌, length, refl, ap, subst, sym, ◌∙◌, arith}
 use Rattle.std.specs.Prelude.{if◌then◌else◌}
-use Rattle.path_plan.specs.Plans.{InFull}
+use Rattle.path_plan.specs.declared.form.Form.TheVariants.{InFull}
 use Rattle.path_model.specs.States.{Planned, Frame as PathFrame}
 use Rattle.code_blocks.specs.Blocks.{routine_start, plan_return}
 use Rattle.code_ops.specs.Setups.{PlanCode}

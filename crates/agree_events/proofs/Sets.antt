@@ -11,7 +11,7 @@ use Rattle.cxx_subobject.proofs.TreeLemmas.{preorder_has, same_itself}
 use Rattle.foundation.proofs.Truth.{split, is_false, not_both}
 use Rattle.foundation.proofs.Members.{Has}
 use Rattle.foundation.proofs.Chosen.{has_any}
-use Rattle.path_plan.specs.Plans.{Form}
+use Rattle.path_plan.specs.declared.form.Form.{Form}
 use Rattle.path_model.specs.Values.{inner_part}
 use Rattle.abi_primary.specs.Kinds.{IsDynamic}
 use Rattle.abi_slots.specs.declared.words.Group.{Group}

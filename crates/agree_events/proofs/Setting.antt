@@ -10,7 +10,8 @@ use Rattle.cxx_subobject.specs.Subobjects.{IsSubobject, whole as whole_is, share
 use Rattle.cxx_subobject.specs.Locations.{ObjectPart}
 use Rattle.cxx_subobject.proofs.InsideLemmas.{join_whole}
 use Rattle.path_plan.specs.Places.{shared_part}
-use Rattle.path_plan.specs.Plans.{Form, InFull, AsBase}
+use Rattle.path_plan.specs.declared.form.Form.{Form}
+use Rattle.path_plan.specs.declared.form.Form.TheVariants.{InFull, AsBase}
 use Rattle.path_model.specs.Places.{owner_class}
 use Rattle.path_model.specs.Values.{inner_part}
 use Rattle.abi_slots.specs.declared.words.Group.{Group}

@@ -8,7 +8,8 @@ use Rattle.cxx_subobject.specs.Locations.{Step, ObjectPart}
 use Rattle.foundation.proofs.Truth.{split}
 use Rattle.path_plan.specs.Places.{base_part, shared_part, same_complete_object}
 use Rattle.path_plan.specs.Phases.{Phases, popped, rest_of, phases_after}
-use Rattle.path_plan.specs.Plans.{Form, InFull, AsBase}
+use Rattle.path_plan.specs.declared.form.Form.{Form}
+use Rattle.path_plan.specs.declared.form.Form.TheVariants.{InFull, AsBase}
 use Rattle.code_blocks.specs.Blocks.{items, base_course}
 use Rattle.code_blocks.specs.Items.{Item, Does, Shares, Inherits, Holds, indices, event_of}
 use Rattle.code_blocks.specs.declared.items.Kind.{Kind}

@@ -7,7 +7,8 @@ use Rattle.cxx_subobject.specs.declared.Subobject.{Subobject}
 use Rattle.cxx_subobject.specs.Subobjects.{IsSubobject, whole as whole_is, whole_of, class_of}
 use Rattle.cxx_subobject.specs.Locations.{ObjectPart}
 use Rattle.foundation.proofs.Places.{get_within}
-use Rattle.path_plan.specs.Plans.{Form, InFull, AsBase}
+use Rattle.path_plan.specs.declared.form.Form.{Form}
+use Rattle.path_plan.specs.declared.form.Form.TheVariants.{InFull, AsBase}
 use Rattle.abi_primary.specs.Kinds.{IsDynamic}
 use Rattle.abi_slots.specs.declared.words.Group.{Group}
 use Rattle.abi_slots.specs.declared.words.VttWord.{VttWord}

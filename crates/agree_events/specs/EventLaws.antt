@@ -5,7 +5,8 @@ use Rattle.cxx_hierarchy.specs.Hierarchies.{IsHierarchy}
 use Rattle.cxx_subobject.specs.Locations.{Step}
 use Rattle.cxx_program.specs.declared.program.Owner.TheVariants.{Constructor, Destructor}
 use Rattle.path_plan.specs.Phases.{PartEvent, Phases, phases_after, part_of}
-use Rattle.path_plan.specs.Plans.{Form, InFull}
+use Rattle.path_plan.specs.declared.form.Form.{Form}
+use Rattle.path_plan.specs.declared.form.Form.TheVariants.{InFull}
 use Rattle.path_plan.specs.Views.{Fits}
 use Rattle.path_plan.specs.Whole.{whole_part}
 use Rattle.path_model.specs.Values.{Objects}

@@ -1,11 +1,12 @@
 //! The laws of events of plans. The functions do nothing: their contracts are what they say.
 
-ghost use Rattle.std.specs.Prelude.{◌≡◌, ℕ, false, Option, None, List, [], ◌∷◌, ◌++◌, length};
+ghost use Rattle.std.specs.Prelude.{◌≡◌, ℕ, false, List, [], ◌∷◌, ◌++◌, length};
 ghost use Rattle.cxx_hierarchy.specs.declared.records.ClassId.{ClassId};
 ghost use Rattle.cxx_hierarchy.specs.Hierarchies.{IsHierarchy};
 ghost use Rattle.cxx_subobject.specs.Locations.{ObjectPart};
-ghost use Rattle.path_plan.specs.Phases.{Phases, phases_after};
-ghost use Rattle.path_plan.specs.Plans.{Form, InFull};
+ghost use Rattle.path_plan.specs.Phases.{Phases};
+ghost use Rattle.path_plan.specs.declared.form.Form.{Form};
+ghost use Rattle.path_plan.specs.declared.form.Form.TheVariants.{InFull};
 ghost use Rattle.path_plan.specs.Whole.{whole_part, construction, destruction, IsNew, IsSameBut};
 ghost use Rattle.path_model.specs.States.{plan_bodies};
 ghost use Rattle.code_blocks.specs.Blocks.{items, behind_body};
@@ -16,13 +17,9 @@ ghost use Rattle.code_blocks.specs.declared.items.Kind.TheVariants.{AtBody, AtDo
 ghost use Rattle.code_ops.specs.Setups.{Setup};
 ghost use Rattle.code_ops.specs.declared.routines.Course.{Course};
 ghost use Rattle.code_ops.specs.declared.routines.Course.TheVariants.{Constructs, Destroys, Deletes};
-ghost use Rattle.byte_memory.specs.Store.{Store};
-ghost use Rattle.byte_shadow.specs.Shadows.{Notes};
-ghost use Rattle.byte_machine.specs.declared.turn.RawOut.{RawOut};
 ghost use Rattle.agree_relation.specs.Worlds.{World, world_classes};
 ghost use Rattle.agree_relation.specs.Goings.{Going, going, at_left, opened_goings, course_events, events_of, events_left, ArePlanned};
-ghost use Rattle.agree_relation.specs.Frames.{PlaceNumbers, awaits_body, Behind, StandOver};
-ghost use Rattle.agree_relation.specs.Stands.{StateStands};
+ghost use Rattle.agree_relation.specs.Frames.{PlaceNumbers, awaits_body, Behind};
 ghost use Rattle.agree_events.specs.EventLaws.{PartsGoOn, NewObjectsStand, EventsKeepColumns, PlanBlocksAgree, PlanBlocksStand, BodiesRunInPlans, ConstructorBodiesClose, DestructorBodiesClose};
 
 /// Where the part on top is at an own event that fits, the parts that are then opened stand for the phases and stacks after it

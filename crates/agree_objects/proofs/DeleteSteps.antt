@@ -24,7 +24,7 @@ use Rattle.path_rules.specs.declared.Undefined.{Undefined}
 use Rattle.path_rules.specs.declared.Undefined.TheVariants.{Dangling, NotReady, OutsideView, Unset as UnsetUse, NonVirtualDelete, NotHeapObject, NotComplete}
 use Rattle.path_plan.specs.Places.{part}
 use Rattle.path_plan.specs.Phases.{is_complete}
-use Rattle.path_plan.specs.Plans.{InFull}
+use Rattle.path_plan.specs.declared.form.Form.TheVariants.{InFull}
 use Rattle.path_plan.specs.Whole.{whole_part}
 use Rattle.path_model.specs.Order.{first_broken, sorted}
 use Rattle.path_model.specs.Values.{Value, Unset, Number, Null, Pointer, value_of_operand}

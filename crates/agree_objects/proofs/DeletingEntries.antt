@@ -10,7 +10,7 @@ use Rattle.cxx_search.proofs.Bases.{destructor_signature}
 use Rattle.cxx_search.proofs.Virtuals.{test_virtual}
 use Rattle.path_plan.specs.Places.{part}
 use Rattle.path_plan.specs.Phases.{is_complete}
-use Rattle.path_plan.specs.Plans.{InFull}
+use Rattle.path_plan.specs.declared.form.Form.TheVariants.{InFull}
 use Rattle.path_plan.specs.Views.{view}
 use Rattle.path_plan.specs.Whole.{whole_part}
 use Rattle.path_model.specs.Places.{owner_class}

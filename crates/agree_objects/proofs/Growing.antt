@@ -9,7 +9,8 @@ use Rattle.cxx_subobject.specs.Locations.{Step, ObjectPart}
 use Rattle.cxx_program.specs.declared.program.Owner.{Owner}
 use Rattle.cxx_program.specs.declared.program.Owner.TheVariants.{Main, Function, Constructor, Destructor}
 use Rattle.path_plan.specs.Places.{part, same_complete_object}
-use Rattle.path_plan.specs.Plans.{Form, InFull, AsBase}
+use Rattle.path_plan.specs.declared.form.Form.{Form}
+use Rattle.path_plan.specs.declared.form.Form.TheVariants.{InFull, AsBase}
 use Rattle.path_plan.proofs.Same.{owner_same}
 use Rattle.path_model.proofs.TypedViews.{both_right}
 use Rattle.path_model.specs.States.{RunningBody as Body, Planned, Frame as PathFrame, InBody, InPlan}

@@ -43,7 +43,7 @@ use Rattle.code_blocks.specs.Blocks.{routine_start, statement_ops}
 use Rattle.code_ops.specs.Setups.{PlanCode}
 use Rattle.code_ops.specs.declared.routines.Course.TheVariants.{Constructs}
 use Rattle.code_ops.specs.Uses.{check_ops, sorted_checks}
-use Rattle.path_plan.specs.Plans.{InFull}
+use Rattle.path_plan.specs.declared.form.Form.TheVariants.{InFull}
 use Rattle.code_statements.specs.Rights.{object_taken}
 use Rattle.agree_relation.specs.Worlds.{world_classes, places_in, fixed}
 use Rattle.agree_relation.specs.Words.{heap_of}

@@ -9,7 +9,7 @@ use Rattle.cxx_program.specs.declared.program.TypedBody.{TypedBody}
 use Rattle.cxx_program.specs.Typed.{Types}
 use Rattle.cxx_subobject.specs.Locations.{Step}
 use Rattle.path_plan.specs.Phases.{Phases}
-use Rattle.path_plan.specs.Plans.{InFull}
+use Rattle.path_plan.specs.declared.form.Form.TheVariants.{InFull}
 use Rattle.path_plan.specs.Runs.{renewed}
 use Rattle.path_plan.specs.Whole.{whole_part, construction, destruction, IsSameBut}
 use Rattle.path_plan.proofs.Other.{other_renewed, renewed_new}

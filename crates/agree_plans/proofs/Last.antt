@@ -6,7 +6,8 @@ use Rattle.std.specs.Prelude.{slice_get}
 use Rattle.cxx_hierarchy.specs.declared.records.ClassId.{ClassId}
 use Rattle.cxx_hierarchy.specs.Classes.{bases_of, members_of}
 use Rattle.cxx_hierarchy.specs.Hierarchies.{IsHierarchy}
-use Rattle.path_plan.specs.Plans.{Form, upto, backwards, virtual_order}
+use Rattle.path_plan.specs.declared.form.Form.{Form}
+use Rattle.path_plan.specs.Plans.{upto, backwards, virtual_order}
 use Rattle.path_model.specs.States.{plan_bodies}
 use Rattle.code_blocks.specs.Items.{Item, Does, shared_base_items, base_items, member_items, body_items, ended_items}
 use Rattle.code_blocks.specs.Lowered.{IsEnd}

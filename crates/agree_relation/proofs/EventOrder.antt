@@ -14,7 +14,9 @@ use Rattle.cxx_hierarchy.specs.Declarations.{elements_of}
 use Rattle.cxx_subobject.specs.Locations.{ObjectPart}
 use Rattle.path_plan.specs.Places.{base_part, shared_part, element}
 use Rattle.path_plan.specs.Phases.{PartEvent, Begin, Ready, Init, Body, Done, Ending, Bases, End}
-use Rattle.path_plan.specs.Plans.{Bodies, Form, InFull, AsBase, Inner, virtual_order, upto, backwards, shared_events, base_events, init_events, typed_events, body_events, member_events, built_by, typed_ending, member_ending, ended_by}
+use Rattle.path_plan.specs.declared.form.Form.{Form}
+use Rattle.path_plan.specs.declared.form.Form.TheVariants.{InFull, AsBase}
+use Rattle.path_plan.specs.Plans.{Bodies, Inner, virtual_order, upto, backwards, shared_events, base_events, init_events, typed_events, body_events, member_events, built_by, typed_ending, member_ending, ended_by}
 
 -- up to the first a of a list there is no b
 abbrev pub Before : PartEvent → PartEvent → List PartEvent → Type 0

@@ -12,7 +12,9 @@ use Rattle.cxx_subobject.specs.Locations.{Step, ObjectPart}
 use Rattle.cxx_subobject.proofs.TestLemmas.{base_class}
 use Rattle.path_plan.specs.Places.{part, base_part, shared_part, element}
 use Rattle.path_plan.specs.Phases.{Begin, Done, PartEvent, Ending, Bases, End}
-use Rattle.path_plan.specs.Plans.{Bodies, Form, InFull, AsBase, build, unbuild, backwards, shared_events, base_events, body_events, member_ending, virtual_order, upto}
+use Rattle.path_plan.specs.declared.form.Form.{Form}
+use Rattle.path_plan.specs.declared.form.Form.TheVariants.{InFull, AsBase}
+use Rattle.path_plan.specs.Plans.{Bodies, build, unbuild, backwards, shared_events, base_events, body_events, member_ending, virtual_order, upto}
 use Rattle.path_plan.proofs.Same.{Owns, owner_cases, part_cases}
 use Rattle.foundation.proofs.Members.{Has, contains_from_has}
 use Rattle.cxx_hierarchy.specs.declared.records.Base.{Base}

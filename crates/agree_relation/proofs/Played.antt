@@ -11,7 +11,8 @@ use Rattle.cxx_subobject.specs.Subobjects.{subobject, whole_of}
 use Rattle.cxx_subobject.specs.Locations.{Step}
 use Rattle.path_plan.specs.Places.{part, IsPartWithin}
 use Rattle.path_plan.specs.Phases.{Raw, Complete, Ended, is_complete, top_subobject, Phases, PartEvent, Begin, Done, Ending, End, phases_after, phases_after_all, is_running}
-use Rattle.path_plan.specs.Plans.{Bodies, InFull}
+use Rattle.path_plan.specs.declared.form.Form.TheVariants.{InFull}
+use Rattle.path_plan.specs.Plans.{Bodies}
 use Rattle.path_plan.specs.Views.{view, Coherent}
 use Rattle.path_plan.specs.Whole.{IsNew, StandsWhole, construction, destruction, whole_part}
 use Rattle.path_plan.proofs.Around.{is_completed}

@@ -12,7 +12,8 @@ use Rattle.cxx_program.specs.declared.program.Owner.TheVariants.{Main, Function,
 use Rattle.cxx_program.specs.declared.program.TypedBody.{TypedBody}
 use Rattle.path_plan.specs.Places.{part}
 use Rattle.path_plan.specs.Phases.{PartEvent, Body}
-use Rattle.path_plan.specs.Plans.{Form, InFull, AsBase}
+use Rattle.path_plan.specs.declared.form.Form.{Form}
+use Rattle.path_plan.specs.declared.form.Form.TheVariants.{InFull, AsBase}
 use Rattle.path_plan.specs.Whole.{whole_part}
 use Rattle.path_model.specs.Values.{Value}
 use Rattle.path_model.specs.States.{RunningBody, Planned, Target, Frame as PathFrame, InBody, InPlan, owned_body}

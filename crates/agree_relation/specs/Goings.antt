@@ -7,7 +7,9 @@ use Rattle.cxx_subobject.specs.Subobjects.{whole_of}
 use Rattle.cxx_subobject.specs.Locations.{Step, ObjectPart}
 use Rattle.path_plan.specs.Places.{part, base_part, shared_part, element, same_complete_object}
 use Rattle.path_plan.specs.Phases.{Phases, PartEvent, is_in_bases, is_running}
-use Rattle.path_plan.specs.Plans.{Form, InFull, AsBase, Inner, plan, unplan}
+use Rattle.path_plan.specs.declared.form.Form.{Form}
+use Rattle.path_plan.specs.declared.form.Form.TheVariants.{InFull, AsBase}
+use Rattle.path_plan.specs.Plans.{Inner, plan, unplan}
 use Rattle.path_plan.specs.Pieces.{expand}
 use Rattle.path_model.specs.States.{plan_bodies}
 use Rattle.path_model.specs.TypedStates.{IsPartMade}

@@ -10,7 +10,8 @@ use Rattle.cxx_overrider.specs.Functions.{return_of}
 use Rattle.cxx_program.specs.declared.statement.TypedStatement.{TypedStatement}
 use Rattle.cxx_program.specs.declared.program.TypedBody.{TypedBody}
 use Rattle.cxx_program.specs.declared.program.TypedInit.{TypedInit}
-use Rattle.path_plan.specs.Plans.{Form, InFull, AsBase}
+use Rattle.path_plan.specs.declared.form.Form.{Form}
+use Rattle.path_plan.specs.declared.form.Form.TheVariants.{InFull, AsBase}
 use Rattle.path_model.specs.Rules.{returns_value}
 use Rattle.path_model.specs.States.{plan_bodies, member_init}
 use Rattle.abi_slots.specs.Views.{is_dynamic_class}

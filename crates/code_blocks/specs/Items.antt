@@ -10,7 +10,9 @@ use Rattle.cxx_hierarchy.specs.Classes.{Classes, bases_of, members_of}
 use Rattle.cxx_hierarchy.specs.Declarations.{elements_of}
 use Rattle.path_plan.specs.Places.{ObjectPart, base_part, shared_part, element}
 use Rattle.path_plan.specs.Phases.{PartEvent, Begin, Ready, Init, Body, Done, Ending, Bases, End}
-use Rattle.path_plan.specs.Plans.{Bodies, Form, InFull, AsBase, virtual_order, upto, backwards}
+use Rattle.path_plan.specs.declared.form.Form.{Form}
+use Rattle.path_plan.specs.declared.form.Form.TheVariants.{InFull, AsBase}
+use Rattle.path_plan.specs.Plans.{Bodies, virtual_order, upto, backwards}
 use Rattle.path_plan.specs.Pieces.{Piece, Own, Sub}
 use Rattle.code_ops.specs.declared.routines.Course.{Course}
 use Rattle.code_ops.specs.declared.routines.Course.TheVariants.{Constructs, Destroys, Deletes}

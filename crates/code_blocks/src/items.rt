@@ -4,10 +4,11 @@ ghost use Rattle.std.specs.Prelude.{◌≡◌, ◌<◌, ◌≤◌, ◌+◌, ◌�
 ghost use Rattle.std.specs.List.{flat_map};
 ghost use Rattle.cxx_hierarchy.specs.Classes.{bases_of, members_of};
 ghost use Rattle.cxx_hierarchy.specs.Limits.{most_declared};
-ghost use Rattle.path_plan.specs.Plans.{InFull, backwards, upto, virtual_order};
+ghost use Rattle.path_plan.specs.declared.form.Form.TheVariants.{InFull};
+ghost use Rattle.path_plan.specs.Plans.{backwards, upto, virtual_order};
 ghost use Rattle.path_model.specs.States.{plan_bodies, member_init, is_init};
 ghost use Rattle.code_blocks.specs.Items.{Backwards as BackwardsWay, Forwards as ForwardsWay, shared_base_items, base_items, body_items, member_items, built_items, ended_items, items_of};
-ghost use Rattle.code_blocks.specs.invariants.ItemCodes.{item_codes, items_in_turn, from_the_end, ArePlans, code_form};
+ghost use Rattle.code_blocks.specs.invariants.ItemCodes.{item_codes, items_in_turn, from_the_end, ArePlans};
 
 use code_ops::routines::Course;
 use cxx_hierarchy::{Base, ClassId, FieldType, Hierarchy, Member};
@@ -15,6 +16,7 @@ use cxx_program::{Owner, TypedProgram};
 use foundation::{NoMemory, Sequence};
 use path_bodies::BodyIndex;
 use path_numbers::Numbers;
+use path_plan::Form;
 use std::alloc::Global;
 
 /// An event of the part itself; an initializer sets the member of a number.
@@ -35,13 +37,6 @@ pub enum Kind {
 pub enum Way {
     Forwards,
     Backwards,
-}
-
-/// A complete object with its virtual bases, or a base of one without them (Itanium C++ ABI 5.1.4.3).
-#[derive(Clone, Copy, Debug, PartialEq, Eq)]
-pub enum Form {
-    InFull,
-    AsBase,
 }
 
 /// An own event, a virtual base, a direct base that is not virtual, or all elements of a member, with its number, its class and how
@@ -69,7 +64,7 @@ pub struct Plans<'a> {
 
 /// Puts the virtual bases of a complete object behind other items.
 fn push_shared(list: &mut ItemList, form: Form, order: &[ClassId]) -> Result<(), NoMemory>
-    ensures { OnOk result (list.new ≡ list.old ++ item_codes (shared_base_items (code_form form) order.now)) }
+    ensures { OnOk result (list.new ≡ list.old ++ item_codes (shared_base_items form order.now)) }
 {
     match form {
         Form::AsBase => {}
@@ -104,7 +99,7 @@ fn push_each_back(list: &mut ItemList, order: &[ClassId]) -> Result<(), NoMemory
 
 /// Puts the virtual bases of a complete object behind other items, the last one first.
 fn push_shared_back(list: &mut ItemList, form: Form, order: &[ClassId]) -> Result<(), NoMemory>
-    ensures { OnOk result (list.new ≡ list.old ++ item_codes (shared_base_items (code_form form) (backwards order.now))) }
+    ensures { OnOk result (list.new ≡ list.old ++ item_codes (shared_base_items form (backwards order.now))) }
 {
     match form {
         Form::AsBase => {}
@@ -249,7 +244,7 @@ impl Plans<'_> {
     fn push_all_bases(&self, list: &mut ItemList, form: Form, c: ClassId) -> Result<(), NoMemory>
         requires plans { ArePlans self.now.h.now self.now.program.now self.now.index.now self.now.orders.now }
         requires known { c.0 < length self.now.h.now }
-        ensures { OnOk result (list.new ≡ list.old ++ item_codes (shared_base_items (code_form form) (virtual_order self.now.h.now c) ++ flat_map base_items (bases_of self.now.h.now c))) }
+        ensures { OnOk result (list.new ≡ list.old ++ item_codes (shared_base_items form (virtual_order self.now.h.now c) ++ flat_map base_items (bases_of self.now.h.now c))) }
     {
         push_shared(list, form, self.orders.virtual_bases(c))?;
         push_bases(list, self.h.class(c).bases.as_slice())?;
@@ -260,7 +255,7 @@ impl Plans<'_> {
     fn push_bases_end(&self, list: &mut ItemList, form: Form, c: ClassId) -> Result<(), NoMemory>
         requires plans { ArePlans self.now.h.now self.now.program.now self.now.index.now self.now.orders.now }
         requires known { c.0 < length self.now.h.now }
-        ensures { OnOk result (list.new ≡ list.old ++ item_codes (flat_map base_items (backwards (bases_of self.now.h.now c)) ++ shared_base_items (code_form form) (backwards (virtual_order self.now.h.now c)))) }
+        ensures { OnOk result (list.new ≡ list.old ++ item_codes (flat_map base_items (backwards (bases_of self.now.h.now c)) ++ shared_base_items form (backwards (virtual_order self.now.h.now c)))) }
     {
         push_bases_back(list, self.h.class(c).bases.as_slice())?;
         push_shared_back(list, form, self.orders.virtual_bases(c))?;
@@ -271,7 +266,7 @@ impl Plans<'_> {
     fn built(&self, form: Form, c: ClassId) -> Result<ItemList, NoMemory>
         requires plans { ArePlans self.now.h.now self.now.program.now self.now.index.now self.now.orders.now }
         requires known { c.0 < length self.now.h.now }
-        ensures { IfOk result (λ list. list ≡ item_codes (built_items self.now.h.now (plan_bodies self.now.program.now) (code_form form) c)) }
+        ensures { IfOk result (λ list. list ≡ item_codes (built_items self.now.h.now (plan_bodies self.now.program.now) form c)) }
     {
         let mut list = Sequence::new(self.alloc);
         list.push(Item::Does(Kind::AtBegin))?;
@@ -287,7 +282,7 @@ impl Plans<'_> {
     fn ended(&self, form: Form, c: ClassId) -> Result<ItemList, NoMemory>
         requires plans { ArePlans self.now.h.now self.now.program.now self.now.index.now self.now.orders.now }
         requires known { c.0 < length self.now.h.now }
-        ensures { IfOk result (λ list. list ≡ item_codes (ended_items self.now.h.now (plan_bodies self.now.program.now) (code_form form) c)) }
+        ensures { IfOk result (λ list. list ≡ item_codes (ended_items self.now.h.now (plan_bodies self.now.program.now) form c)) }
     {
         let mut list = Sequence::new(self.alloc);
         list.push(Item::Does(Kind::AtEnding))?;
@@ -305,7 +300,7 @@ impl Plans<'_> {
     pub fn items(&self, course: Course, form: Form, c: ClassId) -> Result<ItemList, NoMemory>
         requires plans { ArePlans self.now.h.now self.now.program.now self.now.index.now self.now.orders.now }
         requires known { c.0 < length self.now.h.now }
-        ensures { IfOk result (λ list. list ≡ item_codes (items_of self.now.h.now (plan_bodies self.now.program.now) course (code_form form) c)) }
+        ensures { IfOk result (λ list. list ≡ item_codes (items_of self.now.h.now (plan_bodies self.now.program.now) course form c)) }
     {
         match course {
             Course::Constructs => self.built(form, c),

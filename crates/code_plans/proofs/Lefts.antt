@@ -4,7 +4,8 @@ use Rattle.std.proofs.lemmas.List.{append-nil, take_all}
 use Rattle.cxx_hierarchy.specs.declared.records.ClassId.{ClassId}
 use Rattle.cxx_hierarchy.specs.Classes.{Classes}
 use Rattle.cxx_hierarchy.specs.Hierarchies.{IsHierarchy}
-use Rattle.path_plan.specs.Plans.{Form, InFull, AsBase}
+use Rattle.path_plan.specs.declared.form.Form.{Form}
+use Rattle.path_plan.specs.declared.form.Form.TheVariants.{InFull, AsBase}
 use Rattle.byte_code.specs.declared.op.Op.{Op}
 use Rattle.byte_code.specs.declared.op.Op.TheVariants.{Open, Jump}
 use Rattle.byte_code.specs.declared.op.Opening.{Opening}

@@ -18,7 +18,7 @@ use Rattle.cxx_subobject.specs.Subobjects.{IsSubobject, Leads, whole, shared, wh
 use Rattle.cxx_subobject.specs.Preorder.{tree, firsts, preorder}
 use Rattle.cxx_subobject.proofs.PathLemmas.{base_before}
 use Rattle.cxx_subobject.proofs.TreeLemmas.{has_preorder, same_itself}
-use Rattle.path_plan.specs.Plans.{Form}
+use Rattle.path_plan.specs.declared.form.Form.{Form}
 use Rattle.byte_code.specs.declared.op.Setting.{Setting}
 use Rattle.abi_primary.specs.declared.Primary.{Primary}
 use Rattle.abi_primary.specs.Kinds.{TellDynamic}

@@ -15,7 +15,9 @@ use Rattle.cxx_hierarchy.specs.Declarations.{elements_of}
 use Rattle.cxx_hierarchy.specs.Hierarchies.{IsHierarchy}
 use Rattle.cxx_hierarchy.specs.VirtualBases.{HasVirtualBase}
 use Rattle.cxx_subobject.proofs.TreeLemmas.{edge}
-use Rattle.path_plan.specs.Plans.{Bodies, Form, InFull, AsBase, upto, backwards, virtual_order}
+use Rattle.path_plan.specs.declared.form.Form.{Form}
+use Rattle.path_plan.specs.declared.form.Form.TheVariants.{InFull, AsBase}
+use Rattle.path_plan.specs.Plans.{Bodies, upto, backwards, virtual_order}
 use Rattle.path_plan.proofs.Order.{order_virtual}
 use Rattle.path_plan.proofs.Members.{has_backwards}
 use Rattle.path_model.specs.States.{plan_bodies}

@@ -7,7 +7,7 @@ use Rattle.cxx_hierarchy.specs.declared.records.ClassId.{ClassId}
 use Rattle.cxx_subobject.specs.declared.Subobject.{Subobject}
 use Rattle.cxx_subobject.specs.Preorder.{preorder}
 use Rattle.cxx_program.specs.declared.program.TypedInit.{TypedInit}
-use Rattle.path_plan.specs.Plans.{Form}
+use Rattle.path_plan.specs.declared.form.Form.{Form}
 use Rattle.byte_code.specs.declared.op.Op.{Op}
 use Rattle.byte_code.specs.declared.op.Op.TheVariants.{SetTable, SetPhase, SetView, Trace}
 use Rattle.byte_code.specs.declared.op.Phase.TheVariants.{ReadyBuilding, ReadyEnding}

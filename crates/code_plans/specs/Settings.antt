@@ -3,7 +3,8 @@ use Rattle.std.specs.Prelude.{◌≡◌, List, map, filter}
 use Rattle.cxx_hierarchy.specs.declared.records.ClassId.{ClassId}
 use Rattle.cxx_subobject.specs.declared.Subobject.{Subobject}
 use Rattle.cxx_subobject.specs.Preorder.{preorder}
-use Rattle.path_plan.specs.Plans.{Form, InFull, AsBase}
+use Rattle.path_plan.specs.declared.form.Form.{Form}
+use Rattle.path_plan.specs.declared.form.Form.TheVariants.{InFull, AsBase}
 use Rattle.byte_code.specs.declared.op.Setting.{Setting}
 use Rattle.code_ops.specs.Setups.{Setup}
 use Rattle.code_blocks.specs.Blocks.{is_set_apart, setting_by}

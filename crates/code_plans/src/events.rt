@@ -4,7 +4,7 @@ ghost use Rattle.std.specs.Prelude.{◌≡◌, ◌<◌, ◌+◌, ◌^◌, ◌++�
 ghost use Rattle.std.specs.Option.{option_copied};
 ghost use Rattle.path_bodies.specs.Places.{IsIndexOf};
 ghost use Rattle.path_model.specs.States.{member_init};
-ghost use Rattle.path_plan.specs.Plans.{Form as FormOf};
+ghost use Rattle.path_plan.specs.declared.form.Form.{Form as FormOf};
 ghost use Rattle.byte_code.specs.declared.op.Op.TheVariants.{Begin, SetPhase, SetView, Trace};
 ghost use Rattle.byte_code.specs.declared.op.Phase.TheVariants.{InBases, ReadyEnding};
 ghost use Rattle.byte_code.specs.declared.op.TraceKind.TheVariants.{Ending};
@@ -12,7 +12,6 @@ ghost use Rattle.code_ops.specs.Setups.{PlanCode, Setup, body_of_routine, free_r
 ghost use Rattle.code_ops.specs.Operands.{converted_ops, ops_of};
 ghost use Rattle.abi_sound.specs.declared.class_layout.ClassLayout.{ClassLayout};
 ghost use Rattle.code_blocks.specs.Blocks.{back_then, event_then, init_then, whose_of};
-ghost use Rattle.code_blocks.specs.invariants.ItemCodes.{code_form};
 ghost use Rattle.code_plans.specs.PlanSites.{HasFewLocals, IsLaidPlanSite, plan_setup};
 ghost use Rattle.code_plans.specs.Settings.{ArePointers};
 ghost use Rattle.code_plans.specs.invariants.Constants.{IsConstant, IsPlain};
@@ -22,7 +21,7 @@ use crate::plan_sites::{ClassPlan, PlanSite};
 use crate::pointers::{ClassPointers, push_pointers};
 use abi_sound::{SoundLayout, member_place};
 use byte_code::{Finish, NumberKind, Op, OpList, Phase, TraceKind};
-use code_blocks::items::{Form, Kind};
+use code_blocks::items::Kind;
 use code_ops::leaves::leaf_width;
 use code_ops::operands::push_operand;
 use code_ops::routines::Course;
@@ -30,6 +29,7 @@ use code_ops::widths::{WORD, bits_kind, kind_of_number};
 use cxx_hierarchy::ClassId;
 use cxx_program::{Conversion, Owner, TypedBody, TypedInit};
 use foundation::NoMemory;
+use path_plan::Form;
 
 /// The owner of the body that a plan runs.
 fn owner_of(course: Course, c: ClassId) -> Owner
@@ -148,7 +148,7 @@ fn push_init<L: SoundLayout>(
 ///
 /// Errors: want of memory.
 fn push_back(ops: &mut OpList, form: Form) -> Result<(), NoMemory>
-    ensures { OnOk result (ops.new ≡ ops.old ++ back_then (code_form form) []) }
+    ensures { OnOk result (ops.new ≡ ops.old ++ back_then form []) }
 {
     match form {
         Form::InFull => {}
@@ -171,7 +171,7 @@ fn push_phase(ops: &mut OpList, c: ClassId, phase: Phase) -> Result<(), NoMemory
 ///
 /// Errors: want of memory.
 fn push_begin(ops: &mut OpList, form: Form, c: ClassId) -> Result<(), NoMemory>
-    ensures { OnOk result (ops.new ≡ ops.old ++ Begin c.0 (whose_of (code_form form)) ∷ SetPhase c.0 InBases ∷ SetView c.0 (whose_of (code_form form)) ∷ []) }
+    ensures { OnOk result (ops.new ≡ ops.old ++ Begin c.0 (whose_of form) ∷ SetPhase c.0 InBases ∷ SetView c.0 (whose_of form) ∷ []) }
 {
     ops.push(Op::Begin {
         class: c.0,
@@ -189,7 +189,7 @@ fn push_begin(ops: &mut OpList, form: Form, c: ClassId) -> Result<(), NoMemory>
 ///
 /// Errors: want of memory.
 fn push_ending(ops: &mut OpList, form: Form, c: ClassId) -> Result<(), NoMemory>
-    ensures { OnOk result (ops.new ≡ ops.old ++ SetPhase c.0 ReadyEnding ∷ SetView c.0 (whose_of (code_form form)) ∷ Trace (Ending c.0) ∷ []) }
+    ensures { OnOk result (ops.new ≡ ops.old ++ SetPhase c.0 ReadyEnding ∷ SetView c.0 (whose_of form) ∷ Trace (Ending c.0) ∷ []) }
 {
     push_phase(ops, c, Phase::ReadyEnding)?;
     ops.push(Op::SetView {
@@ -213,7 +213,7 @@ pub fn push_event<L: SoundLayout>(
     requires site { IsLaidPlanSite L.lays_out L.rows site.now }
     requires pointers { ArePointers (plan_setup L.rows site.now) plan.class pointers.now }
     requires known { plan.class.0 < length site.now.h.now }
-    ensures { OnOk result (ops.new ≡ ops.old ++ event_then (plan_setup L.rows site.now) plan.course (code_form plan.form) plan.class kind []) }
+    ensures { OnOk result (ops.new ≡ ops.old ++ event_then (plan_setup L.rows site.now) plan.course plan.form plan.class kind []) }
 {
     match kind {
         Kind::AtBegin => push_begin(ops, plan.form, plan.class)?,

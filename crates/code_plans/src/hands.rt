@@ -5,7 +5,6 @@ ghost use Rattle.cxx_hierarchy.specs.VirtualBases.{HasVirtualBase, IsDirectBase}
 ghost use Rattle.abi_vtt.specs.Blocks.{block_distance, shared_distance as shared_distance_of};
 ghost use Rattle.abi_vtt.specs.Vtts.{has_vtt};
 ghost use Rattle.code_blocks.specs.Blocks.{whose_of};
-ghost use Rattle.code_blocks.specs.invariants.ItemCodes.{code_form};
 ghost use Rattle.code_plans.specs.PlanSites.{IsLaidPlanSite, plan_places};
 
 use crate::lengths::{base_before, length_at, shared_before};
@@ -13,12 +12,12 @@ use crate::plan_sites::PlanSite;
 use abi_sound::SoundLayout;
 use abi_tables::has_virtual;
 use byte_code::Whose;
-use code_blocks::items::Form;
 use cxx_hierarchy::ClassId;
+use path_plan::Form;
 
 /// Whose complete object a plan works in.
 pub(crate) fn whose(form: Form) -> Whose
-    ensures { result ≡ whose_of (code_form form) }
+    ensures { result ≡ whose_of form }
 {
     match form {
         Form::InFull => Whose::Itself,

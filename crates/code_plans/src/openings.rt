@@ -12,7 +12,7 @@ ghost use Rattle.code_ops.specs.Setups.{PlanCode, setup};
 ghost use Rattle.code_ops.specs.Routines.{plan_kind, start_by};
 ghost use Rattle.code_blocks.specs.Blocks.{base_course, openings_then, stride_of};
 ghost use Rattle.code_blocks.specs.Items.{Holds, Inherits, Item as ItemOf, Shares, first_index};
-ghost use Rattle.code_blocks.specs.invariants.ItemCodes.{item_code, item_codes, code_form};
+ghost use Rattle.code_blocks.specs.invariants.ItemCodes.{item_code, item_codes};
 ghost use Rattle.code_plans.specs.PlanSites.{IsLaidPlanSite, plan_setup, plan_start};
 ghost use Rattle.code_plans.specs.Tails.{IsLeftOf};
 ghost use Rattle.code_plans.specs.invariants.Parts.{IsItemOfClass, is_event_code};
@@ -23,16 +23,17 @@ use crate::plan_sites::{ClassPlan, PlanSite};
 use abi_slots::BlockKind;
 use abi_sound::{SoundLayout, member_place};
 use byte_code::{BaseHand, Op, OpList, Opening};
-use code_blocks::items::{Form, Item, Way};
+use code_blocks::items::{Item, Way};
 use code_ops::routines::{Course, constructor_of, destructor_of, start_of};
 use cxx_hierarchy::ClassId;
 use cxx_subobject::listing::longer_path;
 use cxx_subobject::{Root, Subobject};
 use foundation::NoMemory;
+use path_plan::Form;
 
 /// The form of a constructor for a complete object or for a base.
 fn build_kind(form: Form) -> BlockKind
-    ensures { result ≡ plan_kind Course.Constructs (code_form form) }
+    ensures { result ≡ plan_kind Course.Constructs form }
 {
     match form {
         Form::InFull => BlockKind::BuildComplete,
@@ -42,7 +43,7 @@ fn build_kind(form: Form) -> BlockKind
 
 /// The form of a destructor for a complete object or for a base.
 fn end_kind(form: Form) -> BlockKind
-    ensures { result ≡ plan_kind Course.Destroys (code_form form) }
+    ensures { result ≡ plan_kind Course.Destroys form }
 {
     match form {
         Form::InFull => BlockKind::EndComplete,
@@ -53,7 +54,7 @@ fn end_kind(form: Form) -> BlockKind
 /// The block at which the plan of a part of class `d` begins, within a plan of this course.
 fn part_start<L>(site: &PlanSite<L>, course: Course, form: Form, d: ClassId) -> u32
     requires { d.0 < length site.now.h.now }
-    ensures { (rows : List ClassLayout) → result ≡ start_by (setup site.now.h.now rows site.now.program.now) site.now.numbers.now (PlanCode (base_course course) (code_form form) d) }
+    ensures { (rows : List ClassLayout) → result ≡ start_by (setup site.now.h.now rows site.now.program.now) site.now.numbers.now (PlanCode (base_course course) form d) }
 {
     match course {
         Course::Constructs => start_of(site.numbers, constructor_of(site.h, d), build_kind(form)),
@@ -223,7 +224,7 @@ pub fn push_openings<L: SoundLayout>(
     requires site { IsLaidPlanSite L.lays_out L.rows site.now }
     requires known { plan.class.0 < length site.now.h.now }
     requires left { IsLeftOf L.rows site.now plan left.now }
-    ensures { OnOk result ((items : List ItemOf) → left.now ≡ item_codes items → ops.new ≡ ops.old ++ openings_then (plan_setup L.rows site.now) (plan_start L.rows site.now) plan.course (code_form plan.form) plan.class items []) }
+    ensures { OnOk result ((items : List ItemOf) → left.now ≡ item_codes items → ops.new ≡ ops.old ++ openings_then (plan_setup L.rows site.now) (plan_start L.rows site.now) plan.course plan.form plan.class items []) }
 {
     match left {
         [] => {}

@@ -2,11 +2,11 @@
 
 use crate::class_tables::ClassTables;
 use abi_slots::{CodeNumbers, Slots};
-use code_blocks::items::Form;
 use code_ops::routines::Course;
 use cxx_hierarchy::{ClassId, Hierarchy};
 use cxx_program::TypedProgram;
 use path_bodies::BodyIndex;
+use path_plan::Form;
 use std::alloc::Global;
 
 /// The classes with their layout, their words and tables, the program with the places of its bodies, and the numbers of code.

@@ -5,10 +5,9 @@ ghost use Rattle.cxx_hierarchy.specs.declared.records.ClassId.{ClassId};
 ghost use Rattle.cxx_subobject.specs.declared.Subobject.{Subobject};
 ghost use Rattle.cxx_subobject.specs.Subobjects.{IsSubobject};
 ghost use Rattle.byte_code.specs.declared.op.Op.TheVariants.{SetTable};
-ghost use Rattle.path_plan.specs.Plans.{AsBase, InFull};
+ghost use Rattle.path_plan.specs.declared.form.Form.TheVariants.{AsBase, InFull};
 ghost use Rattle.code_ops.specs.Setups.{Setup};
 ghost use Rattle.code_blocks.specs.Blocks.{pointers_then};
-ghost use Rattle.code_blocks.specs.invariants.ItemCodes.{code_form};
 ghost use Rattle.code_plans.specs.ClassTables.{IsLone};
 ghost use Rattle.code_plans.specs.PlanSites.{IsLaidPlanSite, plan_places, plan_setup};
 ghost use Rattle.code_plans.specs.Settings.{ArePointers, settings_of};
@@ -21,11 +20,11 @@ use crate::walks::{Walk, passed, point_of, start};
 use abi_primary::flag_of;
 use abi_sound::SoundLayout;
 use byte_code::{Op, OpList, Setting};
-use code_blocks::items::Form;
 use cxx_hierarchy::ClassId;
 use cxx_subobject::listing::longer_path;
 use cxx_subobject::{Root, Subobject, list_subobjects};
 use foundation::{NoMemory, Sequence};
+use path_plan::Form;
 
 /// A list of settings.
 pub type SettingList = Sequence<Setting>;
@@ -141,7 +140,7 @@ fn push_settings(ops: &mut OpList, settings: &[Setting]) -> Result<(), NoMemory>
 ///
 /// Errors: want of memory.
 pub fn push_pointers(ops: &mut OpList, pointers: &ClassPointers, form: Form) -> Result<(), NoMemory>
-    ensures { OnOk result ((x : Setup) (c : ClassId) → ArePointers x c pointers.now → ops.new ≡ ops.old ++ pointers_then x (code_form form) c []) }
+    ensures { OnOk result ((x : Setup) (c : ClassId) → ArePointers x c pointers.now → ops.new ≡ ops.old ++ pointers_then x form c []) }
 {
     match form {
         Form::InFull => push_settings(ops, pointers.in_full.as_slice())?,

@@ -5,7 +5,7 @@ ghost use Rattle.cxx_hierarchy.specs.VirtualBases.{HasVirtualBase};
 ghost use Rattle.cxx_subobject.specs.declared.Root.TheVariants.{Whole};
 ghost use Rattle.cxx_subobject.specs.Subobjects.{IsSubobject, subobject};
 ghost use Rattle.byte_code.specs.declared.op.PointSource.TheVariants.{Directory, Vtt};
-ghost use Rattle.path_plan.specs.Plans.{AsBase, InFull};
+ghost use Rattle.path_plan.specs.declared.form.Form.TheVariants.{AsBase, InFull};
 ghost use Rattle.abi_slots.specs.Listing.{vbase_number};
 ghost use Rattle.abi_slots.specs.Slots.{word_number};
 ghost use Rattle.abi_vtt.specs.Vtts.{has_vtt};

@@ -2,7 +2,6 @@
 
 ghost use Rattle.std.specs.Prelude.{◌≡◌, ◌<◌, ◌++◌, [], OnOk, length};
 ghost use Rattle.code_blocks.specs.Blocks.{event_block, plan_return, plan_tail};
-ghost use Rattle.code_blocks.specs.invariants.ItemCodes.{code_form};
 ghost use Rattle.code_plans.specs.PlanSites.{IsLaidPlanSite, plan_setup};
 ghost use Rattle.code_plans.specs.Settings.{ArePointers};
 ghost use Rattle.code_plans.specs.Tails.{IsLeftOf, OfItemsLeft};
@@ -47,7 +46,7 @@ pub fn push_tail<L: SoundLayout>(
     requires site { IsLaidPlanSite L.lays_out L.rows site.now }
     requires known { plan.class.0 < length site.now.h.now }
     requires left { IsLeftOf L.rows site.now plan left.now }
-    ensures { OnOk result (OfItemsLeft L.rows site.now plan left.now next (λ at items. ops.new ≡ ops.old ++ plan_tail (plan_setup L.rows site.now) at plan.course (code_form plan.form) plan.class items)) }
+    ensures { OnOk result (OfItemsLeft L.rows site.now plan left.now next (λ at items. ops.new ≡ ops.old ++ plan_tail (plan_setup L.rows site.now) at plan.course plan.form plan.class items)) }
 {
     match left {
         [] => ops.push(plan_return(plan.course))?,
@@ -75,7 +74,7 @@ pub fn push_block<L: SoundLayout>(
     requires pointers { ArePointers (plan_setup L.rows site.now) plan.class pointers.now }
     requires known { plan.class.0 < length site.now.h.now }
     requires left { IsLeftOf L.rows site.now plan left.now }
-    ensures { OnOk result (OfItemsLeft L.rows site.now plan left.now next (λ at items. ops.new ≡ ops.old ++ event_block (plan_setup L.rows site.now) at plan.course (code_form plan.form) plan.class kind items)) }
+    ensures { OnOk result (OfItemsLeft L.rows site.now plan left.now next (λ at items. ops.new ≡ ops.old ++ event_block (plan_setup L.rows site.now) at plan.course plan.form plan.class kind items)) }
 {
     push_event(ops, site, pointers, plan, kind)?;
     push_tail(ops, site, plan, left, next)?;

@@ -31,7 +31,7 @@ use Rattle.byte_code.specs.declared.op.TraceKind.TheVariants.{Call as TraceCall}
 use Rattle.byte_code.specs.declared.op.ResultUse.{ResultUse}
 use Rattle.code_ops.specs.Setups.{Setup, places, Routine, FunctionCode, PlanCode, width_of, word_width}
 use Rattle.code_ops.specs.declared.routines.Course.TheVariants.{Constructs}
-use Rattle.path_plan.specs.Plans.{InFull}
+use Rattle.path_plan.specs.declared.form.Form.TheVariants.{InFull}
 use Rattle.code_ops.specs.Operands.{pointed, operand_class, operand_ops, operand_register, base_ops, ops_of}
 use Rattle.code_ops.specs.declared.uses.Used.{Used}
 use Rattle.code_ops.specs.declared.uses.Used.TheVariants.{ReadsPointer, Guards, Views, Takes, Downs, Overflows}

@@ -15,7 +15,7 @@ use Rattle.cxx_program.specs.declared.statement.TypedKind.TheVariants.{Declare, 
 use Rattle.cxx_program.specs.declared.operand.TypedOperand.{TypedOperand}
 use Rattle.cxx_program.specs.declared.operand.TypedOperand.TheVariants.{Variable as VariableOperand, This, Number as NumberOperand}
 use Rattle.cxx_program.specs.Typed.{Scope, variable_type}
-use Rattle.path_plan.specs.Plans.{InFull}
+use Rattle.path_plan.specs.declared.form.Form.TheVariants.{InFull}
 use Rattle.path_model.specs.Effects.{block_at}
 use Rattle.abi_slots.specs.Listing.{entry_number, entry_key}
 use Rattle.abi_slots.specs.declared.words.CodeKind.TheVariants.{Deleting}

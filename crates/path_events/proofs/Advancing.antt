@@ -9,7 +9,9 @@ use Rattle.cxx_hierarchy.specs.Hierarchies.{IsHierarchy}
 use Rattle.cxx_program.specs.declared.program.TypedProgram.{TypedProgram}
 use Rattle.path_plan.specs.Places.{ObjectPart}
 use Rattle.path_plan.specs.Phases.{PartEvent, Begin, Ending}
-use Rattle.path_plan.specs.Plans.{Bodies, Form, InFull, plan, unplan}
+use Rattle.path_plan.specs.declared.form.Form.{Form}
+use Rattle.path_plan.specs.declared.form.Form.TheVariants.{InFull}
+use Rattle.path_plan.specs.Plans.{Bodies, plan, unplan}
 use Rattle.path_plan.specs.Whole.{whole_part, construction, destruction}
 use Rattle.path_plan.specs.Pieces.{expand, Pending, pending, rest_of_plan}
 use Rattle.path_plan.proofs.Pieces.{plan_pieces, unplan_pieces}
@@ -23,13 +25,12 @@ use Rattle.path_heap.specs.declared.state.NumberedPart.{NumberedPart}
 use Rattle.path_heap.specs.Points.{StandsForPart}
 use Rattle.path_bodies.specs.declared.index.BodyIndex.{BodyIndex}
 use Rattle.path_bodies.specs.Places.{IsIndexOf}
-use Rattle.path_events.specs.declared.frame.Form.TheVariants.{InFull as InFullCode}
 use Rattle.path_events.specs.declared.frame.Pending.{Pending as Frame}
 use Rattle.path_events.specs.declared.frame.Step.{Step}
 use Rattle.path_events.specs.declared.frame.Step.TheVariants.{Event as EventStep, Last as LastStep, Open as OpenStep}
 use Rattle.path_events.specs.declared.plan.Plan.{Plan}
 use Rattle.path_events.specs.declared.plan.PlanEvent.{PlanEvent}
-use Rattle.path_events.specs.Frames.{StandsAs, left_of, frame_form}
+use Rattle.path_events.specs.Frames.{StandsAs, left_of}
 use Rattle.path_events.specs.Plans.{inner_of, IsEvent, begins_event, ending_event, EntryStands, EntriesStand, MeansNext, rest_events, PlanStands}
 use Rattle.path_events.specs.invariants.Steps.{IsStep, left_at, GivesStep, first_event, first_stage, event_in, stack_behind}
 use Rattle.path_events.proofs.Building.{built_first}
@@ -83,15 +84,15 @@ taken_by h keeps program classes b frame below f fs s r (EventStep code stage) i
 }
 taken_by h keeps program classes b frame below f fs s r (OpenStep kid form stage) is =
     let inner = inner_of h (plan_bodies program) b in
-    let inside = left_of h (plan_bodies program) b (frame_form form) kid.class is.q (first_stage b) in
+    let inside = left_of h (plan_bodies program) b form kid.class is.q (first_stage b) in
     let behind = left_at h program b frame f.part stage in
     record {
       frames = pending is.q inside ∷ (pending f.part behind ∷ fs);
       stand = (record { stands = is.stands; left = refl }, (record { stands = s.stands; left = refl }, r));
       e = first_of b is.q;
-      means = first_means h program classes b kid is.q (named h classes kid (frame_form form) is.q is.stands);
+      means = first_means h program classes b kid is.q (named h classes kid form is.q is.stands);
       is = ap (λ l. flat_map (expand inner) l ++ rest_of_plan inner fs) (s.left ∙ is.is)
-          ∙ (ap (λ t. (t ++ flat_map (expand inner) behind) ++ rest_of_plan inner fs) (inner_first h keeps (plan_bodies program) b (frame_form form) kid.class is.q)
+          ∙ (ap (λ t. (t ++ flat_map (expand inner) behind) ++ rest_of_plan inner fs) (inner_first h keeps (plan_bodies program) b form kid.class is.q)
           ∙ ap (λ t. first_of b is.q ∷ t) (append_assoc (flat_map (expand inner) inside) (flat_map (expand inner) behind) (rest_of_plan inner fs)));
     }
 
@@ -148,11 +149,11 @@ chosen h bodies true k c = refl
 chosen h bodies false k c = refl
 
 pub new_stands : (h : Classes) → IsHierarchy h → (program : TypedProgram) (classes : List ClassId) (k : ℕ) (whole : NumberedPart) (b : Bool) (new : Plan) → slice_get classes k ≡ Some whole.class → StandsForPart h classes whole (whole_part k whole.class) → total (sizes_of h InFull) classes ≤ 2 ^ 64
-    → new.is_building ≡ b → new.upcoming ≡ Some (first_event b whole) → reverse new.stack.items ≡ record { part = whole; form = InFullCode; stage = first_stage b } ∷ []
+    → new.is_building ≡ b → new.upcoming ≡ Some (first_event b whole) → reverse new.stack.items ≡ record { part = whole; form = InFull; stage = first_stage b } ∷ []
     → PlanStands h program classes new (if b then construction h (plan_bodies program) k whole.class else destruction h (plan_bodies program) k whole.class)
 new_stands h keeps program classes k whole b new listed a few building upcoming stack =
     let inside = left_of h (plan_bodies program) b InFull whole.class (whole_part k whole.class) (first_stage b) in
-    made h program classes new b (first_event b whole) (record { part = whole; form = InFullCode; stage = first_stage b } ∷ []) _ building upcoming stack (record {
+    made h program classes new b (first_event b whole) (record { part = whole; form = InFull; stage = first_stage b } ∷ []) _ building upcoming stack (record {
       frames = pending (whole_part k whole.class) inside ∷ [];
       stand = (record { stands = whole_stands h keeps classes k whole listed a few; left = refl }, tt);
       e = first_of b (whole_part k whole.class);

@@ -16,7 +16,9 @@ use Rattle.cxx_hierarchy.specs.Declarations.{elements_of}
 use Rattle.cxx_hierarchy.specs.Classes.{Classes, bases_of, members_of}
 use Rattle.path_plan.specs.Places.{ObjectPart, base_part, shared_part, element}
 use Rattle.path_plan.specs.Phases.{Begin, Ready, Init, Body, Done}
-use Rattle.path_plan.specs.Plans.{Bodies, Form, InFull, AsBase, upto, virtual_order}
+use Rattle.path_plan.specs.declared.form.Form.{Form}
+use Rattle.path_plan.specs.declared.form.Form.TheVariants.{InFull, AsBase}
+use Rattle.path_plan.specs.Plans.{Bodies, upto, virtual_order}
 use Rattle.path_plan.specs.Pieces.{Piece, Own, Sub, shared_pieces, base_pieces, init_pieces, body_pieces, typed_pieces, member_pieces, built_pieces}
 use Rattle.path_events.specs.Frames.{built_body, built_members, built_bases, left_of}
 use Rattle.path_events.specs.declared.frame.Stage.TheVariants.{Shared as SharedStage, Bases as BasesStage}

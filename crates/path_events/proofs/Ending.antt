@@ -14,7 +14,9 @@ use Rattle.cxx_hierarchy.specs.Declarations.{elements_of}
 use Rattle.cxx_hierarchy.specs.Classes.{Classes, bases_of, members_of}
 use Rattle.path_plan.specs.Places.{ObjectPart, base_part, shared_part, element}
 use Rattle.path_plan.specs.Phases.{Ending, Body, Bases, End}
-use Rattle.path_plan.specs.Plans.{Bodies, Form, InFull, AsBase, upto, backwards, virtual_order}
+use Rattle.path_plan.specs.declared.form.Form.{Form}
+use Rattle.path_plan.specs.declared.form.Form.TheVariants.{InFull, AsBase}
+use Rattle.path_plan.specs.Plans.{Bodies, upto, backwards, virtual_order}
 use Rattle.path_plan.specs.Pieces.{Piece, Own, Sub, shared_pieces, base_pieces, body_pieces, typed_pieces, member_pieces, ended_pieces}
 use Rattle.path_events.specs.Frames.{ended_shared, ended_bases, ended_members, left_of}
 use Rattle.path_events.specs.declared.frame.Stage.TheVariants.{Body as BodyStage}

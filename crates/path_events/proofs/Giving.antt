@@ -3,7 +3,7 @@ use Rattle.std.proofs.Common.{◌≡◌, Bool, Option, Some, None, List, subst, 
 use Rattle.cxx_hierarchy.specs.declared.records.ClassId.{ClassId}
 use Rattle.cxx_hierarchy.specs.Classes.{Classes}
 use Rattle.path_plan.specs.Places.{ObjectPart}
-use Rattle.path_plan.specs.Plans.{Form}
+use Rattle.path_plan.specs.declared.form.Form.{Form}
 use Rattle.path_plan.specs.Pieces.{Piece}
 use Rattle.path_heap.specs.declared.state.NumberedPart.{NumberedPart}
 use Rattle.path_heap.specs.Points.{StandsForPart}

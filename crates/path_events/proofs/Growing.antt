@@ -5,7 +5,8 @@ use Rattle.cxx_hierarchy.specs.Classes.{Classes}
 use Rattle.cxx_program.specs.declared.program.TypedProgram.{TypedProgram}
 use Rattle.path_plan.specs.Places.{ObjectPart}
 use Rattle.path_plan.specs.Phases.{PartEvent}
-use Rattle.path_plan.specs.Plans.{Bodies, Form}
+use Rattle.path_plan.specs.declared.form.Form.{Form}
+use Rattle.path_plan.specs.Plans.{Bodies}
 use Rattle.path_plan.specs.Pieces.{Pending}
 use Rattle.path_numbers.specs.Sizes.{sizes_of}
 use Rattle.path_numbers.proofs.Heap.{at_more}
@@ -15,7 +16,7 @@ use Rattle.path_heap.proofs.Growing.{owner_more}
 use Rattle.path_events.specs.declared.plan.Plan.{Plan}
 use Rattle.path_events.specs.declared.plan.PlanEvent.{PlanEvent}
 use Rattle.path_events.specs.declared.frame.Pending.{Pending as Frame}
-use Rattle.path_events.specs.Frames.{StandsAs, frame_form}
+use Rattle.path_events.specs.Frames.{StandsAs}
 use Rattle.path_events.specs.Plans.{PlanStands, EntriesStand, MeansNext, IsEvent, begins_event, ready_event, init_event, body_event, done_event, ending_event, bases_event, end_event}
 
 pub part_more : (h : Classes) (classes : List ClassId) (c : ClassId) (code : NumberedPart) (p : ObjectPart) → StandsForPart h classes code p → StandsForPart h (classes ++ c ∷ []) code p
@@ -54,7 +55,7 @@ frames_more h bodies b classes c [] [] a = a
 frames_more h bodies b classes c [] (f ∷ frames) a = absurd a
 frames_more h bodies b classes c (code ∷ codes) [] a = absurd a
 frames_more h bodies b classes c (code ∷ codes) (f ∷ frames) a =
-    (record { stands = stands_more h classes c code.part (frame_form code.form) f.part a.0.stands; left = a.0.left }, frames_more h bodies b classes c codes frames a.1)
+    (record { stands = stands_more h classes c code.part code.form f.part a.0.stands; left = a.0.left }, frames_more h bodies b classes c codes frames a.1)
 
 pub plan_more : (h : Classes) (program : TypedProgram) (classes : List ClassId) (c : ClassId) (plan : Plan) (events : List PartEvent) → PlanStands h program classes plan events → PlanStands h program (classes ++ c ∷ []) plan events
 plan_more h program classes c plan events a = record { frames = a.frames; stand = frames_more h _ _ classes c _ a.frames a.stand; first = next_more h program classes c plan.upcoming events a.first; rest = a.rest }

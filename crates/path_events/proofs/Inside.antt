@@ -13,7 +13,9 @@ use Rattle.cxx_hierarchy.specs.Classes.{Classes, bases_of, members_of, bases_in,
 use Rattle.cxx_hierarchy.specs.Hierarchies.{IsHierarchy}
 use Rattle.cxx_subobject.specs.Subobjects.{IsSubobject, whole, shared, shared_base}
 use Rattle.path_plan.specs.Places.{ObjectPart, base_part, shared_part, element}
-use Rattle.path_plan.specs.Plans.{Form, InFull, AsBase, virtual_order}
+use Rattle.path_plan.specs.declared.form.Form.{Form}
+use Rattle.path_plan.specs.declared.form.Form.TheVariants.{InFull, AsBase}
+use Rattle.path_plan.specs.Plans.{virtual_order}
 use Rattle.path_plan.proofs.Order.{order_virtual}
 use Rattle.path_plan.proofs.Valid.{base_valid}
 use Rattle.path_numbers.specs.Sizes.{sizes_of, base_offset, member_offset, shared_offset}

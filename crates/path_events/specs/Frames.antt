@@ -5,22 +5,16 @@ use Rattle.cxx_hierarchy.specs.declared.records.ClassId.{ClassId}
 use Rattle.cxx_hierarchy.specs.Classes.{Classes, bases_of, members_of}
 use Rattle.path_plan.specs.Places.{ObjectPart}
 use Rattle.path_plan.specs.Phases.{Ready, Done, Bases, End}
-use Rattle.path_plan.specs.Plans.{Bodies, Form, InFull, AsBase, upto, backwards, virtual_order}
+use Rattle.path_plan.specs.declared.form.Form.{Form}
+use Rattle.path_plan.specs.Plans.{Bodies, upto, backwards, virtual_order}
 use Rattle.path_plan.specs.Pieces.{Piece, Own, shared_pieces, base_pieces, body_pieces, member_pieces}
 use Rattle.path_numbers.specs.Sizes.{sizes_of}
 use Rattle.path_numbers.specs.Nodes.{Node}
 use Rattle.path_numbers.specs.Heap.{IsAt}
 use Rattle.path_heap.specs.declared.state.NumberedPart.{NumberedPart}
 use Rattle.path_heap.specs.Points.{HasOwner}
-use Rattle.path_events.specs.declared.frame.Form.{Form as FormCode}
-use Rattle.path_events.specs.declared.frame.Form.TheVariants.{InFull as InFullCode, AsBase as AsBaseCode}
 use Rattle.path_events.specs.declared.frame.Stage.{Stage}
 use Rattle.path_events.specs.declared.frame.Stage.TheVariants.{Shared as SharedStage, Bases as BasesStage, Members as MembersStage, Body as BodyStage, Last as LastStage}
-
--- the form that the code names
-abbrev pub frame_form : FormCode → Form
-frame_form InFullCode = InFull
-frame_form AsBaseCode = AsBase
 
 -- a part as the code names it is the part p, of this form, and all its numbers are below 2 ^ 64
 pub record StandsAs (h : Classes) (classes : List ClassId) (code : NumberedPart) (form : Form) (p : ObjectPart) : Type 0 where

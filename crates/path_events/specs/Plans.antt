@@ -5,7 +5,8 @@ use Rattle.cxx_hierarchy.specs.Classes.{Classes}
 use Rattle.cxx_program.specs.declared.program.TypedProgram.{TypedProgram}
 use Rattle.path_plan.specs.Places.{ObjectPart}
 use Rattle.path_plan.specs.Phases.{PartEvent, Begin, Ready, Init, Body, Done, Ending, Bases, End}
-use Rattle.path_plan.specs.Plans.{Bodies, Inner, plan, unplan, InFull}
+use Rattle.path_plan.specs.declared.form.Form.TheVariants.{InFull}
+use Rattle.path_plan.specs.Plans.{Bodies, Inner, plan, unplan}
 use Rattle.path_plan.specs.Pieces.{Pending, rest_of_plan}
 use Rattle.path_model.specs.States.{plan_bodies, member_init, is_init}
 use Rattle.path_heap.specs.declared.state.NumberedPart.{NumberedPart}
@@ -14,7 +15,7 @@ use Rattle.path_events.specs.declared.plan.PlanEvent.{PlanEvent}
 use Rattle.path_events.specs.declared.plan.PlanEvent.TheVariants.{Begin as BeginCode, Ready as ReadyCode, Init as InitCode, Body as BodyCode, Done as DoneCode, Ending as EndingCode, Bases as BasesCode, End as EndCode}
 use Rattle.path_events.specs.declared.frame.Pending.{Pending as Frame}
 use Rattle.path_events.specs.declared.plan.Plan.{Plan}
-use Rattle.path_events.specs.Frames.{StandsAs, left_of, frame_form}
+use Rattle.path_events.specs.Frames.{StandsAs, left_of}
 use Rattle.path_plan.specs.Whole.{whole_part, construction, destruction}
 use Rattle.path_numbers.specs.Sizes.{sizes_of, total}
 
@@ -36,8 +37,8 @@ inner_of h bodies false = unplan h bodies
 
 -- an entry of the stack is a part with what is left of it
 pub record EntryStands (h : Classes) (bodies : Bodies) (is_building : Bool) (classes : List ClassId) (code : Frame) (f : Pending) : Type 0 where
-  pub stands : StandsAs h classes code.part (frame_form code.form) f.part
-  pub left : f.left ≡ left_of h bodies is_building (frame_form code.form) code.part.class f.part code.stage
+  pub stands : StandsAs h classes code.part code.form f.part
+  pub left : f.left ≡ left_of h bodies is_building code.form code.part.class f.part code.stage
 
 -- each of them, the innermost first
 abbrev pub EntriesStand : Classes → Bodies → Bool → List ClassId → List Frame → List Pending → Type 0

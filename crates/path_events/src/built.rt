@@ -8,11 +8,12 @@ ghost use Rattle.path_events.specs.invariants.Steps.{GivesNext, MayGiveNext};
 
 use crate::classes::{base_at, bases_of, member_at, members_of, order_of};
 use crate::course::Course;
-use crate::frame::{Form, Stage, Step};
+use crate::frame::{Stage, Step};
 use crate::kids::{base_kid, element_kid, shared_kid};
 use crate::plan::PlanEvent;
 use cxx_hierarchy::{ClassId, FieldType, Member};
 use cxx_program::Owner;
+use path_plan::Form;
 
 /// The virtual base at place j, where the part is a complete object and has one there.
 fn built_shared(course: &Course, j: usize) -> Option<Step>

@@ -7,11 +7,12 @@ ghost use Rattle.path_events.specs.invariants.Steps.{GivesNext, MayGiveNext, ele
 
 use crate::classes::{base_at, bases_of, class_at, member_at, members_of, order_of};
 use crate::course::Course;
-use crate::frame::{Form, Stage, Step};
+use crate::frame::{Stage, Step};
 use crate::kids::{base_kid, element_kid, shared_kid};
 use crate::plan::PlanEvent;
 use cxx_hierarchy::{ClassId, FieldType, Hierarchy};
 use cxx_program::Owner;
+use path_plan::Form;
 
 /// The virtual base before place j, and the end where there is none.
 fn ended_shared(course: &Course, j: usize) -> Step

@@ -2,13 +2,7 @@
 
 use crate::plan::PlanEvent;
 use path_heap::NumberedPart;
-
-/// What is built or destroyed: a complete object with its virtual bases, or a base of one without them.
-#[derive(Clone, Copy)]
-pub enum Form {
-    InFull,
-    AsBase,
-}
+use path_plan::Form;
 
 /// What comes next in a part. In a construction the numbers tell which base, member or element is next, and in a destruction how
 /// many of them are left.

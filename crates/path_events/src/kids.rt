@@ -1,6 +1,6 @@
 //! The parts right inside a part: each is a constant number on.
 
-ghost use Rattle.std.specs.Prelude.{◌≡◌, ◌<◌, ℕ, List, Some, false, slice_get};
+ghost use Rattle.std.specs.Prelude.{◌≡◌, ◌<◌, List, Some, false, slice_get};
 ghost use Rattle.cxx_hierarchy.specs.declared.records.ClassId.{ClassId};
 ghost use Rattle.cxx_hierarchy.specs.declared.records.Base.{Base};
 ghost use Rattle.cxx_hierarchy.specs.declared.records.Member.{Member};
@@ -8,7 +8,9 @@ ghost use Rattle.cxx_hierarchy.specs.declared.records.FieldType.TheVariants.{Obj
 ghost use Rattle.cxx_hierarchy.specs.Declarations.{elements_of};
 ghost use Rattle.cxx_hierarchy.specs.Classes.{bases_of, members_of};
 ghost use Rattle.path_plan.specs.Places.{ObjectPart, base_part, shared_part, element};
-ghost use Rattle.path_plan.specs.Plans.{Form, InFull, AsBase, virtual_order};
+ghost use Rattle.path_plan.specs.declared.form.Form.{Form};
+ghost use Rattle.path_plan.specs.declared.form.Form.TheVariants.{InFull, AsBase};
+ghost use Rattle.path_plan.specs.Plans.{virtual_order};
 ghost use Rattle.path_numbers.specs.Numbers.{AreClassNumbers};
 ghost use Rattle.path_events.specs.Frames.{StandsAs};
 

@@ -20,6 +20,6 @@ pub mod kids;
 pub mod laws;
 pub mod plan;
 
-pub use crate::frame::{Form, Pending, Stage, Step};
+pub use crate::frame::{Pending, Stage, Step};
 pub use crate::laws::plans_outlive_new_objects;
 pub use crate::plan::{Plan, PlanEvent};

@@ -13,12 +13,13 @@ ghost use Rattle.path_events.specs.invariants.Steps.{GivesNext, first_event, fir
 use crate::built::built_step;
 use crate::course::Course;
 use crate::ended::ended_step;
-use crate::frame::{Form, Pending, Stage, Step};
+use crate::frame::{Pending, Stage, Step};
 use cxx_hierarchy::Hierarchy;
 use foundation::NoMemory;
 use path_bodies::BodyIndex;
 use path_heap::NumberedPart;
 use path_numbers::Numbers;
+use path_plan::Form;
 use std::alloc::Global;
 
 /// What happens to a part (ISO C++03 12.6.2 p5, 12.4 p6).

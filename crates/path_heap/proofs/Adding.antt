@@ -11,7 +11,7 @@ use Rattle.cxx_hierarchy.specs.Hierarchies.{IsHierarchy}
 use Rattle.cxx_subobject.specs.Parts.{most_parts}
 use Rattle.path_plan.specs.Places.{ObjectPart}
 use Rattle.path_plan.specs.Phases.{Raw}
-use Rattle.path_plan.specs.Plans.{InFull}
+use Rattle.path_plan.specs.declared.form.Form.TheVariants.{InFull}
 use Rattle.path_plan.specs.Whole.{whole_part}
 use Rattle.path_numbers.specs.Sizes.{sizes_of, total}
 use Rattle.path_numbers.specs.Nodes.{Node}

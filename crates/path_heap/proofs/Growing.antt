@@ -11,7 +11,7 @@ use Rattle.cxx_hierarchy.specs.Hierarchies.{IsHierarchy}
 use Rattle.cxx_subobject.specs.declared.Subobject.{Subobject}
 use Rattle.path_plan.specs.Places.{Step, ObjectPart, part}
 use Rattle.path_plan.specs.Phases.{Phase, Raw, is_running}
-use Rattle.path_plan.specs.Plans.{InFull}
+use Rattle.path_plan.specs.declared.form.Form.TheVariants.{InFull}
 use Rattle.path_numbers.specs.Sizes.{sizes_of, total, before}
 use Rattle.path_numbers.specs.Nodes.{Node, Under}
 use Rattle.path_numbers.specs.Heap.{IsAt, root_at}

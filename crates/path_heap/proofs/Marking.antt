@@ -10,7 +10,7 @@ use Rattle.cxx_subobject.specs.declared.Subobject.{Subobject}
 use Rattle.path_plan.specs.Places.{Step, ObjectPart, part}
 use Rattle.path_plan.specs.Phases.{put, with_pushed_part, is_running}
 use Rattle.path_plan.specs.Phases as Plan
-use Rattle.path_plan.specs.Plans.{InFull}
+use Rattle.path_plan.specs.declared.form.Form.TheVariants.{InFull}
 use Rattle.path_plan.proofs.Same.{put_same, put_other}
 use Rattle.path_numbers.specs.Sizes.{sizes_of, total}
 use Rattle.path_numbers.specs.Nodes.{Node}

@@ -19,7 +19,8 @@ use Rattle.cxx_subobject.specs.Subobjects.{IsSubobject, whole, shared, Leads, su
 use Rattle.cxx_subobject.specs.Locations.{IsElement}
 use Rattle.cxx_subobject.proofs.PathLemmas.{part_virtual}
 use Rattle.path_plan.specs.Places.{ObjectPart, part, shared_part, element}
-use Rattle.path_plan.specs.Plans.{InFull, AsBase, virtual_order}
+use Rattle.path_plan.specs.declared.form.Form.TheVariants.{InFull, AsBase}
+use Rattle.path_plan.specs.Plans.{virtual_order}
 use Rattle.path_plan.proofs.Order.{order_has}
 use Rattle.path_numbers.specs.Sizes.{sizes_of, member_offset, shared_offset}
 use Rattle.path_numbers.specs.Nodes.{Node, node, shared_kid, element_kid, Under, here, deeper, LeafAt}

@@ -8,7 +8,7 @@ use Rattle.cxx_subobject.specs.Subobjects.{whole_of}
 use Rattle.path_plan.specs.Places.{Step, ObjectPart, part}
 use Rattle.path_plan.specs.Phases.{top_subobject, is_complete}
 use Rattle.path_plan.specs.Views.{view}
-use Rattle.path_plan.specs.Plans.{InFull}
+use Rattle.path_plan.specs.declared.form.Form.TheVariants.{InFull}
 use Rattle.path_numbers.specs.Sizes.{sizes_of}
 use Rattle.path_numbers.specs.Nodes.{Node}
 use Rattle.path_numbers.specs.Heap.{IsAt}

@@ -9,7 +9,7 @@ use Rattle.cxx_hierarchy.specs.Hierarchies.{IsHierarchy}
 use Rattle.cxx_subobject.specs.declared.Subobject.{Subobject}
 use Rattle.path_plan.specs.Places.{Step, ObjectPart, part}
 use Rattle.path_plan.specs.Phases.{Phase, Phases, put, top_subobject, rest_of, with_pushed_part, popped, is_running}
-use Rattle.path_plan.specs.Plans.{InFull}
+use Rattle.path_plan.specs.declared.form.Form.TheVariants.{InFull}
 use Rattle.path_plan.specs.Views.{IsOnTop}
 use Rattle.path_plan.proofs.Same.{put_same, put_other, part_cases, Owns, owner_cases, pushed_same, popped_same, pushed_other, popped_other, part_owns}
 use Rattle.path_numbers.specs.Sizes.{sizes_of, total}

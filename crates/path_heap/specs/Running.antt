@@ -5,7 +5,7 @@ use Rattle.cxx_hierarchy.specs.Classes.{Classes}
 use Rattle.cxx_subobject.specs.declared.Subobject.{Subobject}
 use Rattle.path_plan.specs.Places.{Step, ObjectPart, part}
 use Rattle.path_plan.specs.Phases.{Phase, Phases, is_running}
-use Rattle.path_plan.specs.Plans.{InFull}
+use Rattle.path_plan.specs.declared.form.Form.TheVariants.{InFull}
 use Rattle.path_numbers.specs.Sizes.{sizes_of}
 use Rattle.path_numbers.specs.Nodes.{Node}
 use Rattle.path_numbers.specs.Heap.{IsAt}

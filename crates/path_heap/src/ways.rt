@@ -7,7 +7,7 @@ ghost use Rattle.cxx_hierarchy.specs.declared.records.FieldType.TheVariants.{Val
 ghost use Rattle.cxx_subobject.specs.Subobjects.{IsSubobject, class_of, tail_of};
 ghost use Rattle.cxx_subobject.specs.Locations.{IsElement};
 ghost use Rattle.path_plan.specs.Places.{ObjectPart, element};
-ghost use Rattle.path_plan.specs.Plans.{InFull};
+ghost use Rattle.path_plan.specs.declared.form.Form.TheVariants.{InFull};
 ghost use Rattle.path_numbers.specs.Sizes.{sizes_of, member_offset};
 ghost use Rattle.path_numbers.specs.Numbers.{AreClassNumbers, subobject_number};
 ghost use Rattle.path_model.specs.Values.{Objects, inner_part};

@@ -15,7 +15,9 @@ use Rattle.cxx_subobject.specs.invariants.Counts.{own_of, own_bases, parts_weigh
 use Rattle.cxx_subobject.proofs.CountLemmas.{parts_sum, own_opened}
 use Rattle.cxx_subobject.proofs.PathLemmas.{virtual_below}
 use Rattle.foundation.proofs.Members.{contains_from_has, has_from_contains, once_by_place}
-use Rattle.path_plan.specs.Plans.{Form, InFull, AsBase, virtual_order}
+use Rattle.path_plan.specs.declared.form.Form.{Form}
+use Rattle.path_plan.specs.declared.form.Form.TheVariants.{InFull, AsBase}
+use Rattle.path_plan.specs.Plans.{virtual_order}
 use Rattle.path_plan.proofs.Order.{order_has, order_virtual}
 use Rattle.path_numbers.specs.Sizes.{total, base_size, unit_size, member_size, sizes_of}
 use Rattle.path_numbers.specs.invariants.Lines.{HaveFewParts}

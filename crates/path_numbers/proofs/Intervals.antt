@@ -8,7 +8,9 @@ use Rattle.cxx_hierarchy.specs.declared.records.FieldType.TheVariants.{Object}
 use Rattle.cxx_hierarchy.specs.Classes.{Classes, bases_of, members_of}
 use Rattle.cxx_subobject.specs.Parts.{elements_of}
 use Rattle.path_plan.specs.Places.{base_part, shared_part, element}
-use Rattle.path_plan.specs.Plans.{Form, InFull, AsBase, virtual_order}
+use Rattle.path_plan.specs.declared.form.Form.{Form}
+use Rattle.path_plan.specs.declared.form.Form.TheVariants.{InFull, AsBase}
+use Rattle.path_plan.specs.Plans.{virtual_order}
 use Rattle.path_numbers.specs.Sizes.{Sizes, total, before, base_size, unit_size, member_size, IsSizes, base_offset, member_offset, shared_offset}
 use Rattle.path_numbers.specs.Nodes.{Node, node, Kid, base_kid, element_kid, shared_kid, Under, here, deeper}
 

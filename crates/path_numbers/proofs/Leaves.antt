@@ -5,7 +5,7 @@ use Rattle.cxx_hierarchy.specs.declared.records.Member.{Member}
 use Rattle.cxx_hierarchy.specs.declared.records.FieldType.TheVariants.{Value, Object}
 use Rattle.cxx_hierarchy.specs.Classes.{Classes, members_of}
 use Rattle.cxx_subobject.specs.Parts.{elements_of}
-use Rattle.path_plan.specs.Plans.{AsBase}
+use Rattle.path_plan.specs.declared.form.Form.TheVariants.{AsBase}
 use Rattle.path_numbers.specs.Sizes.{Sizes, before, unit_size, member_size, IsSizes, member_offset}
 use Rattle.path_numbers.specs.Nodes.{Node, Kid, Under, here, deeper, LeafAt}
 use Rattle.path_numbers.proofs.Intervals.{size_of, bases_end, before_within, before_apart, own_least, Spotted, base_at, element_at, shared_at, spotted, order, under_lies, kids_apart, Apart}

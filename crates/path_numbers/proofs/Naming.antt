@@ -12,7 +12,8 @@ use Rattle.cxx_subobject.proofs.ListLemmas.{EachOnce, once_by_place}
 use Rattle.cxx_subobject.proofs.TreeLemmas.{base_down}
 use Rattle.cxx_subobject.proofs.PathLemmas.{class_of_longer}
 use Rattle.path_plan.specs.Places.{ObjectPart, base_part, shared_part, element}
-use Rattle.path_plan.specs.Plans.{InFull, AsBase, virtual_order}
+use Rattle.path_plan.specs.declared.form.Form.TheVariants.{InFull, AsBase}
+use Rattle.path_plan.specs.Plans.{virtual_order}
 use Rattle.path_plan.proofs.Names.{Token, At, Next, Member, Index, sub_name, owner_name, name, region, Begins, begins_itself, begins_through, begins_child, apart, not_child, name_base, region_name}
 use Rattle.path_numbers.specs.Sizes.{Sizes, base_offset, member_offset, shared_offset}
 use Rattle.path_numbers.specs.Nodes.{Node, node, Kid, base_kid, element_kid, shared_kid, Under, here, deeper, IsGood}

@@ -5,7 +5,8 @@ use Rattle.cxx_hierarchy.specs.Hierarchies.{IsHierarchy}
 use Rattle.cxx_subobject.specs.declared.Subobject.{Subobject}
 use Rattle.cxx_subobject.specs.Subobjects.{IsSubobject, whole, shared, shared_base}
 use Rattle.cxx_subobject.proofs.ListLemmas.{has_at, contains_from_has}
-use Rattle.path_plan.specs.Plans.{InFull, AsBase, virtual_order}
+use Rattle.path_plan.specs.declared.form.Form.TheVariants.{InFull, AsBase}
+use Rattle.path_plan.specs.Plans.{virtual_order}
 use Rattle.path_plan.proofs.Order.{order_virtual}
 use Rattle.path_plan.proofs.Valid.{base_valid}
 use Rattle.path_numbers.specs.Sizes.{Sizes}

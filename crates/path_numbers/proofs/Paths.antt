@@ -10,7 +10,7 @@ use Rattle.cxx_subobject.specs.declared.Subobject.{Subobject}
 use Rattle.cxx_subobject.specs.Subobjects.{Leads, IsSubobject, whole, shared, tail_of}
 use Rattle.cxx_subobject.specs.Parts.{IsWithinLimits}
 use Rattle.cxx_subobject.proofs.PathLemmas.{virtual_below}
-use Rattle.path_plan.specs.Plans.{InFull}
+use Rattle.path_plan.specs.declared.form.Form.TheVariants.{InFull}
 use Rattle.path_numbers.specs.Sizes.{sizes_of}
 use Rattle.path_numbers.specs.Numbers.{base_number, shared_number, path_number}
 use Rattle.path_numbers.proofs.Counting.{are_small}

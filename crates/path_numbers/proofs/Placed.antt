@@ -14,7 +14,8 @@ use Rattle.cxx_subobject.proofs.PathLemmas.{same_id, virtual_below}
 use Rattle.foundation.proofs.Truth.{split, not_both, is_false, or_left, or_right}
 use Rattle.foundation.proofs.Members.{Has, has_from_contains, index_of, once_by_place}
 use Rattle.foundation.proofs.Places.{place_of}
-use Rattle.path_plan.specs.Plans.{InFull, AsBase, is_among, virtual_order}
+use Rattle.path_plan.specs.declared.form.Form.TheVariants.{InFull, AsBase}
+use Rattle.path_plan.specs.Plans.{is_among, virtual_order}
 use Rattle.path_plan.proofs.Order.{order_has, order_virtual, among_has}
 use Rattle.path_numbers.specs.declared.numbers.ClassNumbers.{ClassNumbers}
 use Rattle.path_numbers.specs.Sizes.{before, base_size, sizes_of, base_offset, shared_offset}

@@ -5,7 +5,8 @@ use Rattle.std.specs.List.{flat_map}
 use Rattle.cxx_hierarchy.specs.declared.records.ClassId.{ClassId}
 use Rattle.cxx_hierarchy.specs.declared.records.Base.{Base}
 use Rattle.cxx_hierarchy.specs.Classes.{Classes}
-use Rattle.path_plan.specs.Plans.{AsBase, virtual_order}
+use Rattle.path_plan.specs.declared.form.Form.TheVariants.{AsBase}
+use Rattle.path_plan.specs.Plans.{virtual_order}
 use Rattle.path_numbers.specs.Sizes.{Sizes, total}
 use Rattle.path_numbers.specs.invariants.Sharing.{met, meet_all, brings, HasRoom}
 use Rattle.path_numbers.proofs.Meeting.{meet_append, total_meets}

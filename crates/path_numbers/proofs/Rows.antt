@@ -13,7 +13,8 @@ use Rattle.cxx_hierarchy.specs.Hierarchies.{IsHierarchy}
 use Rattle.cxx_subobject.proofs.PathLemmas.{virtual_below, same_id}
 use Rattle.foundation.proofs.Members.{Has, has_at}
 use Rattle.foundation.proofs.Places.{get_pushed}
-use Rattle.path_plan.specs.Plans.{InFull, AsBase, is_among, virtual_order}
+use Rattle.path_plan.specs.declared.form.Form.TheVariants.{InFull, AsBase}
+use Rattle.path_plan.specs.Plans.{is_among, virtual_order}
 use Rattle.path_plan.proofs.Order.{order_virtual}
 use Rattle.path_numbers.specs.declared.numbers.ClassNumbers.{ClassNumbers}
 use Rattle.path_numbers.specs.declared.numbers.Line.{Line}

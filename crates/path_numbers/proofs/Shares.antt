@@ -5,7 +5,8 @@ use Rattle.std.proofs.lemmas.Bool.{eqb-true, eq-eqb}
 use Rattle.std.proofs.lemmas.List.{get_or-set_same, get_or-set_other}
 use Rattle.cxx_hierarchy.specs.declared.records.ClassId.{ClassId}
 use Rattle.foundation.proofs.Truth.{split, not_both}
-use Rattle.path_plan.specs.Plans.{AsBase, is_among}
+use Rattle.path_plan.specs.declared.form.Form.TheVariants.{AsBase}
+use Rattle.path_plan.specs.Plans.{is_among}
 use Rattle.path_numbers.specs.declared.sharing.Sharing.{Sharing}
 use Rattle.path_numbers.specs.Sizes.{Sizes, total}
 use Rattle.path_numbers.specs.Numbers.{before_first, place_among}

@@ -11,7 +11,9 @@ use Rattle.cxx_hierarchy.specs.Hierarchies.{IsHierarchy}
 use Rattle.cxx_subobject.specs.Parts.{elements_of}
 use Rattle.cxx_subobject.proofs.ListLemmas.{Has, contains_from_has, split}
 use Rattle.cxx_subobject.proofs.PathLemmas.{virtual_below}
-use Rattle.path_plan.specs.Plans.{Form, InFull, AsBase, virtual_order}
+use Rattle.path_plan.specs.declared.form.Form.{Form}
+use Rattle.path_plan.specs.declared.form.Form.TheVariants.{InFull, AsBase}
+use Rattle.path_plan.specs.Plans.{virtual_order}
 use Rattle.path_plan.proofs.Order.{order_virtual}
 use Rattle.path_numbers.specs.Sizes.{Sizes, total, base_size, unit_size, member_size, own_by, sized_by, sized, sizes_of, IsSizes}
 

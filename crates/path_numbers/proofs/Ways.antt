@@ -7,7 +7,9 @@ use Rattle.cxx_subobject.specs.declared.Subobject.{Subobject}
 use Rattle.cxx_subobject.specs.Subobjects.{subobject, base_subobject}
 use Rattle.cxx_subobject.proofs.TreeLemmas.{base_down}
 use Rattle.path_plan.specs.Places.{ObjectPart, part, element, base_part, shared_part}
-use Rattle.path_plan.specs.Plans.{Form, InFull, AsBase, virtual_order, unmet, walk, is_among}
+use Rattle.path_plan.specs.declared.form.Form.{Form}
+use Rattle.path_plan.specs.declared.form.Form.TheVariants.{InFull, AsBase}
+use Rattle.path_plan.specs.Plans.{virtual_order, unmet, walk, is_among}
 use Rattle.cxx_subobject.proofs.ListLemmas.{EachOnce, split}
 use Rattle.path_plan.proofs.Order.{has_unmet}
 use Rattle.path_numbers.specs.Sizes.{Sizes, base_offset, member_offset, shared_offset}

@@ -3,7 +3,7 @@ use Rattle.std.proofs.Common.{◌≡◌, List, ap, subst, sym, ◌∙◌}
 use Rattle.cxx_hierarchy.specs.declared.records.ClassId.{ClassId}
 use Rattle.cxx_hierarchy.specs.Classes.{Classes}
 use Rattle.cxx_hierarchy.specs.Hierarchies.{IsHierarchy}
-use Rattle.path_plan.specs.Plans.{InFull}
+use Rattle.path_plan.specs.declared.form.Form.TheVariants.{InFull}
 use Rattle.path_plan.proofs.Names.{Token, owner_name, name, region, Begins, begins_itself, begins_through, region_name}
 use Rattle.path_numbers.specs.Sizes.{Sizes}
 use Rattle.path_numbers.specs.Nodes.{Node, Kid, Under, here, deeper, IsGood}

@@ -9,7 +9,8 @@ use Rattle.cxx_subobject.specs.Subobjects.{Leads, IsSubobject, whole, shared, su
 use Rattle.foundation.proofs.Members.{index_of}
 use Rattle.cxx_subobject.proofs.InsideLemmas.{whole_joined}
 use Rattle.path_plan.specs.Places.{part}
-use Rattle.path_plan.specs.Plans.{InFull, AsBase, virtual_order}
+use Rattle.path_plan.specs.declared.form.Form.TheVariants.{InFull, AsBase}
+use Rattle.path_plan.specs.Plans.{virtual_order}
 use Rattle.path_plan.proofs.Order.{order_has}
 use Rattle.path_numbers.specs.Sizes.{sizes_of, base_offset, shared_offset}
 use Rattle.path_numbers.specs.Nodes.{Node, Under, IsGood}

@@ -10,7 +10,9 @@ use Rattle.cxx_subobject.specs.declared.Subobject.{Subobject}
 use Rattle.cxx_subobject.specs.Subobjects.{subobject, join}
 use Rattle.cxx_subobject.specs.Parts.{elements_of}
 use Rattle.path_plan.specs.Places.{ObjectPart, part, element}
-use Rattle.path_plan.specs.Plans.{Form, InFull, AsBase, virtual_order}
+use Rattle.path_plan.specs.declared.form.Form.{Form}
+use Rattle.path_plan.specs.declared.form.Form.TheVariants.{InFull, AsBase}
+use Rattle.path_plan.specs.Plans.{virtual_order}
 use Rattle.path_numbers.specs.Sizes.{Sizes, base_offset, member_offset, shared_offset}
 
 -- to a base by its path, or into an element of a member, of class d

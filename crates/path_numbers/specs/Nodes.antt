@@ -9,7 +9,9 @@ use Rattle.cxx_hierarchy.specs.Classes.{Classes, bases_of, members_of}
 use Rattle.cxx_subobject.specs.Parts.{elements_of}
 use Rattle.cxx_subobject.specs.Subobjects.{class_of, whole_of}
 use Rattle.path_plan.specs.Places.{ObjectPart, base_part, shared_part, element}
-use Rattle.path_plan.specs.Plans.{Form, InFull, AsBase, virtual_order}
+use Rattle.path_plan.specs.declared.form.Form.{Form}
+use Rattle.path_plan.specs.declared.form.Form.TheVariants.{InFull, AsBase}
+use Rattle.path_plan.specs.Plans.{virtual_order}
 use Rattle.path_plan.specs.Whole.{whole_part}
 use Rattle.path_numbers.specs.Sizes.{Sizes, base_offset, member_offset, shared_offset}
 

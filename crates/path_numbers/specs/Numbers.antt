@@ -7,7 +7,8 @@ use Rattle.cxx_subobject.specs.declared.Root.{Root}
 use Rattle.cxx_subobject.specs.declared.Root.TheVariants.{Whole, Shared}
 use Rattle.cxx_subobject.specs.declared.Subobject.{Subobject}
 use Rattle.cxx_subobject.specs.Subobjects.{tail_of}
-use Rattle.path_plan.specs.Plans.{InFull, AsBase, is_among, virtual_order}
+use Rattle.path_plan.specs.declared.form.Form.TheVariants.{InFull, AsBase}
+use Rattle.path_plan.specs.Plans.{is_among, virtual_order}
 use Rattle.path_numbers.specs.declared.numbers.ClassNumbers.{ClassNumbers}
 use Rattle.path_numbers.specs.Sizes.{Sizes, base_size, sizes_of, base_offset, member_offset}
 

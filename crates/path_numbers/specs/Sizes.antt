@@ -8,7 +8,9 @@ use Rattle.cxx_hierarchy.specs.declared.records.FieldType.{FieldType}
 use Rattle.cxx_hierarchy.specs.declared.records.FieldType.TheVariants.{Value, Object}
 use Rattle.cxx_hierarchy.specs.Classes.{Classes, bases_of, members_of}
 use Rattle.cxx_subobject.specs.Parts.{elements_of}
-use Rattle.path_plan.specs.Plans.{Form, InFull, AsBase, virtual_order}
+use Rattle.path_plan.specs.declared.form.Form.{Form}
+use Rattle.path_plan.specs.declared.form.Form.TheVariants.{InFull, AsBase}
+use Rattle.path_plan.specs.Plans.{virtual_order}
 
 abbrev pub Sizes : Type 0
 Sizes = Form → ClassId → ℕ

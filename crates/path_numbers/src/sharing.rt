@@ -4,7 +4,6 @@ ghost use Rattle.std.specs.Prelude.{◌≡◌, ◌+◌, ◌≤◌, ◌<◌, [], 
 ghost use Rattle.std.specs.List.{flat_map};
 ghost use Rattle.cxx_hierarchy.specs.declared.records.ClassId.{ClassId};
 ghost use Rattle.cxx_hierarchy.specs.declared.records.Base.{Base};
-ghost use Rattle.path_plan.specs.Plans.{AsBase};
 ghost use Rattle.path_numbers.specs.Sizes.{sizes_of};
 ghost use Rattle.path_numbers.specs.Numbers.{AreNumberRows};
 ghost use Rattle.path_numbers.specs.invariants.Sharing.{met, meet_all, brings, IsSharing, HasRoom};

@@ -20,7 +20,8 @@ use Rattle.cxx_subobject.specs.Preorder.{preorder}
 use Rattle.cxx_subobject.proofs.TreeLemmas.{valid_at}
 use Rattle.cxx_subobject.proofs.PathLemmas.{class_found}
 use Rattle.path_plan.specs.Places.{element}
-use Rattle.path_plan.specs.Plans.{InFull, upto}
+use Rattle.path_plan.specs.declared.form.Form.TheVariants.{InFull}
+use Rattle.path_plan.specs.Plans.{upto}
 use Rattle.path_plan.specs.Whole.{whole_part}
 use Rattle.path_numbers.specs.Sizes.{sizes_of, member_offset}
 use Rattle.path_numbers.specs.Nodes.{Node}

@@ -12,7 +12,8 @@ use Rattle.cxx_hierarchy.specs.Declarations.{elements_of}
 use Rattle.cxx_hierarchy.specs.Classes.{Classes, bases_in, members_in}
 use Rattle.cxx_hierarchy.specs.Hierarchies.{IsHierarchy}
 use Rattle.cxx_hierarchy.specs.VirtualBases.{HasVirtualBase}
-use Rattle.path_plan.specs.Plans.{InFull, AsBase, virtual_order}
+use Rattle.path_plan.specs.declared.form.Form.TheVariants.{InFull, AsBase}
+use Rattle.path_plan.specs.Plans.{virtual_order}
 use Rattle.cxx_subobject.proofs.PathLemmas.{same_id, virtual_below}
 use Rattle.path_plan.proofs.Order.{order_has, order_virtual}
 use Rattle.path_numbers.specs.Sizes.{sizes_of, base_offset, member_offset, shared_offset}

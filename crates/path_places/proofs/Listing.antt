@@ -19,7 +19,8 @@ use Rattle.cxx_subobject.proofs.InsideLemmas.{join_class, whole_joined}
 use Rattle.cxx_subobject.proofs.PathLemmas.{class_found}
 use Rattle.cxx_subobject.proofs.TreeLemmas.{valid_at}
 use Rattle.path_plan.specs.Places.{ObjectPart, part, element}
-use Rattle.path_plan.specs.Plans.{InFull, upto}
+use Rattle.path_plan.specs.declared.form.Form.TheVariants.{InFull}
+use Rattle.path_plan.specs.Plans.{upto}
 use Rattle.path_plan.proofs.Members.{has_count}
 use Rattle.path_numbers.specs.Sizes.{sizes_of, member_offset}
 use Rattle.path_numbers.specs.Nodes.{Node, node, element_kid, here, deeper, LeafAt}

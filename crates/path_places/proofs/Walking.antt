@@ -15,7 +15,8 @@ use Rattle.cxx_subobject.specs.Subobjects.{subobject}
 use Rattle.cxx_subobject.specs.Locations.{hops_of_steps, hops_of}
 use Rattle.cxx_subobject.proofs.PathLemmas.{virtual_below}
 use Rattle.path_plan.specs.Places.{base_part, shared_part, element}
-use Rattle.path_plan.specs.Plans.{InFull, AsBase, virtual_order}
+use Rattle.path_plan.specs.declared.form.Form.TheVariants.{InFull, AsBase}
+use Rattle.path_plan.specs.Plans.{virtual_order}
 use Rattle.path_plan.proofs.Order.{order_virtual}
 use Rattle.path_numbers.specs.Sizes.{IsSizes, Sizes, sizes_of, base_offset, member_offset, shared_offset}
 use Rattle.path_numbers.specs.Nodes.{Node, node, Kid, base_kid, element_kid, shared_kid, Under, here, deeper}

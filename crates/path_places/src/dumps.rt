@@ -7,7 +7,7 @@ ghost use Rattle.cxx_hierarchy.specs.Classes.{members_of};
 ghost use Rattle.cxx_subobject.specs.declared.locations.Hop.TheVariants.{Inherit, Member as MemberHop};
 ghost use Rattle.cxx_subobject.specs.Subobjects.{IsSubobject};
 ghost use Rattle.path_plan.specs.Places.{ObjectPart};
-ghost use Rattle.path_plan.specs.Plans.{InFull};
+ghost use Rattle.path_plan.specs.declared.form.Form.TheVariants.{InFull};
 ghost use Rattle.path_numbers.specs.Sizes.{sizes_of, member_offset};
 ghost use Rattle.path_numbers.specs.Numbers.{subobject_number};
 ghost use Rattle.path_model.specs.Values.{Objects};

@@ -9,7 +9,8 @@ use Rattle.cxx_subobject.specs.Subobjects.{whole_of, class_of}
 use Rattle.foundation.proofs.Truth.{split}
 use Rattle.path_plan.specs.Places.{Step, ObjectPart, part, shared_part, IsKid, IsBaseKid, base_kid, member_kid, IsPartWithin, here, deeper}
 use Rattle.path_plan.specs.Phases.{Phase, Raw, InBases, ReadyBuilding, Complete, ReadyEnding, EndingBases, Ended, is_half, is_complete, is_ready, Phases, Begin, Ready, Done, put, top_subobject, phases_after}
-use Rattle.path_plan.specs.Plans.{Form, InFull, AsBase}
+use Rattle.path_plan.specs.declared.form.Form.{Form}
+use Rattle.path_plan.specs.declared.form.Form.TheVariants.{InFull, AsBase}
 use Rattle.path_plan.specs.Views.{IsOnTop, Settled}
 use Rattle.path_plan.proofs.Names.{Token, name, Begins, region, region_name, IsRaw}
 use Rattle.path_plan.proofs.Same.{put_same, put_other, part_cases, Owns, owner_cases, pushed_same, pushed_other, popped_other}

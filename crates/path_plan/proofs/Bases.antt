@@ -17,7 +17,9 @@ use Rattle.cxx_subobject.proofs.PathLemmas.{class_of_longer, virtual_below}
 use Rattle.foundation.proofs.Members.{index_of}
 use Rattle.path_plan.specs.Places.{ObjectPart, part, base_part, shared_part, base_kid, IsPartWithin, deeper}
 use Rattle.path_plan.specs.Phases.{Phase, Raw, InBases, Complete, Phases, Begin, put, phases_after}
-use Rattle.path_plan.specs.Plans.{Form, InFull, AsBase, Inner, shared_events, base_events, virtual_order}
+use Rattle.path_plan.specs.declared.form.Form.{Form}
+use Rattle.path_plan.specs.declared.form.Form.TheVariants.{InFull, AsBase}
+use Rattle.path_plan.specs.Plans.{Inner, shared_events, base_events, virtual_order}
 use Rattle.path_plan.proofs.Names.{Token, At, Next, Member, owner_name, name, region, region_name, Begins, begins_itself, begins_more, begins_through, begins_child, apart, not_child, name_base, IsRaw, raw_below}
 use Rattle.path_plan.proofs.Same.{put_other}
 use Rattle.path_plan.proofs.Growth.{went_none, went_wider, stays, raw_stays, events_wider, Ran}

@@ -5,7 +5,8 @@ use Rattle.cxx_hierarchy.specs.Classes.{Classes}
 use Rattle.cxx_hierarchy.specs.Hierarchies.{IsHierarchy}
 use Rattle.path_plan.specs.Places.{Step, ObjectPart, IsPartWithin, here, deeper}
 use Rattle.path_plan.specs.Phases.{Raw, Complete, is_half, is_ready, Phases, top_subobject, phases_after_all}
-use Rattle.path_plan.specs.Plans.{Bodies, InFull}
+use Rattle.path_plan.specs.declared.form.Form.TheVariants.{InFull}
+use Rattle.path_plan.specs.Plans.{Bodies}
 use Rattle.path_plan.specs.Whole.{whole_part, construction, IsNew, StandsWhole, IsSameBut, IsBuilt}
 use Rattle.path_plan.proofs.Names.{Token, Of, Member, Index, owner_name, sub_name, name, Begins}
 use Rattle.path_plan.proofs.Growth.{Inv, Made, EventsIn, plays_coherent, plays_after}

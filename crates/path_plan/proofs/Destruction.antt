@@ -9,7 +9,8 @@ use Rattle.foundation.proofs.Truth.{split}
 use Rattle.foundation.proofs.Deciding.{decide_number}
 use Rattle.path_plan.specs.Places.{ObjectPart, IsPartWithin}
 use Rattle.path_plan.specs.Phases.{Raw, Complete, is_ready, Phases, PartEvent, Begin, Ready, Init, Body, Done, Ending, Bases, End, part_of, phases_after_all}
-use Rattle.path_plan.specs.Plans.{Bodies, InFull}
+use Rattle.path_plan.specs.declared.form.Form.TheVariants.{InFull}
+use Rattle.path_plan.specs.Plans.{Bodies}
 use Rattle.path_plan.specs.Whole.{whole_part, construction, destruction, IsNew, StandsWhole, IsUnbuilt}
 use Rattle.path_plan.proofs.Growth.{Plays, EventsIn, events_append}
 use Rattle.path_plan.specs.Mirrors.{mirrored_event, mirrored, exchanged}

@@ -6,7 +6,9 @@ use Rattle.cxx_hierarchy.specs.declared.records.ClassId.{ClassId}
 use Rattle.cxx_hierarchy.specs.Classes.{Classes, bases_of, members_of}
 use Rattle.path_plan.specs.Places.{ObjectPart}
 use Rattle.path_plan.specs.Phases.{Phase, Raw, InBases, ReadyBuilding, Complete, ReadyEnding, EndingBases, Ended, Phases, PartEvent, Begin, Ready, Init, Body, Done, Ending, Bases, End, put, phases_after}
-use Rattle.path_plan.specs.Plans.{Bodies, Form, InFull, backwards, upto, virtual_order, shared_events, base_events, member_events, body_events, build, member_ending, unbuild}
+use Rattle.path_plan.specs.declared.form.Form.{Form}
+use Rattle.path_plan.specs.declared.form.Form.TheVariants.{InFull}
+use Rattle.path_plan.specs.Plans.{Bodies, backwards, upto, virtual_order, shared_events, base_events, member_events, body_events, build, member_ending, unbuild}
 use Rattle.path_plan.specs.Views.{Fits, Coherent}
 use Rattle.path_plan.specs.Whole.{whole_part, construction, destruction}
 use Rattle.path_plan.proofs.Same.{put_other, part_cases}

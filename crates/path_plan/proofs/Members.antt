@@ -13,7 +13,8 @@ use Rattle.cxx_hierarchy.specs.Declarations.{elements_of}
 use Rattle.foundation.proofs.Members.{Has, has_at, contains_from_has, has_cases}
 use Rattle.path_plan.specs.Places.{ObjectPart, element, member_kid, IsPartWithin, here, deeper}
 use Rattle.path_plan.specs.Phases.{Complete, is_half, Phases}
-use Rattle.path_plan.specs.Plans.{InFull, Inner, Bodies, init_events, typed_events, member_events, count_from, upto, backwards}
+use Rattle.path_plan.specs.declared.form.Form.TheVariants.{InFull}
+use Rattle.path_plan.specs.Plans.{Inner, Bodies, init_events, typed_events, member_events, count_from, upto, backwards}
 use Rattle.path_plan.proofs.Names.{Token, Member, Index, owner_name, sub_name, name, Begins, begins_child, not_child, IsRaw}
 use Rattle.path_plan.proofs.Growth.{went_none, went_wider, stays, EventsIn, events_wider, Plays, Ran}
 use Rattle.path_plan.proofs.Loop.{Follows, Loop, loop}

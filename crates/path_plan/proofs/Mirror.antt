@@ -13,7 +13,9 @@ use Rattle.cxx_hierarchy.specs.Declarations.{elements_of}
 use Rattle.foundation.proofs.Truth.{split}
 use Rattle.path_plan.specs.Places.{ObjectPart, base_part, shared_part, element}
 use Rattle.path_plan.specs.Phases.{PartEvent, Begin, Ready, Done, Ending, Bases, End}
-use Rattle.path_plan.specs.Plans.{Bodies, Form, InFull, AsBase, Inner, backwards, upto, virtual_order, shared_events, base_events, typed_events, member_events, body_events, built_by, build, typed_ending, member_ending, ended_by, unbuild}
+use Rattle.path_plan.specs.declared.form.Form.{Form}
+use Rattle.path_plan.specs.declared.form.Form.TheVariants.{InFull, AsBase}
+use Rattle.path_plan.specs.Plans.{Bodies, Inner, backwards, upto, virtual_order, shared_events, base_events, typed_events, member_events, body_events, built_by, build, typed_ending, member_ending, ended_by, unbuild}
 use Rattle.path_plan.specs.Mirrors.{mirrored_event, mirrored, exchanged}
 
 abbrev pub turned : Inner → Inner

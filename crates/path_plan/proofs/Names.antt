@@ -8,7 +8,8 @@ use Rattle.cxx_subobject.specs.declared.Subobject.{Subobject}
 use Rattle.cxx_subobject.proofs.TreeLemmas.{base_down}
 use Rattle.path_plan.specs.Places.{Step, ObjectPart, base_part}
 use Rattle.path_plan.specs.Phases.{Phases, Raw}
-use Rattle.path_plan.specs.Plans.{Form, InFull, AsBase}
+use Rattle.path_plan.specs.declared.form.Form.{Form}
+use Rattle.path_plan.specs.declared.form.Form.TheVariants.{InFull, AsBase}
 
 pub data Token : Type 0 where
   Of : ℕ → Token

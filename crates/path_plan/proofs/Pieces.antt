@@ -14,7 +14,9 @@ use Rattle.cxx_hierarchy.specs.Declarations.{elements_of}
 use Rattle.foundation.proofs.Truth.{split}
 use Rattle.path_plan.specs.Places.{ObjectPart, base_part, shared_part, element}
 use Rattle.path_plan.specs.Phases.{PartEvent, Begin, Ready, Done, Ending, Bases, End}
-use Rattle.path_plan.specs.Plans.{Bodies, Form, InFull, AsBase, Inner, upto, backwards, virtual_order, shared_events, base_events, init_events, typed_events, member_events, body_events, built_by, typed_ending, member_ending, ended_by, plan, unplan}
+use Rattle.path_plan.specs.declared.form.Form.{Form}
+use Rattle.path_plan.specs.declared.form.Form.TheVariants.{InFull, AsBase}
+use Rattle.path_plan.specs.Plans.{Bodies, Inner, upto, backwards, virtual_order, shared_events, base_events, init_events, typed_events, member_events, body_events, built_by, typed_ending, member_ending, ended_by, plan, unplan}
 use Rattle.path_plan.specs.Pieces.{Piece, Own, Sub, expand, shared_pieces, base_pieces, init_pieces, body_pieces, typed_pieces, member_pieces, built_pieces, ended_pieces, Pending, pending, rest_of_plan, opened_pieces}
 use Rattle.path_plan.proofs.Steps.{plan_is, unplan_is}
 

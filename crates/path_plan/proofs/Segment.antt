@@ -9,7 +9,8 @@ use Rattle.cxx_subobject.specs.Subobjects.{class_of}
 use Rattle.std.proofs.lemmas.Option.{slice_get_within}
 use Rattle.path_plan.specs.Places.{Step, ObjectPart, IsKid, IsBaseKid, base_kid, member_kid, here}
 use Rattle.path_plan.specs.Phases.{InBases, ReadyBuilding, Complete, is_half, Phases, Begin, Ready, Done, put, with_pushed_part, popped, rest_of, phases_after}
-use Rattle.path_plan.specs.Plans.{Form, Inner, Bodies, shared_events, base_events, member_events, body_events, virtual_order, upto, built_by, build}
+use Rattle.path_plan.specs.declared.form.Form.{Form}
+use Rattle.path_plan.specs.Plans.{Inner, Bodies, shared_events, base_events, member_events, body_events, virtual_order, upto, built_by, build}
 use Rattle.path_plan.proofs.Names.{Token, Member, name, region, region_name, Begins, begins_through, not_child}
 use Rattle.path_plan.proofs.Same.{put_same, put_other, part_cases, Owns, owner_cases, pushed_same, pushed_other, popped_same, popped_other}
 use Rattle.path_plan.proofs.Growth.{Change, change_then, change_wider, Went, stays, Plays, plays_append, EventsIn, events_append, Ran}

@@ -13,7 +13,9 @@ use Rattle.cxx_hierarchy.specs.Declarations.{elements_of}
 use Rattle.foundation.proofs.Truth.{split}
 use Rattle.path_plan.specs.Places.{Step, ObjectPart, base_part, shared_part, element, same_complete_object}
 use Rattle.path_plan.specs.Phases.{Phases, PartEvent, Begin, Ready, Init, Body, Done, Ending, Bases, End, part_of, popped, rest_of, phases_after}
-use Rattle.path_plan.specs.Plans.{Bodies, Form, InFull, AsBase, upto, backwards, virtual_order}
+use Rattle.path_plan.specs.declared.form.Form.{Form}
+use Rattle.path_plan.specs.declared.form.Form.TheVariants.{InFull, AsBase}
+use Rattle.path_plan.specs.Plans.{Bodies, upto, backwards, virtual_order}
 use Rattle.path_plan.specs.Pieces.{Piece, Own, Sub, shared_pieces, base_pieces, body_pieces, typed_pieces, member_pieces, built_pieces, ended_pieces, Pending, pending, opened_pieces, begins_part, ends, is_begun, stack_of, Choice, IsTail, IsWaiting, AreWaiting, IsStackOf}
 
 -- a part's pieces begin with its first event

@@ -14,7 +14,9 @@ use Rattle.foundation.proofs.Truth.{split}
 use Rattle.cxx_subobject.proofs.PathLemmas.{virtual_below}
 use Rattle.path_plan.specs.Places.{ObjectPart, base_part, shared_part, element}
 use Rattle.path_plan.specs.Phases.{Begin, Ready, Done}
-use Rattle.path_plan.specs.Plans.{Bodies, Form, InFull, AsBase, Inner, virtual_order, upto, shared_events, base_events, typed_events, member_events, body_events, built_by, build, ended_by, plan, unplan}
+use Rattle.path_plan.specs.declared.form.Form.{Form}
+use Rattle.path_plan.specs.declared.form.Form.TheVariants.{InFull, AsBase}
+use Rattle.path_plan.specs.Plans.{Bodies, Inner, virtual_order, upto, shared_events, base_events, typed_events, member_events, body_events, built_by, build, ended_by, plan, unplan}
 use Rattle.path_plan.proofs.Order.{order_virtual}
 use Rattle.path_plan.specs.Mirrors.{mirrored, exchanged}
 use Rattle.path_plan.proofs.Mirror.{law_step, mirror_law}

@@ -9,6 +9,8 @@ use Rattle.cxx_hierarchy.specs.declared.records.FieldType.{FieldType}
 use Rattle.cxx_hierarchy.specs.declared.records.FieldType.TheVariants.{Value, Object}
 use Rattle.cxx_hierarchy.specs.Classes.{Classes, bases_of, members_of}
 use Rattle.cxx_hierarchy.specs.Declarations.{elements_of}
+use Rattle.path_plan.specs.declared.form.Form.{Form}
+use Rattle.path_plan.specs.declared.form.Form.TheVariants.{InFull, AsBase}
 use Rattle.path_plan.specs.Places.{ObjectPart, base_part, shared_part, element}
 use Rattle.path_plan.specs.Phases.{PartEvent, Begin, Ready, Init, Body, Done, Ending, Bases, End}
 
@@ -17,11 +19,6 @@ pub record Bodies : Type 0 where
   pub constructor : ClassId → Bool
   pub destructor : ClassId → Bool
   pub initializer : ClassId → ℕ → Bool
-
--- what is built: a complete object with its virtual bases, or a base of one without them
-pub data Form : Type 0 where
-  InFull : Form
-  AsBase : Form
 
 -- the virtual bases that a depth-first walk from left to right meets, a base's own ones before it (12.6.2 p5), each as often as it is met
 abbrev pub walk : Classes → ℕ → ClassId → List ClassId

@@ -6,7 +6,8 @@ use Rattle.cxx_subobject.specs.Subobjects.{whole_of}
 use Rattle.path_plan.specs.Places.{Step, ObjectPart, part, IsPartWithin}
 use Rattle.path_plan.specs.Phases.{Raw, Complete, Ended, is_ready, Phases, PartEvent, phases_after_all}
 use Rattle.path_plan.specs.Views.{Coherent}
-use Rattle.path_plan.specs.Plans.{Bodies, InFull, plan, unplan}
+use Rattle.path_plan.specs.declared.form.Form.TheVariants.{InFull}
+use Rattle.path_plan.specs.Plans.{Bodies, plan, unplan}
 
 -- the heap object k of class c itself
 abbrev pub whole_part : ℕ → ClassId → ObjectPart

@@ -9,7 +9,8 @@ ghost use Rattle.cxx_subobject.specs.Subobjects.{IsSubobject, class_of, join, wh
 ghost use Rattle.cxx_subobject.specs.Locations.{IsPartOf};
 ghost use Rattle.path_plan.specs.Places.{Step, ObjectPart, IsPartWithin, part};
 ghost use Rattle.path_plan.specs.Phases.{Phases, PartEvent, is_complete, is_ready};
-ghost use Rattle.path_plan.specs.Plans.{Bodies, Form, built_by, ended_by, plan, unplan};
+ghost use Rattle.path_plan.specs.declared.form.Form.{Form};
+ghost use Rattle.path_plan.specs.Plans.{Bodies, built_by, ended_by, plan, unplan};
 ghost use Rattle.path_plan.specs.Mirrors.{exchanged, mirrored};
 ghost use Rattle.path_plan.specs.Views.{Settled, view};
 ghost use Rattle.path_plan.specs.Whole.{IsNew, StandsWhole, IsBuilt, IsUnbuilt, construction, destruction, whole_part};

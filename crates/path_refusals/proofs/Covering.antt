@@ -22,7 +22,8 @@ use Rattle.path_rules.specs.declared.Undefined.{Undefined}
 use Rattle.path_rules.specs.declared.Undefined.TheVariants.{NotReady}
 use Rattle.path_plan.specs.Places.{element}
 use Rattle.path_plan.specs.Phases.{is_complete}
-use Rattle.path_plan.specs.Plans.{count_from, upto, InFull, AsBase, virtual_order}
+use Rattle.path_plan.specs.declared.form.Form.TheVariants.{InFull, AsBase}
+use Rattle.path_plan.specs.Plans.{count_from, upto, virtual_order}
 use Rattle.path_numbers.specs.Sizes.{sizes_of, total}
 use Rattle.path_numbers.proofs.Sized.{sizes_are}
 use Rattle.path_numbers.proofs.Intervals.{size_some}

@@ -8,14 +8,13 @@ use Rattle.code_blocks.specs.declared.items.Item.TheVariants.{Does as DoesCode, 
 use Rattle.code_blocks.specs.declared.items.Kind.{Kind}
 use Rattle.code_blocks.specs.declared.items.Kind.TheVariants.{AtBegin, AtReady, AtInit, AtBody, AtDone, AtEnding, AtBases, AtEnd}
 use Rattle.code_blocks.specs.Lowered.{has_own_block}
-use Rattle.code_blocks.specs.invariants.ItemCodes.{code_form}
 use Rattle.abi_lower.specs.declared.routines.Routine.{Routine as RoutineCode}
 use Rattle.abi_lower.specs.declared.routines.Routine.TheVariants.{Main, Function, Plan}
 
 abbrev pub routine_from : RoutineCode → Routine
 routine_from Main = MainCode
 routine_from (Function f) = FunctionCode f
-routine_from (Plan course form c) = PlanCode course (code_form form) c
+routine_from (Plan course form c) = PlanCode course form c
 
 abbrev pub routines_from : List RoutineCode → List Routine
 routines_from list = map routine_from list

@@ -21,7 +21,7 @@ use Rattle.code_ops.specs.Routines.{start_by}
 use Rattle.code_ops.specs.invariants.Fits.{most_local_registers}
 use Rattle.code_blocks.specs.declared.items.Item.{Item as ItemCode}
 use Rattle.code_blocks.specs.Blocks.{items}
-use Rattle.code_blocks.specs.invariants.ItemCodes.{item_codes, code_form}
+use Rattle.code_blocks.specs.invariants.ItemCodes.{item_codes}
 use Rattle.code_plans.specs.declared.plan_sites.ClassPlan.{ClassPlan}
 use Rattle.code_plans.specs.declared.plan_sites.PlanSite.{PlanSite}
 use Rattle.code_plans.specs.ClassTables.{AreKeptTables}
@@ -66,10 +66,10 @@ pub record RunsAt (x : Setup) (numbers : List CodeRow) (body : TypedBody) (n : �
   pub begins : n ≡ start_by x numbers r + own_events x r
 
 abbrev pub plan_code : ClassPlan → Routine
-plan_code plan = PlanCode plan.course (code_form plan.form) plan.class
+plan_code plan = PlanCode plan.course plan.form plan.class
 
 abbrev pub plan_items : Setup → ClassPlan → List ItemCode
-plan_items x plan = item_codes (items x plan.course (code_form plan.form) plan.class)
+plan_items x plan = item_codes (items x plan.course plan.form plan.class)
 
 -- a plan begins at its first block, and has so many own events, and a body or none
 pub record IsPlanRun (x : Setup) (numbers : List CodeRow) (run : PlanRun) : Type 0 where

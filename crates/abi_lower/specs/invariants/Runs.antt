@@ -4,7 +4,7 @@ use Rattle.std.specs.List.{flat_map}
 use Rattle.cxx_hierarchy.specs.declared.records.ClassId.{ClassId}
 use Rattle.cxx_program.specs.declared.statement.TypedStatement.{TypedStatement}
 use Rattle.cxx_program.specs.declared.program.TypedBody.{TypedBody}
-use Rattle.path_plan.specs.Plans.{Form}
+use Rattle.path_plan.specs.declared.form.Form.{Form}
 use Rattle.byte_code.specs.declared.code.Block.{Block}
 use Rattle.byte_code.specs.declared.op.Op.{Op}
 use Rattle.code_ops.specs.declared.routines.Course.{Course}
@@ -16,7 +16,6 @@ use Rattle.code_statements.specs.invariants.Fits.{routine_of}
 use Rattle.code_blocks.specs.Items.{Item}
 use Rattle.code_blocks.specs.Blocks.{Place, items, statement_ops, closing_ops}
 use Rattle.code_blocks.specs.Lowered.{own_block}
-use Rattle.code_blocks.specs.invariants.ItemCodes.{code_form}
 use Rattle.code_plans.specs.declared.plan_sites.ClassPlan.{ClassPlan}
 use Rattle.abi_lower.specs.invariants.Numbers.{plan_routines, routines, block_number}
 
@@ -40,7 +39,7 @@ statement_blocks x at r body n (s ∷ list) = record { ops = statement_ops x at 
 
 -- the block of the first of these items of a plan, if it has one
 abbrev pub item_blocks : Setup → ClassPlan → List Item → List Block
-item_blocks x plan items = option_to_list (own_block x (block_number x) plan.course (code_form plan.form) plan.class items)
+item_blocks x plan items = option_to_list (own_block x (block_number x) plan.course plan.form plan.class items)
 
 -- the blocks of all statements of a body, and of its end
 abbrev pub run_of_body : Setup → Routine → TypedBody → List Block

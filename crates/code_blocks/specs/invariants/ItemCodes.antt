@@ -1,24 +1,17 @@
 -- How the code names forms and items, and members one after the other.
-use Rattle.std.specs.Prelude.{ℕ, suc, Bool, false, Option, Some, List, [], ◌∷◌, ◌++◌, map}
+use Rattle.std.specs.Prelude.{ℕ, suc, Option, Some, List, [], ◌∷◌, ◌++◌, map}
 use Rattle.cxx_hierarchy.specs.declared.records.ClassId.{ClassId}
 use Rattle.cxx_hierarchy.specs.declared.records.Member.{Member}
 use Rattle.cxx_hierarchy.specs.Classes.{Classes}
 use Rattle.cxx_hierarchy.specs.Hierarchies.{IsHierarchy}
 use Rattle.cxx_program.specs.declared.program.TypedProgram.{TypedProgram}
-use Rattle.path_plan.specs.Plans.{Form, InFull, AsBase}
 use Rattle.path_numbers.specs.declared.numbers.ClassNumbers.{ClassNumbers}
 use Rattle.path_numbers.specs.Numbers.{AreClassNumbers}
 use Rattle.path_bodies.specs.declared.index.BodyIndex.{BodyIndex}
 use Rattle.path_bodies.specs.Places.{IsIndexOf}
-use Rattle.code_blocks.specs.declared.items.Form.{Form as FormCode}
-use Rattle.code_blocks.specs.declared.items.Form.TheVariants.{InFull as InFullCode, AsBase as AsBaseCode}
 use Rattle.code_blocks.specs.declared.items.Item.{Item as ItemCode}
 use Rattle.code_blocks.specs.declared.items.Item.TheVariants.{Does as DoesCode, Shares as SharesCode, Inherits as InheritsCode, Holds as HoldsCode}
 use Rattle.code_blocks.specs.Items.{Item, Does, Shares, Inherits, Holds}
-
-abbrev pub code_form : FormCode → Form
-code_form InFullCode = InFull
-code_form AsBaseCode = AsBase
 
 abbrev pub item_code : Item → ItemCode
 item_code (Does k) = DoesCode k

@@ -24,7 +24,7 @@ use Rattle.cxx_program.specs.declared.statement.TypedKind.{TypedKind}
 use Rattle.cxx_program.specs.declared.statement.TypedKind.TheVariants.{Declare, Assign, Write, Copy, Call as CallKind, Delete, If, While, Return, Print, PrintType, PrintView, Dump}
 use Rattle.cxx_program.specs.declared.program.Owner.{Owner}
 use Rattle.cxx_program.specs.declared.program.Owner.TheVariants.{Main, Function, Constructor, Destructor}
-use Rattle.path_plan.specs.Plans.{InFull}
+use Rattle.path_plan.specs.declared.form.Form.TheVariants.{InFull}
 use Rattle.code_ops.specs.declared.routines.Course.TheVariants.{Constructs, Destroys}
 use Rattle.code_ops.specs.Setups.{Routine, MainCode, FunctionCode, PlanCode}
 use Rattle.code_ops.specs.invariants.Fits.{most_local_registers, FitsVariable, FitsOperand, FitsBase, FitsConversion, FitsArgument, FitsPlace}

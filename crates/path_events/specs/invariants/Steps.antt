@@ -15,13 +15,13 @@ use Rattle.path_bodies.specs.Places.{IsIndexOf}
 use Rattle.path_events.specs.declared.plan.PlanEvent.{PlanEvent}
 use Rattle.path_events.specs.declared.plan.PlanEvent.TheVariants.{Begin as BeginCode, Ending as EndingCode}
 use Rattle.path_events.specs.declared.course.Course.{Course}
-use Rattle.path_events.specs.declared.frame.Form.{Form as FormCode}
+use Rattle.path_plan.specs.declared.form.Form.{Form}
 use Rattle.path_events.specs.declared.frame.Stage.{Stage}
 use Rattle.path_events.specs.declared.frame.Stage.TheVariants.{Shared as SharedStage, Body as BodyStage}
 use Rattle.path_events.specs.declared.frame.Pending.{Pending as Frame}
 use Rattle.path_events.specs.declared.frame.Step.{Step}
 use Rattle.path_events.specs.declared.frame.Step.TheVariants.{Event as EventStep, Last as LastStep, Open as OpenStep}
-use Rattle.path_events.specs.Frames.{StandsAs, left_of, frame_form}
+use Rattle.path_events.specs.Frames.{StandsAs, left_of}
 use Rattle.path_events.specs.Plans.{IsEvent}
 
 -- an event of the part itself, and what is left behind it
@@ -31,10 +31,10 @@ pub record IsOwnStep (h : Classes) (program : TypedProgram) (classes : List Clas
   pub is : left ≡ Own e ∷ rest
 
 -- a part inside it, and what is left behind that
-pub record IsOpenStep (h : Classes) (classes : List ClassId) (kid : NumberedPart) (form : FormCode) (left rest : List Piece) : Type 0 where
+pub record IsOpenStep (h : Classes) (classes : List ClassId) (kid : NumberedPart) (form : Form) (left rest : List Piece) : Type 0 where
   pub q : ObjectPart
-  pub stands : StandsAs h classes kid (frame_form form) q
-  pub is : left ≡ Sub (frame_form form) kid.class q ∷ rest
+  pub stands : StandsAs h classes kid form q
+  pub is : left ≡ Sub form kid.class q ∷ rest
 
 -- the step is the first of what is left; at names what is left at a stage
 abbrev pub IsStep : Classes → TypedProgram → List ClassId → (Stage → List Piece) → List Piece → Step → Type 0
@@ -44,12 +44,12 @@ IsStep h program classes at left (OpenStep kid form stage) = IsOpenStep h classe
 
 -- what is left of a frame's part at a stage
 abbrev pub left_at : Classes → TypedProgram → Bool → Frame → ObjectPart → Stage → List Piece
-left_at h program is_building frame p stage = left_of h (plan_bodies program) is_building (frame_form frame.form) frame.part.class p stage
+left_at h program is_building frame p stage = left_of h (plan_bodies program) is_building frame.form frame.part.class p stage
 
 -- the step is what the frame gives at this stage
 abbrev pub GivesStep : Classes → BodyIndex → Bool → Frame → Stage → Step → Type 0
 GivesStep h index is_building frame stage step =
-    (program : TypedProgram) (classes : List ClassId) (p : ObjectPart) → IsIndexOf program index → StandsAs h classes frame.part (frame_form frame.form) p → IsStep h program classes (left_at h program is_building frame p) (left_at h program is_building frame p stage) step
+    (program : TypedProgram) (classes : List ClassId) (p : ObjectPart) → IsIndexOf program index → StandsAs h classes frame.part frame.form p → IsStep h program classes (left_at h program is_building frame p) (left_at h program is_building frame p stage) step
 
 -- as much is left at one stage as at the other
 abbrev pub IsSameLeft : Classes → BodyIndex → Bool → Frame → Stage → Stage → Type 0

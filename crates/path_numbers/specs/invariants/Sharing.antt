@@ -4,7 +4,8 @@ use Rattle.cxx_subobject.specs.Parts.{most_parts}
 use Rattle.cxx_hierarchy.specs.declared.records.ClassId.{ClassId}
 use Rattle.cxx_hierarchy.specs.declared.records.Base.{Base}
 use Rattle.cxx_hierarchy.specs.Classes.{Classes}
-use Rattle.path_plan.specs.Plans.{AsBase, is_among, virtual_order}
+use Rattle.path_plan.specs.declared.form.Form.TheVariants.{AsBase}
+use Rattle.path_plan.specs.Plans.{is_among, virtual_order}
 use Rattle.path_numbers.specs.declared.sharing.Sharing.{Sharing}
 use Rattle.path_numbers.specs.Sizes.{Sizes, total}
 use Rattle.path_numbers.specs.Numbers.{place_among}

@@ -11,7 +11,8 @@ use Rattle.cxx_subobject.specs.declared.Subobject.{Subobject}
 use Rattle.cxx_subobject.specs.declared.locations.Hop.{Hop}
 use Rattle.cxx_subobject.specs.Locations.{ObjectPart, hops_of_steps}
 use Rattle.cxx_subobject.specs.Preorder.{preorder}
-use Rattle.path_plan.specs.Plans.{InFull, upto}
+use Rattle.path_plan.specs.declared.form.Form.TheVariants.{InFull}
+use Rattle.path_plan.specs.Plans.{upto}
 use Rattle.path_numbers.specs.Nodes.{Node}
 use Rattle.path_model.specs.declared.outs.DumpLeaf.{DumpLeaf}
 use Rattle.path_model.specs.Values.{Leaf, Objects}

@@ -6,7 +6,8 @@ use Rattle.cxx_hierarchy.specs.declared.records.Member.{Member}
 use Rattle.cxx_hierarchy.specs.declared.records.FieldType.TheVariants.{Object}
 use Rattle.cxx_hierarchy.specs.Declarations.{elements_of}
 use Rattle.cxx_hierarchy.specs.Classes.{Classes, bases_of, members_of}
-use Rattle.path_plan.specs.Plans.{InFull, AsBase, virtual_order}
+use Rattle.path_plan.specs.declared.form.Form.TheVariants.{InFull, AsBase}
+use Rattle.path_plan.specs.Plans.{virtual_order}
 use Rattle.path_numbers.specs.Sizes.{sizes_of, base_offset, member_offset, shared_offset}
 use Rattle.path_places.specs.declared.kids.Kid.{Kid}
 use Rattle.path_places.specs.declared.kids.Way.TheVariants.{Base as BaseWay, Shared as SharedWay, Element as ElementWay}

@@ -10,7 +10,8 @@ use Rattle.cxx_subobject.specs.declared.Subobject.{Subobject}
 use Rattle.cxx_subobject.specs.Subobjects.{class_of}
 use Rattle.cxx_subobject.specs.Preorder.{preorder}
 use Rattle.path_plan.specs.Places.{ObjectPart, element}
-use Rattle.path_plan.specs.Plans.{InFull, upto}
+use Rattle.path_plan.specs.declared.form.Form.TheVariants.{InFull}
+use Rattle.path_plan.specs.Plans.{upto}
 use Rattle.path_numbers.specs.Sizes.{sizes_of, total, member_offset}
 use Rattle.path_numbers.specs.Nodes.{Node}
 use Rattle.path_numbers.specs.Heap.{IsAt}

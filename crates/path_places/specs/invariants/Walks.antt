@@ -5,7 +5,8 @@ use Rattle.cxx_subobject.specs.declared.locations.Hop.{Hop}
 use Rattle.cxx_subobject.specs.declared.locations.Hop.TheVariants.{Inherit}
 use Rattle.cxx_subobject.specs.Subobjects.{subobject}
 use Rattle.cxx_subobject.specs.Locations.{hops_of_steps, hops_of}
-use Rattle.path_plan.specs.Plans.{Form, InFull, AsBase}
+use Rattle.path_plan.specs.declared.form.Form.{Form}
+use Rattle.path_plan.specs.declared.form.Form.TheVariants.{InFull, AsBase}
 use Rattle.path_numbers.specs.Sizes.{sizes_of}
 use Rattle.path_numbers.specs.Nodes.{Node, Under}
 use Rattle.path_places.specs.declared.locations.Spot.{Spot}

@@ -1,5 +1,5 @@
 use Rattle.std.proofs.Common.{◌≡◌, ◌++◌, take}
-use Rattle.path_plan.specs.Plans.{InFull}
+use Rattle.path_plan.specs.declared.form.Form.TheVariants.{InFull}
 use Rattle.code_blocks.specs.Items.{shared_base_items}
 use Rattle.code_blocks.specs.invariants.ItemCodes.{item_codes}
 use Rattle.code_blocks.proofs.items.push_each.Given as goal

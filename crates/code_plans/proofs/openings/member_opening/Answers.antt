@@ -1,6 +1,6 @@
 use Rattle.std.proofs.Common.{◌≡◌, ◌+◌, ◌*◌, None, ap, arith, refl, sym, ◌∙◌}
 use Rattle.std.specs.List.{slice_get}
-use Rattle.path_plan.specs.Plans.{InFull}
+use Rattle.path_plan.specs.declared.form.Form.TheVariants.{InFull}
 use Rattle.code_ops.specs.Routines.{start_by}
 use Rattle.abi_sound.specs.Places.{member_place, size_in_row}
 use Rattle.code_blocks.specs.Items.{first_index}

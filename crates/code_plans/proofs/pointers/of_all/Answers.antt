@@ -1,6 +1,6 @@
 use Rattle.std.proofs.Common.{◌+◌, take, drop, subst, sym, ◌∙◌}
 use Rattle.cxx_subobject.specs.Preorder.{preorder}
-use Rattle.path_plan.specs.Plans.{AsBase, InFull}
+use Rattle.path_plan.specs.declared.form.Form.TheVariants.{AsBase, InFull}
 use Rattle.abi_sound.specs.Places.{places_of}
 use Rattle.code_ops.specs.Setups.{setup}
 use Rattle.code_plans.specs.invariants.Walks.{IsPast}

@@ -1,5 +1,5 @@
 use Rattle.std.proofs.Common.{◌≡◌, take}
-use Rattle.path_plan.specs.Plans.{AsBase, InFull}
+use Rattle.path_plan.specs.declared.form.Form.TheVariants.{AsBase, InFull}
 use Rattle.abi_sound.specs.Places.{places_of}
 use Rattle.code_ops.specs.Setups.{setup}
 use Rattle.code_plans.specs.Settings.{settings_of}

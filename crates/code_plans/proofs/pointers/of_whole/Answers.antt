@@ -1,5 +1,5 @@
 use Rattle.abi_sound.specs.Places.{places_of}
-use Rattle.path_plan.specs.Plans.{AsBase, InFull}
+use Rattle.path_plan.specs.declared.form.Form.TheVariants.{AsBase, InFull}
 use Rattle.code_ops.specs.Setups.{setup}
 use Rattle.code_plans.proofs.LoneClasses.{lone_settings, whole_at, whole_valid}
 use Rattle.code_plans.proofs.pointers.of_whole.Goals as goal

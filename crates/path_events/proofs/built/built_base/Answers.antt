@@ -4,7 +4,7 @@ use Rattle.std.proofs.lemmas.Option.{slice_get_within}
 use Rattle.cxx_hierarchy.specs.declared.records.ClassId.{ClassId}
 use Rattle.cxx_hierarchy.specs.Classes.{bases_of}
 use Rattle.path_plan.specs.Places.{base_part}
-use Rattle.path_plan.specs.Plans.{AsBase}
+use Rattle.path_plan.specs.declared.form.Form.TheVariants.{AsBase}
 use Rattle.path_plan.specs.Pieces.{Sub}
 use Rattle.path_model.specs.States.{plan_bodies}
 use Rattle.path_events.specs.Frames.{built_bases}

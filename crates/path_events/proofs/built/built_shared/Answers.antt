@@ -3,11 +3,13 @@ use Rattle.std.proofs.lemmas.Option.{slice_get_read}
 use Rattle.std.specs.Prelude.{slice_get}
 use Rattle.cxx_hierarchy.specs.declared.records.ClassId.{ClassId}
 use Rattle.path_plan.specs.Places.{shared_part}
-use Rattle.path_plan.specs.Plans.{Form, InFull, AsBase, virtual_order}
+use Rattle.path_plan.specs.declared.form.Form.{Form}
+use Rattle.path_plan.specs.declared.form.Form.TheVariants.{InFull, AsBase}
+use Rattle.path_plan.specs.Plans.{virtual_order}
 use Rattle.path_plan.specs.Pieces.{Sub}
 use Rattle.path_model.specs.States.{plan_bodies}
 use Rattle.path_events.specs.declared.frame.Stage.TheVariants.{Shared as SharedStage}
-use Rattle.path_events.specs.Frames.{StandsAs, left_of, frame_form}
+use Rattle.path_events.specs.Frames.{StandsAs, left_of}
 use Rattle.path_events.proofs.Building.{shared_one}
 use Rattle.path_events.proofs.built.built_shared.Goals as goal
 
@@ -16,7 +18,7 @@ returns-in-Some c = λ program classes p is stands.
     let h = c.args.course.now.h.now in
     let class = c.args.course.now.frame.part.class in
     let v = c.in-Some.v.now in
-    let full : frame_form c.args.course.now.frame.form ≡ InFull = ap frame_form c.in-InFull.is in
+    let full : c.args.course.now.frame.form ≡ InFull = c.in-InFull.is in
     let read : slice_get c.order_of.result.now c.args.j ≡ Some v = slice_get_read c.order_of.result.now (length c.order_of.result.now) c.args.j v refl c.in-Some.ensures.lookup.3.0 c.in-Some.ensures.lookup.1 in
     let at : slice_get (virtual_order h class) c.args.j ≡ Some v = ap (λ (l : List ClassId). slice_get l c.args.j) (sym c.order_of.ensures) ∙ read in
     record {

@@ -5,7 +5,7 @@ use Rattle.cxx_hierarchy.specs.declared.records.ClassId.{ClassId}
 use Rattle.cxx_hierarchy.specs.Classes.{members_of}
 use Rattle.path_plan.specs.Places.{element}
 use Rattle.path_plan.specs.Phases.{Init}
-use Rattle.path_plan.specs.Plans.{InFull}
+use Rattle.path_plan.specs.declared.form.Form.TheVariants.{InFull}
 use Rattle.path_plan.specs.Pieces.{Sub}
 use Rattle.path_model.specs.States.{plan_bodies}
 use Rattle.path_events.specs.Frames.{built_members}

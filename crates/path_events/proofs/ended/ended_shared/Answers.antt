@@ -3,10 +3,11 @@ use Rattle.std.specs.Prelude.{slice_get, ◌-◌}
 use Rattle.cxx_hierarchy.specs.declared.records.ClassId.{ClassId}
 use Rattle.path_plan.specs.Places.{shared_part}
 use Rattle.path_plan.specs.Phases.{End}
-use Rattle.path_plan.specs.Plans.{Form, InFull, AsBase, virtual_order}
+use Rattle.path_plan.specs.declared.form.Form.{Form}
+use Rattle.path_plan.specs.declared.form.Form.TheVariants.{InFull, AsBase}
+use Rattle.path_plan.specs.Plans.{virtual_order}
 use Rattle.path_plan.specs.Pieces.{Sub}
-use Rattle.path_events.specs.declared.frame.Form.{Form as FormCode}
-use Rattle.path_events.specs.Frames.{StandsAs, ended_shared, frame_form}
+use Rattle.path_events.specs.Frames.{StandsAs, ended_shared}
 use Rattle.path_events.specs.Plans.{end_event}
 use Rattle.path_events.proofs.Giving.{named}
 use Rattle.path_events.proofs.Ending.{shared_one, shared_none}
@@ -14,14 +15,14 @@ use Rattle.path_events.proofs.Lists.{front_left, none_front}
 use Rattle.path_events.proofs.ended.ended_shared.Goals as goal
 
 pub returns-in-AsBase : goal.returns-in-AsBase
-returns-in-AsBase c = λ program classes p is stands. record { e = End p; means = end_event c.args.course.now.frame.part p (named c.args.course.now.h.now classes c.args.course.now.frame.part _ p stands); is = ap (λ (f : FormCode). ended_shared c.args.course.now.h.now (frame_form f) c.args.course.now.frame.part.class p c.args.j) c.in-AsBase.is }
+returns-in-AsBase c = λ program classes p is stands. record { e = End p; means = end_event c.args.course.now.frame.part p (named c.args.course.now.h.now classes c.args.course.now.frame.part _ p stands); is = ap (λ (f : Form). ended_shared c.args.course.now.h.now f c.args.course.now.frame.part.class p c.args.j) c.in-AsBase.is }
 
 pub returns-then-left-eq0 : goal.returns-then-left-eq0
-returns-then-left-eq0 c = λ program classes p is stands. record { e = End p; means = end_event c.args.course.now.frame.part p (named c.args.course.now.h.now classes c.args.course.now.frame.part _ p stands); is = ap (λ (f : FormCode). ended_shared c.args.course.now.h.now (frame_form f) c.args.course.now.frame.part.class p c.args.j) c.in-InFull.is ∙ shared_none c.args.course.now.h.now c.args.course.now.frame.part.class p c.args.j (none_front (virtual_order c.args.course.now.h.now c.args.course.now.frame.part.class) c.order_of-order.result.now c.args.j c.min-left.result c.order_of-order.ensures c.min-left.ensures c.if-left-eq0.true) }
+returns-then-left-eq0 c = λ program classes p is stands. record { e = End p; means = end_event c.args.course.now.frame.part p (named c.args.course.now.h.now classes c.args.course.now.frame.part _ p stands); is = ap (λ (f : Form). ended_shared c.args.course.now.h.now f c.args.course.now.frame.part.class p c.args.j) c.in-InFull.is ∙ shared_none c.args.course.now.h.now c.args.course.now.frame.part.class p c.args.j (none_front (virtual_order c.args.course.now.h.now c.args.course.now.frame.part.class) c.order_of-order.result.now c.args.j c.min-left.result c.order_of-order.ensures c.min-left.ensures c.if-left-eq0.true) }
 
 pub returns-else-left-eq0 : goal.returns-else-left-eq0
 returns-else-left-eq0 c = λ program classes p is stands.
-    let full : frame_form c.args.course.now.frame.form ≡ InFull = ap frame_form c.in-InFull.is in
+    let full : c.args.course.now.frame.form ≡ InFull = c.in-InFull.is in
     let at = ap (λ (l : List ClassId). slice_get l (c.min-left.result - 1)) (sym c.order_of-order.ensures) ∙ c.class_at-v.ensures in
     record {
       q = shared_part p c.class_at-v.result;

@@ -1,6 +1,6 @@
 use Rattle.std.proofs.Common.{◌∙◌, ap}
 use Rattle.std.specs.Prelude.{nat_lt}
-use Rattle.path_plan.specs.Plans.{AsBase}
+use Rattle.path_plan.specs.declared.form.Form.TheVariants.{AsBase}
 use Rattle.path_numbers.specs.Sizes.{sizes_of}
 use Rattle.path_refusals.proofs.Covering.{has_virtual_is}
 use Rattle.path_refusals.proofs.copies.has_virtual_base.Goals as goal
