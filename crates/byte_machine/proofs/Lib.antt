@@ -20,3 +20,4 @@ pub mod KeptTwice
 pub mod Tables
 pub mod CodeCalls
 pub mod Unset
+mod Stacked

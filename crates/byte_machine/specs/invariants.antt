@@ -1,3 +1,4 @@
+pub mod Stacked
 pub mod States
 pub mod CheckKinds
 pub mod OpKinds

@@ -10,6 +10,7 @@ use crate::flat::FlatBlock;
 use crate::flatten::flat_blocks;
 use crate::heap::{Heap, Opened};
 use crate::running::{Running, Setup};
+use crate::stack::FrameStack;
 use crate::step::run_step;
 use crate::turn::{MachineTurn, RawOutList, goes_on};
 use abi_dyncast::{KnownParts, WorkList};
@@ -79,7 +80,7 @@ impl<M: Memory> Machine<M> {
             lists: Vec::new(alloc),
             opened: Vec::new(alloc),
             top: enter_main(alloc, &code)?,
-            below: Vec::new(alloc),
+            below: FrameStack::new(alloc, code.registers),
             calls: 0,
             outs: Sequence::new(alloc),
             line: 0,

@@ -108,7 +108,7 @@ pub fn run_op<M: Memory>(
             Ok(limit_stop(limit))
         }
         Op::Return { from, class } => {
-            let stop = run_return(setup, running, *from, *class);
+            let stop = run_return(setup, running, *from, *class)?;
             Ok(stop)
         }
         Op::End => Ok(Some(Stop::Answers(MachineTurn::Ended))),

@@ -1,6 +1,6 @@
 //! Returns.
 
-ghost use Rattle.std.specs.Prelude.{◌≡◌, ◌<◌, ◌-◌, Some, IsSome, length, if◌then◌else◌};
+ghost use Rattle.std.specs.Prelude.{◌≡◌, ◌<◌, ◌-◌, Some, IfOk, IsSome, length, if◌then◌else◌};
 ghost use Rattle.abi_dyncast.specs.Casts.{room};
 ghost use Rattle.abi_dyncast.specs.Known.{TellsTruth};
 ghost use Rattle.byte_machine.specs.Frames.{next_element};
@@ -17,6 +17,7 @@ use crate::turn::MachineTurn;
 use crate::words::moved;
 use byte_code::FinishList;
 use byte_memory::Memory;
+use foundation::NoMemory;
 
 /// The word that is returned, if any.
 fn operand<M: Memory>(running: &Running<M>, from: Option<u32>) -> Option<u64>
@@ -114,44 +115,49 @@ fn left_calls(calls: u32, is_call: bool) -> u32
     }
 }
 
-/// The frame below goes on, with the result. It answers what follows.
-fn leave<M: Memory>(_setup: &Setup, running: &mut Running<M>, word: Option<u64>) -> FinishList
-    requires { CanDo _setup.now (λ f s. returned_to s word s.below) running.old }
-    ensures did { DidAs _setup.now (λ f s. returned_to s word s.below) running.old running.new (Some (Returned result)) }
-    ensures kept { KeepsRoomAndOuts _setup.now.image running.old running.new }
+/// The frame below goes on, with the result. It answers what follows. Errors: want of memory.
+fn leave<M: Memory>(
+    setup: &Setup,
+    running: &mut Running<M>,
+    word: Option<u64>,
+) -> Result<FinishList, NoMemory>
+    requires { CanDo setup.now (λ f s. returned_to s word s.below) running.old }
+    ensures did { IfOk result (λ finish. DidAs setup.now (λ f s. returned_to s word s.below) running.old running.new (Some (Returned finish))) }
+    ensures kept { KeepsRoomAndOuts setup.now.image running.old running.new }
 {
-    let mut under = running.below.pop().unwrap();
+    let found = running.below.pop(setup.alloc, &mut running.spare)?;
+    let mut under = found.unwrap();
     give(&mut under, running.top.kept.to, word);
     running.calls = left_calls(running.calls, running.top.is_call);
     let done = std::mem::replace(&mut running.top, under);
     let _ = running.spare.push(done.registers);
-    done.kept.finish
+    Ok(done.kept.finish)
 }
 
 /// Runs a return. It answers what stops the block: a refusal, or what follows the return; the next element of an array stops
-/// nothing.
+/// nothing. Errors: want of memory.
 pub fn run_return<M: Memory>(
     setup: &Setup,
     running: &mut Running<M>,
     from: Option<u32>,
     class: Option<u32>,
-) -> Option<Stop>
+) -> Result<Option<Stop>, NoMemory>
     requires allowed { CanDo setup.now (λ f s. return_effect f s from class s.opened) running.old }
     requires room { room running.old.work ≡ setup.now.parts }
     requires known { TellsTruth setup.now.image running.old.known }
-    ensures did { DidAs setup.now (λ f s. return_effect f s from class s.opened) running.old running.new (stopped result) }
+    ensures did { IfOk result (λ stop. DidAs setup.now (λ f s. return_effect f s from class s.opened) running.old running.new (stopped stop)) }
     ensures kept { KeepsRoomAndOuts setup.now.image running.old running.new }
 {
     if running.top.again > 0 {
         let this = running.register(0).unwrap();
         enter_next(setup, running, moved(this, running.top.stride));
-        return None;
+        return Ok(None);
     }
     let word = operand(running, from);
     if let Some(rule) = check_result(setup, running, word, class) {
-        return Some(Stop::Answers(MachineTurn::Refused(rule, running.line)));
+        return Ok(Some(Stop::Answers(MachineTurn::Refused(rule, running.line))));
     }
     let word = moved_result(setup, running, word).unwrap();
-    let finish = leave(setup, running, word);
-    Some(Stop::Returned(finish))
+    let finish = leave(setup, running, word)?;
+    Ok(Some(Stop::Returned(finish)))
 }

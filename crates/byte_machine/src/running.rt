@@ -4,6 +4,7 @@ ghost use Rattle.std.specs.Prelude.{◌≡◌, None, replicate};
 
 use crate::frames::Frame;
 use crate::heap::Heap;
+use crate::stack::{FrameStack, SpareLists};
 use crate::turn::{MachineTurn, RawOutList};
 use abi_dyncast::{KnownParts, WorkList};
 use byte_code::{FinishList, ImageBytes};
@@ -23,7 +24,7 @@ pub struct Setup {
     ghost cleared: { unset.items ≡ replicate size None },
 }
 
-/// What the ops of a block work on. Of each list of frames the last one is the innermost.
+/// What the ops of a block work on. The last of the frames that were opened is the innermost.
 #[derive(Drop)]
 pub struct Running<M: Memory> {
     pub heap: Heap<M>,
@@ -33,14 +34,14 @@ pub struct Running<M: Memory> {
     pub known: KnownParts,
     pub globals: Vec<Option<u64>>,
     /// The registers of frames that were left, for frames that are opened later.
-    pub spare: Vec<Vec<Option<u64>>>,
+    pub spare: SpareLists,
     /// The lists of what followed returns that were done, for calls that are made later.
     pub lists: Vec<FinishList>,
     /// The frames that the block opened.
     pub opened: Vec<Frame>,
     /// The frame whose block runs.
     pub top: Frame,
-    pub below: Vec<Frame>,
+    pub below: FrameStack,
     /// How many calls are open.
     pub calls: u32,
     pub outs: RawOutList,

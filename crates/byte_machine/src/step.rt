@@ -27,7 +27,7 @@ fn settle<M: Memory>(_setup: &Setup, running: &mut Running<M>) -> Result<(), NoM
         return Ok(());
     };
     let top = std::mem::replace(&mut running.top, next);
-    running.below.push(top)?;
+    running.below.push(top, &mut running.spare)?;
     if running.opened.len() > 0 {
         running.below.append(&mut running.opened)?;
     }
