@@ -1,3 +1,4 @@
 pub mod Changed
 mod ObjectLemmas
+mod ShortLemmas
 mod NoteLemmas

@@ -1,19 +1,18 @@
 -- How the notes go along with the entries of the maps.
 use Rattle.std.proofs.Common.{◌≡◌, ℕ, Bool, true, false, Option, Some, None, List, [], ◌∷◌, ◌++◌, refl, ap, ◌∙◌, sym}
-use Rattle.std.specs.Prelude.{nat_eq, ◌&&◌, if◌then◌else◌}
+use Rattle.std.specs.Prelude.{nat_eq, ◌&&◌, if◌then◌else◌, is_some}
 use Rattle.std.specs.List.{find}
 use Rattle.byte_code.specs.declared.op.Phase.{Phase}
 use Rattle.byte_code.specs.declared.op.Phase.TheVariants.{Raw}
-use Rattle.byte_shadow.specs.declared.shadow.Note.{Note}
+use Rattle.byte_shadow.specs.declared.note.Note.{Note}
 use Rattle.foundation.proofs.Chosen.{find_passes}
 use Rattle.indexmap.specs.IndexMap.{get_by}
 use Rattle.byte_shadow.specs.declared.objects.CompleteObject.{CompleteObject}
-use Rattle.byte_shadow.specs.declared.objects.ObjectList.{ObjectList}
-use Rattle.byte_shadow.specs.declared.shadow.Place.{Place}
+use Rattle.byte_shadow.specs.declared.note.Place.{Place}
 use Rattle.byte_shadow.specs.declared.shadow.Viewed.{Viewed}
 use Rattle.byte_shadow.specs.declared.shadow.Shadow.{Shadow}
 use Rattle.byte_shadow.specs.Shadows.{Notes, put_at, noted_raw, phased, viewed}
-use Rattle.byte_shadow.specs.Meaning.{same_place, shadow_place, object_note, note_beside, note_of, view_beside, mapped_view, noted_view, note_phase, note_owner, is_own_view, kept_view, shadow_view, marked_note, IsMarked, IsLastKept, notes_of}
+use Rattle.byte_shadow.specs.Meaning.{same_place, shadow_place, object_note, note_beside, note_of, view_beside, mapped_view, noted_view, note_phase, note_owner, is_own_view, kept_view, shadow_view, mapped_note, marked_note, phased_note, IsNoteChanged, IsMarked, IsLastKept, notes_of}
 use Rattle.byte_shadow.specs.Objects.{is_object_of, IsObjectChanged}
 use Rattle.byte_shadow.proofs.Changed.{one_pair, same_pair}
 use Rattle.byte_shadow.proofs.ObjectLemmas.{found-push}
@@ -54,18 +53,6 @@ put-pushed objects mapped new none = record { each = λ a c. ap (λ found. note_
     chosen : (a c : ℕ) (b : Bool) → note_beside (if b then Some new else find (is_object_of a c) objects) (mapped a c) ≡ (if b then Some (object_note new) else note_beside (find (is_object_of a c) objects) (mapped a c))
     chosen a c true = refl
     chosen a c false = refl
-
--- a note of which no object is listed is put into the map
-pub put-mapped : (objects : List CompleteObject) (mapped new : ℕ → ℕ → Option Note) (at class : ℕ) (note : Note) → find (is_object_of at class) objects ≡ None → IsPut mapped new at class note →
-    IsPut (λ a c. note_beside (find (is_object_of a c) objects) (mapped a c)) (λ a c. note_beside (find (is_object_of a c) objects) (new a c)) at class note
-put-mapped objects mapped new at class note none put = record { each = λ a c. ap (note_beside (find (is_object_of a c) objects)) (put.each a c) ∙ chosen a c (nat_eq at a && nat_eq class c) refl }
-  where
-    chosen : (a c : ℕ) (b : Bool) → (nat_eq at a && nat_eq class c) ≡ b → note_beside (find (is_object_of a c) objects) (if b then Some note else mapped a c) ≡ (if b then Some note else note_beside (find (is_object_of a c) objects) (mapped a c))
-    chosen a c true e =
-        let pair = one_pair at class a c e in
-        let here : find (is_object_of a c) objects ≡ None = (λ i. find (is_object_of (sym pair.0 i) (sym pair.1 i)) objects) ∙ none in
-        ap (λ found. note_beside found (Some note)) here
-    chosen a c false e = refl
 
 -- an object that is listed is changed
 pub put-changed : (objects new : List CompleteObject) (mapped : ℕ → ℕ → Option Note) (object : CompleteObject) (at class : ℕ) (phase : Phase) (own : Bool) → is_object_of at class object ≡ true → IsObjectChanged objects new object phase own →
@@ -113,23 +100,27 @@ phased_notes old new at class before phase there put views =
     (unchanged note_owner (note_of old) (note_of new) at class note put (ap note_owner (sym there)))
     (λ a c i. kept_view a c (unchanged is_own_view (note_of old) (note_of new) at class note put (ap is_own_view (sym there)) a c i) (views a c i))
 
--- what stands in the map of a subobject
-abbrev pub mapped_note : Shadow → ℕ → ℕ → Option Note
-mapped_note shadow at class = get_by (same_place (shadow_place at class)) shadow.notes
-
--- a note is put into the map, and the objects stay
-put-old : (old new : Shadow) (at class : ℕ) (note : Note) → find (is_object_of at class) old.objects.items.items ≡ None → IsPut (mapped_note old) (mapped_note new) at class note → new.objects ≡ old.objects → IsPut (note_of old) (note_of new) at class note
-put-old old new at class note none put objects =
-    let both = put-mapped old.objects.items.items (mapped_note old) (mapped_note new) at class note none put in
-    record { each = λ a c. ap (λ (o : ObjectList). note_beside (find (is_object_of a c) o.items.items) (mapped_note new a c)) objects ∙ both.each a c }
+-- what the maps have of a subobject is changed, and the objects stay
+note-changed : (change : Option Note → Option Note) (old new : Shadow) (at class : ℕ) → find (is_object_of at class) old.objects.items.items ≡ None → IsNoteChanged change old.notes new.notes at class → new.objects ≡ old.objects →
+    (a c : ℕ) → note_of new a c ≡ (if nat_eq at a && nat_eq class c then change (note_of old at class) else note_of old a c)
+note-changed change old new at class none changed_to objects a c =
+    (λ i. note_beside (find (is_object_of a c) (objects i).items.items) (changed_to a c i)) ∙ chosen (nat_eq at a && nat_eq class c) refl
+  where
+    chosen : (b : Bool) → (nat_eq at a && nat_eq class c) ≡ b →
+        note_beside (find (is_object_of a c) old.objects.items.items) (if b then change (mapped_note old.notes at class) else mapped_note old.notes a c) ≡ (if b then change (note_of old at class) else note_of old a c)
+    chosen true e =
+        let pair = one_pair at class a c e in
+        let here : find (is_object_of a c) old.objects.items.items ≡ None = (λ i. find (is_object_of (sym pair.0 i) (sym pair.1 i)) old.objects.items.items) ∙ none in
+        ap (λ found. note_beside found (change (mapped_note old.notes at class))) here ∙ ap (λ found. change (note_beside found (mapped_note old.notes at class))) (sym none)
+    chosen false e = refl
 
 -- an object is changed, and the map stays
 put-object : (old new : Shadow) (at class : ℕ) (object : CompleteObject) (phase : Phase) (own : Bool) → find (is_object_of at class) old.objects.items.items ≡ Some object → IsObjectChanged old.objects.items.items new.objects.items.items object phase own → new.notes ≡ old.notes →
     IsPut (note_of old) (note_of new) at class (record { owner = object.at; owner_class = object.class; phase = phase; is_own_view = own })
 put-object old new at class object phase own found changed_to notes =
     let pass : is_object_of at class object ≡ true = (find_passes (is_object_of at class) old.objects.items.items object found).1 in
-    let put = put-changed old.objects.items.items new.objects.items.items (mapped_note old) object at class phase own pass changed_to in
-    record { each = λ a c. (λ i. note_beside (find (is_object_of a c) new.objects.items.items) (get_by (same_place (shadow_place a c)) (notes i))) ∙ put.each a c }
+    let put = put-changed old.objects.items.items new.objects.items.items (mapped_note old.notes) object at class phase own pass changed_to in
+    record { each = λ a c. (λ i. note_beside (find (is_object_of a c) new.objects.items.items) (mapped_note (notes i) a c)) ∙ put.each a c }
 
 -- the view that is noted stays
 views_alike : (old new : Shadow) → new.last ≡ old.last → new.views ≡ old.views → (a c : ℕ) → noted_view new a c ≡ noted_view old a c
@@ -142,30 +133,38 @@ unfolding notes_of
 begun-pushed old new at class owner owner_class none e f pushed notes last views =
     let objects : List CompleteObject = old.objects.items.items in
     let object : CompleteObject = record { at = at; class = class; phase = Raw; is_own_view = false } in
-    let unheard : find (is_object_of at class) objects ≡ None = unlisted (find (is_object_of at class) objects) (mapped_note old at class) none in
-    let put = put-pushed objects (mapped_note old) object unheard in
-    let now : (a c : ℕ) → note_of new a c ≡ note_beside (find (is_object_of a c) (objects ++ object ∷ [])) (mapped_note old a c) = λ a c i. note_beside (find (is_object_of a c) (pushed i)) (get_by (same_place (shadow_place a c)) (notes i)) in
+    let unheard : find (is_object_of at class) objects ≡ None = unlisted (find (is_object_of at class) objects) (mapped_note old.notes at class) none in
+    let put = put-pushed objects (mapped_note old.notes) object unheard in
+    let now : (a c : ℕ) → note_of new a c ≡ note_beside (find (is_object_of a c) (objects ++ object ∷ [])) (mapped_note old.notes a c) = λ a c i. note_beside (find (is_object_of a c) (pushed i)) (mapped_note (notes i) a c) in
     let own : object_note object ≡ record { owner = owner; owner_class = owner_class; phase = Raw; is_own_view = false } = λ i. record { owner = e i; owner_class = f i; phase = Raw; is_own_view = false } in
     begun_notes old new at class owner owner_class none
     (record { each = λ a c. now a c ∙ (put.each a c ∙ ap (λ (x : Note). if nat_eq at a && nat_eq class c then Some x else note_of old a c) own) })
     (views_alike old new last views)
 
-pub begun-mapped : (old new : Shadow) (at class owner owner_class : ℕ) → (notes_of old).phase at class ≡ None → IsPut (mapped_note old) (mapped_note new) at class (record { owner = owner; owner_class = owner_class; phase = Raw; is_own_view = false }) →
+pub begun-mapped : (old new : Shadow) (at class owner owner_class : ℕ) → (notes_of old).phase at class ≡ None → IsNoteChanged (λ before. Some (record { owner = owner; owner_class = owner_class; phase = Raw; is_own_view = false })) old.notes new.notes at class →
     new.objects ≡ old.objects → new.last ≡ old.last → new.views ≡ old.views → notes_of new ≡ noted_raw (notes_of old) at class owner owner_class
 unfolding notes_of
 begun-mapped old new at class owner owner_class none put objects last views =
-    let unheard : find (is_object_of at class) old.objects.items.items ≡ None = unlisted (find (is_object_of at class) old.objects.items.items) (mapped_note old at class) none in
-    begun_notes old new at class owner owner_class none (put-old old new at class _ unheard put objects) (views_alike old new last views)
+    let unheard : find (is_object_of at class) old.objects.items.items ≡ None = unlisted (find (is_object_of at class) old.objects.items.items) (mapped_note old.notes at class) none in
+    let note : Note = record { owner = owner; owner_class = owner_class; phase = Raw; is_own_view = false } in
+    begun_notes old new at class owner owner_class none (record { each = note-changed (λ before. Some note) old new at class unheard put objects }) (views_alike old new last views)
 
 pub phased-changed : (old new : Shadow) (at class : ℕ) (object : CompleteObject) (phase : Phase) → find (is_object_of at class) old.objects.items.items ≡ Some object → IsObjectChanged old.objects.items.items new.objects.items.items object phase object.is_own_view →
     new.notes ≡ old.notes → new.last ≡ old.last → new.views ≡ old.views → notes_of new ≡ phased (notes_of old) at class phase
 phased-changed old new at class object phase found changed_to notes last views =
-    phased_notes old new at class (object_note object) phase (ap (λ f. note_beside f (mapped_note old at class)) found) (put-object old new at class object phase object.is_own_view found changed_to notes) (views_alike old new last views)
+    phased_notes old new at class (object_note object) phase (ap (λ f. note_beside f (mapped_note old.notes at class)) found) (put-object old new at class object phase object.is_own_view found changed_to notes) (views_alike old new last views)
 
-pub phased-mapped : (old new : Shadow) (at class : ℕ) (before : Note) (phase : Phase) → find (is_object_of at class) old.objects.items.items ≡ None → mapped_note old at class ≡ Some before → IsPut (mapped_note old) (mapped_note new) at class (record before { phase = phase }) →
+pub phased-mapped : (old new : Shadow) (at class : ℕ) (phase : Phase) → ((notes_of old).phase at class ≡ None → ⊥) → find (is_object_of at class) old.objects.items.items ≡ None → IsNoteChanged (phased_note phase) old.notes new.notes at class →
     new.objects ≡ old.objects → new.last ≡ old.last → new.views ≡ old.views → notes_of new ≡ phased (notes_of old) at class phase
-phased-mapped old new at class before phase none there put objects last views =
-    phased_notes old new at class before phase (ap (λ f. note_beside f (mapped_note old at class)) none ∙ there) (put-old old new at class _ none put objects) (views_alike old new last views)
+unfolding notes_of
+phased-mapped old new at class phase some none changed_to objects last views = by_note (note_of old at class) refl
+  where
+    by_note : (note : Option Note) → note_of old at class ≡ note → notes_of new ≡ phased (notes_of old) at class phase
+    by_note None there = absurd (some (ap note_phase there))
+    by_note (Some before) there =
+        phased_notes old new at class before phase there
+        (record { each = λ a c. note-changed (phased_note phase) old new at class none changed_to objects a c ∙ ap (λ (n : Option Note). if nat_eq at a && nat_eq class c then phased_note phase n else note_of old a c) there })
+        (views_alike old new last views)
 
 -- the notes after one was marked_note, where other complete objects keep their view
 pub viewed_notes : (old new : Shadow) (owner owner_class at class : ℕ) (own : Bool) →
@@ -202,12 +201,11 @@ marked_note-put old new at class before own there put last views = record {
 pub marked-changed : (old new : Shadow) (at class : ℕ) (object : CompleteObject) (own : Bool) → find (is_object_of at class) old.objects.items.items ≡ Some object → IsObjectChanged old.objects.items.items new.objects.items.items object object.phase own →
     new.notes ≡ old.notes → new.last ≡ old.last → new.views ≡ old.views → IsMarked old new at class own
 marked-changed old new at class object own found changed_to notes last views =
-    marked_note-put old new at class (object_note object) own (ap (λ f. note_beside f (mapped_note old at class)) found) (put-object old new at class object object.phase own found changed_to notes) last views
+    marked_note-put old new at class (object_note object) own (ap (λ f. note_beside f (mapped_note old.notes at class)) found) (put-object old new at class object object.phase own found changed_to notes) last views
 
-pub marked-mapped : (old new : Shadow) (at class : ℕ) (before : Note) (own : Bool) → find (is_object_of at class) old.objects.items.items ≡ None → mapped_note old at class ≡ Some before → IsPut (mapped_note old) (mapped_note new) at class (record before { is_own_view = own }) →
+pub marked-mapped : (old new : Shadow) (at class : ℕ) (own : Bool) → find (is_object_of at class) old.objects.items.items ≡ None → IsNoteChanged (marked_note own) old.notes new.notes at class →
     new.objects ≡ old.objects → new.last ≡ old.last → new.views ≡ old.views → IsMarked old new at class own
-marked-mapped old new at class before own none there put objects last views =
-    marked_note-put old new at class before own (ap (λ f. note_beside f (mapped_note old at class)) none ∙ there) (put-old old new at class _ none put objects) last views
+marked-mapped old new at class own none changed_to objects last views = record { notes = note-changed (marked_note own) old new at class none changed_to objects; last = last; views = views }
 
 not_own : (note : Option Note) → is_own_view (marked_note false note) ≡ false
 not_own None = refl
@@ -257,3 +255,19 @@ viewed-beside old kept mid new owner owner_class at class is objects mapped view
         ap (λ (n : Option Note). kept_view owner owner_class (is_own_view n) (noted_view new owner owner_class)) own
         ∙ (ap (λ (b : Bool). kept_view owner owner_class b (noted_view new owner owner_class)) (not_own (note_of old owner owner_class))
         ∙ ap (λ (v : Option Place). kept_view owner owner_class false v) set)
+
+-- a view of itself
+pub viewed-own : (old new : Shadow) (owner owner_class at class : ℕ) → at ≡ owner → class ≡ owner_class → is_some (note_of old at class) ≡ true → IsMarked old new at class true → notes_of new ≡ viewed (notes_of old) owner owner_class at class
+viewed-own old new owner owner_class at class e f some mark =
+    viewed_notes old new at class at class true mark.notes (λ a c other. views_alike old new mark.last mark.views a c) there ∙ (λ i. viewed (notes_of old) (e i) (f i) at class)
+  where
+    own : (note : Option Note) → is_some note ≡ true → is_own_view (marked_note true note) ≡ true
+    own None none = cc
+    own (Some note) found = refl
+
+    there : shadow_view new at class ≡ Some (at, class)
+    there =
+        let same : (nat_eq at at && nat_eq class class) ≡ true = same_pair at class in
+        let note : note_of new at class ≡ marked_note true (note_of old at class) = rw same at (mark.notes at class) in
+        ap (λ (n : Option Note). kept_view at class (is_own_view n) (noted_view new at class)) note
+        ∙ ap (λ (b : Bool). kept_view at class b (noted_view new at class)) (own (note_of old at class) some)

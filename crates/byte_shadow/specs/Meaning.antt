@@ -1,12 +1,15 @@
 -- What a shadow notes.
-use Rattle.std.specs.Prelude.{◌≡◌, ℕ, Bool, true, false, nat_eq, ◌&&◌, if◌then◌else◌, Option, Some, None, option_map}
+use Rattle.std.specs.Prelude.{◌≡◌, ℕ, ◌^◌, Bool, true, false, nat_eq, nat_lt, ◌&&◌, if◌then◌else◌, Option, Some, None, option_map, option_and_then}
 use Rattle.std.specs.List.{find}
 use Rattle.indexmap.specs.IndexMap.{get_by}
 use Rattle.byte_code.specs.declared.op.Phase.{Phase}
 use Rattle.byte_shadow.specs.declared.objects.CompleteObject.{CompleteObject}
-use Rattle.byte_shadow.specs.declared.shadow.Place.{Place}
+use Rattle.byte_shadow.specs.declared.note.Place.{Place}
+use Rattle.byte_shadow.specs.declared.short.ShortPlace.{ShortPlace}
+use Rattle.byte_shadow.specs.declared.short.ShortNote.{ShortNote}
+use Rattle.byte_shadow.specs.declared.note_map.NoteMap.{NoteMap}
 use Rattle.byte_shadow.specs.declared.shadow.Viewed.{Viewed}
-use Rattle.byte_shadow.specs.declared.shadow.Note.{Note}
+use Rattle.byte_shadow.specs.declared.note.Note.{Note}
 use Rattle.byte_shadow.specs.declared.shadow.Shadow.{Shadow}
 use Rattle.byte_shadow.specs.Objects.{is_object_of}
 use Rattle.byte_shadow.specs.Shadows.{Notes}
@@ -21,13 +24,36 @@ same_place p q = nat_eq p.at q.at && nat_eq p.class q.class
 abbrev pub object_note : CompleteObject → Note
 object_note object = record { owner = object.at; owner_class = object.class; phase = object.phase; is_own_view = object.is_own_view }
 
--- what is noted of an object that is listed, or else what stands in the map
+-- the short place of an address and a class, where the address has at most 32 bits
+abbrev pub short_place : ℕ → ℕ → Option ShortPlace
+short_place at class = if nat_lt at (2 ^ 32) then Some (record { at = at; class = class }) else None
+
+abbrev pub same_short_place : ShortPlace → ShortPlace → Bool
+same_short_place p q = nat_eq p.at q.at && nat_eq p.class q.class
+
+-- the note that a short one stands for
+abbrev pub wide_note : ShortNote → Note
+wide_note short = record { owner = short.owner; owner_class = short.owner_class; phase = short.phase; is_own_view = short.is_own_view }
+
+abbrev pub short_found : NoteMap → ℕ → ℕ → Option ShortNote
+short_found map at class = option_and_then (λ place. get_by (same_short_place place) map.short) (short_place at class)
+
+-- what a short note stands for, or else what stands in the map of the others
+abbrev pub short_beside : Option ShortNote → Option Note → Option Note
+short_beside None wide = wide
+short_beside (Some short) wide = Some (wide_note short)
+
+-- what stands in the maps of a subobject
+abbrev pub mapped_note : NoteMap → ℕ → ℕ → Option Note
+mapped_note map at class = short_beside (short_found map at class) (get_by (same_place (shadow_place at class)) map.wide)
+
+-- what is noted of an object that is listed, or else what stands in the maps
 abbrev pub note_beside : Option CompleteObject → Option Note → Option Note
 note_beside None mapped = mapped
 note_beside (Some object) mapped = Some (object_note object)
 
 abbrev pub note_of : Shadow → ℕ → ℕ → Option Note
-note_of shadow at class = note_beside (find (is_object_of at class) shadow.objects.items.items) (get_by (same_place (shadow_place at class)) shadow.notes)
+note_of shadow at class = note_beside (find (is_object_of at class) shadow.objects.items.items) (mapped_note shadow.notes at class)
 
 abbrev pub place_pair : Place → ℕ × ℕ
 place_pair p = (p.at, p.class)
@@ -71,6 +97,15 @@ shadow_view shadow at class = kept_view at class (is_own_view (note_of shadow at
 abbrev pub marked_note : Bool → Option Note → Option Note
 marked_note own None = None
 marked_note own (Some note) = Some (record note { is_own_view = own })
+
+-- a note that says in which phase its subobject is
+abbrev pub phased_note : Phase → Option Note → Option Note
+phased_note phase None = None
+phased_note phase (Some note) = Some (record note { phase = phase })
+
+-- what the maps have of one subobject was changed, and all else is as it was
+abbrev pub IsNoteChanged : (Option Note → Option Note) → (old new : NoteMap) (at class : ℕ) → Type 0
+IsNoteChanged change old new at class = (a c : ℕ) → mapped_note new a c ≡ (if nat_eq at a && nat_eq class c then change (mapped_note old at class) else mapped_note old a c)
 
 -- the note of one subobject says so, and all else is as it was
 pub record IsMarked (old new : Shadow) (at class : ℕ) (own : Bool) : Type 0 where

@@ -5,13 +5,19 @@
 //! the phase of the subobject, the complete object that it belongs to, and of a complete object its view (ISO C++03 3.8 p1, 12.7
 //! say what a program may do in which phase). Nothing here knows a declaration or reads a byte.
 //!
+//! Complete objects stand in a list by address (`objects`), and other subobjects in a map of what is noted of them (`note_map`),
+//! in half the bytes where the numbers are small (`short`).
+//!
 //! The layer above may rely on the contracts of the calls, each one equation over `notes_of`, and on the lemmas of
 //! `proofs/Changed.antt`, which say what a changed function gives at the pair that was changed and at any other. `begin` and
 //! `set_view` take memory.
 #![tactic(auto, unfolding(crate::specs::Meaning::notes_of))]
 
+mod note;
+mod note_map;
 mod objects;
 mod shadow;
+mod short;
 
 pub use crate::shadow::Shadow;
 pub use byte_code::Phase;

@@ -4,28 +4,13 @@ ghost use Rattle.std.specs.Prelude.{◌≡◌, ◌≢◌, None, OnOk, OnErr};
 ghost use Rattle.byte_shadow.specs.Shadows.{no_notes, noted_raw, phased, viewed, is_ready_phase, ready_at};
 ghost use Rattle.byte_shadow.specs.Meaning.{same_place, shadow_place, object_note, note_of, place_pair, note_phase, note_owner, view_pair, is_own_view, noted_view, IsMarked, IsLastKept, notes_of};
 
+use crate::note::{Note, Place};
+use crate::note_map::NoteMap;
 use crate::objects::{CompleteObject, ObjectList};
 use byte_code::Phase;
 use foundation::NoMemory;
 use indexmap::IndexMap;
 use std::alloc::Global;
-
-/// An address and the number of a class, which name a class subobject.
-#[derive(Clone, Copy, PartialEq, Eq, Hash)]
-pub struct Place {
-    pub at: u64,
-    pub class: u32,
-}
-
-/// What is noted of a subobject: its complete object, by the address and the number of its class, its phase, and whether it is a
-/// complete object that is the view of itself. A note has 16 bytes, and stays when its object is gone.
-#[derive(Clone, Copy)]
-pub struct Note {
-    pub owner: u64,
-    pub owner_class: u32,
-    pub phase: Phase,
-    pub is_own_view: bool,
-}
 
 fn pair_of(place: Place) -> (u64, u32)
     ensures { result ≡ place_pair place }
@@ -53,13 +38,13 @@ pub struct Viewed {
 /// What is noted of class subobjects, by their address and the number of their class: the phase of each, the complete object
 /// that it belongs to, and of a complete object its view. Addresses are in bytes.
 ///
-/// A complete object that is noted behind all others, by its address, stands in a list, and all other subobjects in a map. That a
+/// A complete object that is noted behind all others, by its address, stands in a list, and all other subobjects in maps. That a
 /// complete object is the view of itself stands in its note. Other views have a map of their own, since few subobjects are
 /// complete objects; the one that was set last stands beside it, since the view of one object changes many times in a row.
 #[derive(Drop)]
 pub struct Shadow {
     objects: ObjectList,
-    notes: IndexMap<Place, Note>,
+    notes: NoteMap,
     last: Option<Viewed>,
     views: IndexMap<Place, Place>,
 }
@@ -89,7 +74,7 @@ impl Shadow {
     {
         Shadow {
             objects: ObjectList::new(alloc),
-            notes: IndexMap::new(alloc),
+            notes: NoteMap::new(alloc),
             last: None,
             views: IndexMap::new(alloc),
         }
@@ -100,7 +85,7 @@ impl Shadow {
     {
         match self.objects.index_of(at, class) {
             Some(index) => Some(note_from(self.objects.items[index])),
-            None => self.notes.get(&Place { at, class }).copied(),
+            None => self.notes.get(at, class),
         }
     }
 
@@ -143,7 +128,7 @@ impl Shadow {
             phase: Phase::Raw,
             is_own_view: false,
         };
-        self.notes.insert(Place { at, class }, note)?;
+        self.notes.insert(at, class, note)?;
         Ok(())
     }
 
@@ -157,12 +142,7 @@ impl Shadow {
                 let is_own_view = self.objects.items[index].is_own_view;
                 self.objects.change(index, phase, is_own_view);
             }
-            None => {
-                // a subobject without a note is never met: the `requires` says that it is noted
-                if let Some(note) = self.notes.get_mut(&Place { at, class }) {
-                    note.phase = phase;
-                }
-            }
+            None => self.notes.set_phase(at, class, phase),
         }
     }
 
@@ -192,11 +172,7 @@ impl Shadow {
                 let phase = self.objects.items[index].phase;
                 self.objects.change(index, phase, is_own_view);
             }
-            None => {
-                if let Some(note) = self.notes.get_mut(&Place { at, class }) {
-                    note.is_own_view = is_own_view;
-                }
-            }
+            None => self.notes.mark(at, class, is_own_view),
         }
     }
 

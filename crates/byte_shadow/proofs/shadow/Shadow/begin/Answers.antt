@@ -1,5 +1,4 @@
 use Rattle.std.proofs.Common.{refl}
-use Rattle.byte_shadow.specs.Meaning.{shadow_place}
 use Rattle.byte_shadow.proofs.NoteLemmas.{begun-pushed, begun-mapped}
 use Rattle.byte_shadow.proofs.shadow.Shadow.begin.Goals as goal
 
@@ -11,4 +10,4 @@ returns-then-are_below-clause-ok c =
 pub returns-clause-ok : goal.returns-clause-ok
 returns-clause-ok c =
     let old = c.args.self.now in
-    begun-mapped old (record { objects = old.objects; notes = c.insert.new.self; last = old.last; views = old.views }) c.args.at c.args.class c.args.owner c.args.owner_class c.requires (record { each = λ a d. c.in_ok-insert.ensures.updates.0 (shadow_place a d) }) refl refl refl
+    begun-mapped old (record { objects = old.objects; notes = c.insert.new.self; last = old.last; views = old.views }) c.args.at c.args.class c.args.owner c.args.owner_class c.requires c.in_ok-insert.ensures.ok refl refl refl

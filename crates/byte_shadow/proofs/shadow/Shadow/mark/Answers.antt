@@ -1,9 +1,6 @@
-use Rattle.std.proofs.Common.{◌≡◌, Some, length, refl, sym, ap, ◌∙◌}
-use Rattle.std.specs.Prelude.{is_some}
+use Rattle.std.proofs.Common.{◌≡◌, Some, length, refl, ◌∙◌}
 use Rattle.std.specs.List.{slice_get}
 use Rattle.std.proofs.lemmas.Option.{slice_get_read}
-use Rattle.byte_shadow.specs.declared.shadow.Note.{Note}
-use Rattle.byte_shadow.specs.Meaning.{shadow_place}
 use Rattle.byte_shadow.proofs.NoteLemmas.{marked-changed, marked-mapped}
 use Rattle.byte_shadow.proofs.shadow.Shadow.mark.Goals as goal
 
@@ -14,11 +11,7 @@ returns-in-Some c =
     let here : slice_get items c.in-Some.index ≡ Some c.index.result.now = slice_get_read items (length items) c.in-Some.index c.index.result.now refl c.in-Some.ensures.0 c.index.ensures in
     marked-changed old (record { objects = c.change.new.self; notes = old.notes; last = old.last; views = old.views }) c.args.at c.args.class c.index.result.now c.args.is_own_view (c.in-Some.ensures.1 ∙ here) (c.change.ensures c.index.result.now here) refl refl refl
 
-pub returns-in-Some-get_mut : goal.returns-in-Some-get_mut
-returns-in-Some-get_mut c =
+pub returns-in-None : goal.returns-in-None
+returns-in-None c =
     let old = c.args.self.now in
-    let before : Note = c.in-Some-get_mut.note.now in
-    let after : Note = record before { is_own_view = c.args.is_own_view } in
-    let there = sym c.in-Some-get_mut.ensures.value in
-    let written = (c.get_mut.follows.holds after).3 (ap is_some there) in
-    marked-mapped old (record { objects = old.objects; notes = c.get_mut.follows.lender after; last = old.last; views = old.views }) c.args.at c.args.class before c.args.is_own_view c.in-None.ensures there (record { each = λ a d. written.0 (shadow_place a d) }) refl refl refl
+    marked-mapped old (record { objects = old.objects; notes = c.mark.new.self; last = old.last; views = old.views }) c.args.at c.args.class c.args.is_own_view c.in-None.ensures c.mark.ensures refl refl refl

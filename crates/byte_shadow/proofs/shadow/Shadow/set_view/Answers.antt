@@ -1,7 +1,12 @@
-use Rattle.std.proofs.Common.{Some, refl}
+use Rattle.std.proofs.Common.{Some, refl, sym, ap, ◌∙◌}
+use Rattle.std.specs.Prelude.{is_some}
 use Rattle.byte_shadow.specs.Meaning.{shadow_place}
-use Rattle.byte_shadow.proofs.NoteLemmas.{viewed-beside}
+use Rattle.byte_shadow.proofs.NoteLemmas.{viewed-beside, viewed-own}
 use Rattle.byte_shadow.proofs.shadow.Shadow.set_view.Goals as goal
+
+pub returns-then-is_some-clause-ok : goal.returns-then-is_some-clause-ok
+returns-then-is_some-clause-ok c =
+    viewed-own c.args.self.now c.mark.new.self c.args.owner c.args.owner_class c.args.at c.args.class c.if-at-owner.true c.if-class-owner_class.true (ap is_some (sym c.note.ensures) ∙ (sym c.is_some.ensures ∙ c.if-is_some.true)) c.mark.ensures
 
 pub returns-clause-ok : goal.returns-clause-ok
 returns-clause-ok c =
