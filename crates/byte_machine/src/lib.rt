@@ -8,7 +8,8 @@
 //! alone.
 //!
 //! What runs is a flat form of the code, which `Machine::new` makes: one kind for each common op, and one for neighbours that often
-//! stand together (`specs/invariants/Flat.antt` says for which ops each stands).
+//! stand together (`specs/invariants/Flat.antt` says for which ops each stands). Frames wait in a stack of their own (`stack`), which
+//! keeps most of them in few bytes where many wait (`short`).
 //!
 //! The layer above may rely on `Machine::step`, over `state_of` (`specs/MachineState.antt`), and on the lemmas of `proofs/`, one
 //! for each op and outcome, from which what a block leads to is composed: `Leads.antt` and `TurnLeads.antt` for whole blocks,

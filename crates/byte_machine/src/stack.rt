@@ -197,11 +197,7 @@ impl FrameStack {
     /// Takes the innermost frame off, with spare registers where it has none of its own; None where no frame waits.
     ///
     /// Errors: want of memory; then nothing is said of what waits.
-    pub fn pop(
-        &mut self,
-        alloc: Global,
-        spare: &mut SpareLists,
-    ) -> Result<Option<Frame>, NoMemory>
+    pub fn pop(&mut self, alloc: Global, spare: &mut SpareLists) -> Result<Option<Frame>, NoMemory>
         ensures { IfOk result (λ found. MatchOption found (self.old ≡ []) (λ frame. self.old ≡ frame_of frame ∷ self.new)) }
     {
         match self.waiting.pop() {
