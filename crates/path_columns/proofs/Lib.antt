@@ -1,3 +1,4 @@
 pub mod Paging
 pub mod Placing
 pub mod Listing
+pub mod Putting

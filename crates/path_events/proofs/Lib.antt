@@ -5,3 +5,4 @@ pub mod Building
 pub mod Ending
 pub mod Advancing
 pub mod Giving
+pub mod Few

@@ -20,13 +20,14 @@ fn built_shared(course: &Course, j: usize) -> Option<Step>
     requires { AreClassNumbers course.now.h.now course.now.numbers.now }
     ensures { MayGiveNext course.now true (Shared j) (Bases 0) result }
 {
+    course.h.keeps();
     match course.frame.form {
         Form::AsBase => None,
         Form::InFull => match order_of(course.h, course.numbers, course.frame.part.class).get(j) {
             None => None,
             Some(v) => {
                 let kid = shared_kid(course.numbers, course.h, course.frame.part, j, *v);
-                Some(Step::Open(kid, Form::AsBase, Stage::Shared(j + 1)))
+                Some(Step::Open(kid, Form::AsBase, Stage::Shared((j + 1) as u16)))
             }
         },
     }
@@ -45,7 +46,7 @@ fn built_base(course: &Course, i: usize) -> Option<Step>
                 return None;
             }
             let kid = base_kid(course.numbers, course.h, course.frame.part, i, base);
-            Some(Step::Open(kid, Form::AsBase, Stage::Bases(i + 1)))
+            Some(Step::Open(kid, Form::AsBase, Stage::Bases((i + 1) as u16)))
         }
     }
 }
@@ -80,14 +81,14 @@ fn member_step(course: &Course, m: usize, member: &Member<ClassId>, i: u32) -> O
                 return None;
             }
             let event = PlanEvent::Init(course.frame.part, m as u32);
-            Some(Step::Event(event, Stage::Members(m + 1, 0)))
+            Some(Step::Event(event, Stage::Members((m + 1) as u16, 0)))
         }
         FieldType::Object(d) => {
             if i >= member.elements() {
                 return None;
             }
             let kid = element_kid(course.numbers, course.h, course.frame.part, m, member, i, d);
-            Some(Step::Open(kid, Form::InFull, Stage::Members(m, i + 1)))
+            Some(Step::Open(kid, Form::InFull, Stage::Members(m as u16, (i + 1) as u16)))
         }
     }
 }
@@ -138,12 +139,12 @@ pub(crate) fn built_step(course: &Course) -> Step
     ensures { GivesNext course.now true course.now.frame.stage result }
 {
     match course.frame.stage {
-        Stage::Shared(j) => match built_shared(course, j) {
+        Stage::Shared(j) => match built_shared(course, j as usize) {
             Some(step) => step,
             None => built_bases(course, 0),
         },
-        Stage::Bases(i) => built_bases(course, i),
-        Stage::Members(m, i) => built_members(course, m, i),
+        Stage::Bases(i) => built_bases(course, i as usize),
+        Stage::Members(m, i) => built_members(course, m as usize, i as u32),
         Stage::Body => built_body(course),
         Stage::Last => Step::Last(PlanEvent::Done(course.frame.part)),
     }

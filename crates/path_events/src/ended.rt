@@ -19,6 +19,7 @@ fn ended_shared(course: &Course, j: usize) -> Step
     requires { AreClassNumbers course.now.h.now course.now.numbers.now }
     ensures { GivesNext course.now false (Shared j) result }
 {
+    course.h.keeps();
     match course.frame.form {
         Form::AsBase => Step::Last(PlanEvent::End(course.frame.part)),
         Form::InFull => {
@@ -30,7 +31,7 @@ fn ended_shared(course: &Course, j: usize) -> Step
             let place = left - 1;
             let v = class_at(order, place);
             let kid = shared_kid(course.numbers, course.h, course.frame.part, place, v);
-            Step::Open(kid, Form::AsBase, Stage::Shared(place))
+            Step::Open(kid, Form::AsBase, Stage::Shared(place as u16))
         }
     }
 }
@@ -40,6 +41,7 @@ fn ended_base(course: &Course, i: usize) -> Option<Step>
     requires { AreClassNumbers course.now.h.now course.now.numbers.now }
     ensures { MayGiveNext course.now false (Bases (i + 1)) (Bases i) result }
 {
+    course.h.keeps();
     match base_at(course.h, course.frame.part.class, i) {
         None => None,
         Some(base) => {
@@ -47,7 +49,7 @@ fn ended_base(course: &Course, i: usize) -> Option<Step>
                 return None;
             }
             let kid = base_kid(course.numbers, course.h, course.frame.part, i, base);
-            Some(Step::Open(kid, Form::AsBase, Stage::Bases(i)))
+            Some(Step::Open(kid, Form::AsBase, Stage::Bases(i as u16)))
         }
     }
 }
@@ -94,7 +96,7 @@ fn ended_element(course: &Course, m: usize, i: u32) -> Option<Step>
                     element,
                     d,
                 );
-                Some(Step::Open(kid, Form::InFull, Stage::Members(m, element)))
+                Some(Step::Open(kid, Form::InFull, Stage::Members(m as u16, element as u16)))
             }
         },
     }
@@ -115,6 +117,7 @@ fn ended_members(course: &Course, m: usize, i: u32) -> Step
     requires { AreClassNumbers course.now.h.now course.now.numbers.now }
     ensures { GivesNext course.now false (Members m i) result }
 {
+    course.h.keeps();
     match ended_element(course, m, i) {
         Some(step) => return step,
         None => {}
@@ -129,7 +132,10 @@ fn ended_members(course: &Course, m: usize, i: u32) -> Step
         }
     }
     let bases = bases_of(course.h, course.frame.part.class).len();
-    Step::Event(PlanEvent::Bases(course.frame.part), Stage::Bases(bases))
+    Step::Event(
+        PlanEvent::Bases(course.frame.part),
+        Stage::Bases(bases as u16),
+    )
 }
 
 /// The body of the destructor where it is declared, and else the members.
@@ -137,6 +143,7 @@ fn ended_body(course: &Course) -> Step
     requires { AreClassNumbers course.now.h.now course.now.numbers.now }
     ensures { GivesNext course.now false Body result }
 {
+    course.h.keeps();
     let members = members_of(course.h, course.frame.part.class).len();
     if course
         .index
@@ -144,7 +151,7 @@ fn ended_body(course: &Course) -> Step
     {
         Step::Event(
             PlanEvent::Body(course.frame.part),
-            Stage::Members(members, 0),
+            Stage::Members(members as u16, 0),
         )
     } else {
         ended_members(course, members, 0)
@@ -158,9 +165,9 @@ pub(crate) fn ended_step(course: &Course) -> Step
 {
     match course.frame.stage {
         Stage::Body => ended_body(course),
-        Stage::Members(m, i) => ended_members(course, m, i),
-        Stage::Bases(i) => ended_bases(course, i),
-        Stage::Shared(j) => ended_shared(course, j),
+        Stage::Members(m, i) => ended_members(course, m as usize, i as u32),
+        Stage::Bases(i) => ended_bases(course, i as usize),
+        Stage::Shared(j) => ended_shared(course, j as usize),
         Stage::Last => Step::Last(PlanEvent::End(course.frame.part)),
     }
 }

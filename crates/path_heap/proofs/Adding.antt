@@ -77,14 +77,14 @@ size_new h classes c xs ys x size have is e =
 is_new_object : (k n : ℕ) → k ≡ n → nat_eq k n ≡ true
 is_new_object k n e = eq-eqb k n e
 
-cell_made : (h : Classes) (heap new : Heap) (s : Objects) → HeapStands h heap s → (c : ClassId) (size start : ℕ) → size ≡ sizes_of h InFull c → Made heap new c size start → (y : Node) → IsAt h (sizes_of h) (s.classes ++ c ∷ []) y → CellStands h (with_new_object s c) new.cells.items y
+cell_made : (h : Classes) (heap new : Heap) (s : Objects) → HeapStands h heap s → (c : ClassId) (size start : ℕ) → size ≡ sizes_of h InFull c → Made heap new c size start → (y : Node) → IsAt h (sizes_of h) (s.classes ++ c ∷ []) y → CellStands h (with_new_object s c) new.parts.cells y
 cell_made h heap new s stands c size start is did y at = ⊎_elim
     (λ before.
     let old = stands.cells y before in
     let as_before : (with_new_object s c).phases.phase y.part ≡ s.phases.phase y.part = ap (λ b. if b then Raw else s.phases.phase y.part) (part_before h s.classes y before) in
     record {
       cell = old.cell;
-      listed = ap (λ t. slice_get t y.number) did.cells ∙ get_front heap.cells.items (replicate size no_cell) y.number old.cell old.listed;
+      listed = ap (λ t. slice_get t y.number) did.cells ∙ get_front heap.parts.cells (replicate size no_cell) y.number old.cell old.listed;
       phase = old.phase ∙ sym as_before;
       class = λ begun. old.class (λ raw. begun (as_before ∙ raw));
       owner = λ begun. owner_more h s.classes c y (y.number - old.cell.back) old.cell.owner (old.owner (λ raw. begun (as_before ∙ raw)));
@@ -93,7 +93,7 @@ cell_made h heap new s stands c size start is did y at = ⊎_elim
     let raw : (with_new_object s c).phases.phase y.part ≡ Raw = ap (λ b. if b then Raw else s.phases.phase y.part) (is_new_object y.part.object (length s.classes) object) in
     record {
       cell = no_cell;
-      listed = ap (λ t. slice_get t y.number) did.cells ∙ item_new h s.classes c heap.cells.items no_cell size y.number stands.counts.cells is (number_new h stands.hierarchy s.classes c y at object);
+      listed = ap (λ t. slice_get t y.number) did.cells ∙ item_new h s.classes c heap.parts.cells no_cell size y.number stands.counts.cells is (number_new h stands.hierarchy s.classes c y at object);
       phase = sym raw;
       class = λ begun. absurd (begun raw);
       owner = λ begun. absurd (begun raw);
@@ -140,23 +140,23 @@ row_made h heap new s stands c size start did k d listed = ⊎_elim
     })
     (get_pushed s.classes c k d listed)
 
-views_made : (h : Classes) (heap new : Heap) (s : Objects) → HeapStands h heap s → (c : ClassId) (size start : ℕ) → size ≡ sizes_of h InFull c → Made heap new c size start → ViewsStand h (s.classes ++ c ∷ []) (with_new_object s c).phases new.tops.items new.around.items
+views_made : (h : Classes) (heap new : Heap) (s : Objects) → HeapStands h heap s → (c : ClassId) (size start : ℕ) → size ≡ sizes_of h InFull c → Made heap new c size start → ViewsStand h (s.classes ++ c ∷ []) (with_new_object s c).phases new.parts.tops new.parts.around
 views_made h heap new s stands c size start is did = record {
   running = λ k o. split (nat_eq k (length s.classes)) (λ b. AreRunning (with_new_object s c).phases.phase k o (if b then [] else s.phases.running k o))
       (λ e. tt)
       (λ e. running_renewed s.phases.phase (length s.classes) k o (s.phases.running k o) e (stands.views.running k o));
   stacks = λ w at full.
-      subst (λ (t : List (Option ℕ)). StackStands h (s.classes ++ c ∷ []) t w.part.object w.part.owner (entry_at new.tops.items w.number) ((with_new_object s c).phases.running w.part.object w.part.owner)) (sym did.around)
-      (subst (λ (t : List (Option ℕ)). StackStands h (s.classes ++ c ∷ []) (heap.around.items ++ replicate size None) w.part.object w.part.owner (entry_at t w.number) ((with_new_object s c).phases.running w.part.object w.part.owner)) (sym did.tops)
+      subst (λ (t : List (Option ℕ)). StackStands h (s.classes ++ c ∷ []) t w.number w.part.object w.part.owner (entry_at new.parts.tops w.number) ((with_new_object s c).phases.running w.part.object w.part.owner)) (sym did.around)
+      (subst (λ (t : List (Option ℕ)). StackStands h (s.classes ++ c ∷ []) (heap.parts.around ++ replicate size None) w.number w.part.object w.part.owner (entry_at t w.number) ((with_new_object s c).phases.running w.part.object w.part.owner)) (sym did.tops)
       (⊎_elim
       (λ before.
-      let lt : w.number < length heap.tops.items = subst (λ m. w.number < m) (sym stands.counts.tops) (at_less h stands.hierarchy s.classes w before) in
-      subst (λ n. StackStands h (s.classes ++ c ∷ []) (heap.around.items ++ replicate size None) w.part.object w.part.owner n ((with_new_object s c).phases.running w.part.object w.part.owner)) (sym (ap entry_in (get_kept heap.tops.items (replicate size None) w.number lt)))
-      (subst (λ (b : Bool). StackStands h (s.classes ++ c ∷ []) (heap.around.items ++ replicate size None) w.part.object w.part.owner (entry_at heap.tops.items w.number) (if b then [] else s.phases.running w.part.object w.part.owner)) (sym (part_before h s.classes w before))
-      (stack_more h stands.hierarchy s.classes c heap.around.items (replicate size None) stands.counts.around w.part.object w.part.owner (entry_at heap.tops.items w.number) (s.phases.running w.part.object w.part.owner) (stands.views.stacks w before full))))
+      let lt : w.number < length heap.parts.tops = subst (λ m. w.number < m) (sym stands.counts.tops) (at_less h stands.hierarchy s.classes w before) in
+      subst (λ n. StackStands h (s.classes ++ c ∷ []) (heap.parts.around ++ replicate size None) w.number w.part.object w.part.owner n ((with_new_object s c).phases.running w.part.object w.part.owner)) (sym (ap entry_in (get_kept heap.parts.tops (replicate size None) w.number lt)))
+      (subst (λ (b : Bool). StackStands h (s.classes ++ c ∷ []) (heap.parts.around ++ replicate size None) w.number w.part.object w.part.owner (entry_at heap.parts.tops w.number) (if b then [] else s.phases.running w.part.object w.part.owner)) (sym (part_before h s.classes w before))
+      (stack_more h stands.hierarchy s.classes c heap.parts.around (replicate size None) stands.counts.around w.number w.part.object w.part.owner (entry_at heap.parts.tops w.number) (s.phases.running w.part.object w.part.owner) (stands.views.stacks w before full))))
       (λ object.
-      subst (λ n. StackStands h (s.classes ++ c ∷ []) (heap.around.items ++ replicate size None) w.part.object w.part.owner n ((with_new_object s c).phases.running w.part.object w.part.owner)) (sym (ap entry_in (item_new h s.classes c heap.tops.items None size w.number stands.counts.tops is (number_new h stands.hierarchy s.classes c w at object))))
-      (subst (λ (b : Bool). StackStands h (s.classes ++ c ∷ []) (heap.around.items ++ replicate size None) w.part.object w.part.owner None (if b then [] else s.phases.running w.part.object w.part.owner)) (sym (is_new_object w.part.object (length s.classes) object)) tt))
+      subst (λ n. StackStands h (s.classes ++ c ∷ []) (heap.parts.around ++ replicate size None) w.number w.part.object w.part.owner n ((with_new_object s c).phases.running w.part.object w.part.owner)) (sym (ap entry_in (item_new h s.classes c heap.parts.tops None size w.number stands.counts.tops is (number_new h stands.hierarchy s.classes c w at object))))
+      (subst (λ (b : Bool). StackStands h (s.classes ++ c ∷ []) (heap.parts.around ++ replicate size None) w.number w.part.object w.part.owner None (if b then [] else s.phases.running w.part.object w.part.owner)) (sym (is_new_object w.part.object (length s.classes) object)) tt))
       (old_or_new h s.classes c w at)));
 }
 
@@ -169,10 +169,10 @@ made_stands h heap new s stands c size start is did = record {
   views = views_made h heap new s stands c size start is did;
   counts = record {
     objects = ap length did.objects ∙ (length_pushed heap.objects.items (record { class = c; start = start; is_closed = false }) ∙ (ap (λ n. n + 1) stands.counts.objects ∙ sym (length_pushed s.classes c)));
-    cells = size_new h s.classes c heap.cells.items new.cells.items no_cell size stands.counts.cells is did.cells;
+    cells = size_new h s.classes c heap.parts.cells new.parts.cells no_cell size stands.counts.cells is did.cells;
     leaves = size_new h s.classes c heap.leaves.items new.leaves.items UnsetCode size stands.counts.leaves is did.leaves;
-    tops = size_new h s.classes c heap.tops.items new.tops.items None size stands.counts.tops is did.tops;
-    around = size_new h s.classes c heap.around.items new.around.items None size stands.counts.around is did.around;
+    tops = size_new h s.classes c heap.parts.tops new.parts.tops None size stands.counts.tops is did.tops;
+    around = size_new h s.classes c heap.parts.around new.parts.around None size stands.counts.around is did.around;
     few = let t = total_more (sizes_of h InFull) s.classes c in let f = did.fits in let e = stands.counts.cells in omega arith;
     small = λ k d listed. ⊎_elim (λ old. stands.counts.small k d old) (λ last. subst (λ (t : ClassId). sizes_of h InFull t ≤ most_parts) (sym last.1) (subst (λ n. n ≤ most_parts) is did.small)) (get_pushed s.classes c k d listed);
   };

@@ -32,7 +32,7 @@ use Rattle.path_heap.proofs.Finding.{object_found}
 
 -- the cell that the code reads is the one that stands for the part
 pub found : (h : Classes) (heap : Heap) (s : Objects) (stands : HeapStands h heap s) (n : ℕ) (p : ObjectPart) (q : Points h s.classes n p) (cell : Cell) → cell ≡ cell_at heap n → cell ≡ (stands.cells q.node q.at).cell
-found h heap s stands n p q cell is = is ∙ ap cell_or (subst (λ k. slice_get heap.cells.items k ≡ Some (stands.cells q.node q.at).cell) q.is_number (stands.cells q.node q.at).listed)
+found h heap s stands n p q cell is = is ∙ ap cell_or (subst (λ k. slice_get heap.parts.cells k ≡ Some (stands.cells q.node q.at).cell) q.is_number (stands.cells q.node q.at).listed)
 
 pub phase_told : (h : Classes) (heap : Heap) (s : Objects) → HeapStands h heap s → (n : ℕ) (p : ObjectPart) → Points h s.classes n p → (cell : Cell) → cell ≡ cell_at heap n → s.phases.phase p ≡ phase_of cell.phase
 phase_told h heap s stands n p q cell is =

@@ -20,7 +20,7 @@ use Rattle.path_model.specs.Values.{Value, Unset, Number, Null, Pointer}
 use Rattle.path_heap.specs.declared.state.Value.{Value as ValueCode}
 use Rattle.path_heap.specs.declared.state.Value.TheVariants.{Unset as UnsetCode, Number as NumberCode, Null as NullCode, Pointer as PointerCode}
 use Rattle.path_heap.specs.Points.{Points, HasOwner}
-use Rattle.path_heap.specs.Running.{entry_in, entry_at, AreRunning, StackStands}
+use Rattle.path_heap.specs.Running.{entry_in, entry_at, outer_at, AreRunning, StackStands}
 use Rattle.path_heap.specs.Stands.{Means}
 use Rattle.path_heap.proofs.Viewing.{at_less}
 
@@ -90,11 +90,11 @@ pub running_renewed : (phase : ObjectPart → Phase) (new k : ℕ) (o : List Ste
 running_renewed phase new k o [] other are = tt
 running_renewed phase new k o (x ∷ xs) other are = (ap (λ b. is_running (if b then Raw else phase (part k o x))) other ∙ are.0, are.1, running_renewed phase new k o xs other are.2)
 
-pub stack_more : (h : Classes) → IsHierarchy h → (classes : List ClassId) (c : ClassId) (around more : List (Option ℕ)) → length around ≡ total (sizes_of h InFull) classes → (k : ℕ) (o : List Step) (n : Option ℕ) (xs : List Subobject)
-    → StackStands h classes around k o n xs → StackStands h (classes ++ c ∷ []) (around ++ more) k o n xs
-stack_more h keeps classes c around more size k o None [] s = tt
-stack_more h keeps classes c around more size k o None (x ∷ xs) s = absurd s
-stack_more h keeps classes c around more size k o (Some n) [] s = absurd s
-stack_more h keeps classes c around more size k o (Some n) (x ∷ xs) s =
+pub stack_more : (h : Classes) → IsHierarchy h → (classes : List ClassId) (c : ClassId) (around more : List (Option ℕ)) → length around ≡ total (sizes_of h InFull) classes → (whole k : ℕ) (o : List Step) (n : Option ℕ) (xs : List Subobject)
+    → StackStands h classes around whole k o n xs → StackStands h (classes ++ c ∷ []) (around ++ more) whole k o n xs
+stack_more h keeps classes c around more size whole k o None [] s = tt
+stack_more h keeps classes c around more size whole k o None (x ∷ xs) s = absurd s
+stack_more h keeps classes c around more size whole k o (Some n) [] s = absurd s
+stack_more h keeps classes c around more size whole k o (Some n) (x ∷ xs) s =
     let lt : n < length around = subst (λ m. n < m) (sym size) (subst (λ m. m < total (sizes_of h InFull) classes) s.0.is_number (at_less h keeps classes s.0.node s.0.at)) in
-    (points_more h classes c n (part k o x) s.0, subst (λ t. StackStands h (classes ++ c ∷ []) (around ++ more) k o t xs) (sym (ap entry_in (get_kept around more n lt))) (stack_more h keeps classes c around more size k o (entry_at around n) xs s.1))
+    (points_more h classes c n (part k o x) s.0, subst (λ t. StackStands h (classes ++ c ∷ []) (around ++ more) whole k o (outer_at whole t) xs) (sym (ap entry_in (get_kept around more n lt))) (stack_more h keeps classes c around more size whole k o (outer_at whole (entry_at around n)) xs s.1))

@@ -29,7 +29,7 @@ use Rattle.path_heap.specs.declared.state.ObjectRow.{ObjectRow}
 use Rattle.path_heap.specs.declared.state.NumberedPart.{NumberedPart}
 use Rattle.path_heap.specs.declared.heap.Heap.{Heap}
 use Rattle.path_heap.specs.Points.{StandsForPart}
-use Rattle.path_heap.specs.Running.{entry_at, ViewsStand}
+use Rattle.path_heap.specs.Running.{entry_at, outer_at, ViewsStand}
 use Rattle.path_heap.specs.Stands.{phase_of, ObjectStands, HeapStands}
 use Rattle.path_heap.specs.invariants.Columns.{row_or, row_at, marked_cell, closed_row, Marked, Left, Closed}
 use Rattle.path_heap.specs.invariants.Cuts.{IsObjectAt}
@@ -41,7 +41,7 @@ use Rattle.path_heap.proofs.Marking.{turned, turned_stands, same_rows, whole_les
 
 -- the columns but that of objects
 pub leaves_with : (h : Classes) (heap mid new : Heap) (s : Objects) → HeapStands h heap s → (code : NumberedPart) (p : ObjectPart) → StandsForPart h s.classes code p → (x : Phase) → IsOnTop s.phases p → Left heap mid code → Marked mid new code x
-    → (last : Heap) → last.cells.items ≡ new.cells.items → last.leaves.items ≡ new.leaves.items → last.tops.items ≡ new.tops.items → last.around.items ≡ new.around.items → (closed : ℕ → Bool)
+    → (last : Heap) → last.parts.cells ≡ new.parts.cells → last.leaves.items ≡ new.leaves.items → last.parts.tops ≡ new.parts.tops → last.parts.around ≡ new.parts.around → (closed : ℕ → Bool)
     → ((k : ℕ) (c : ClassId) → slice_get s.classes k ≡ Some c → ObjectStands h (turned s p (phase_of x) (popped s.phases.running p) closed) last.objects.items k c) → length last.objects.items ≡ length heap.objects.items
     → HeapStands h last (turned s p (phase_of x) (popped s.phases.running p) closed)
 leaves_with h heap mid new s stands code p r x top did marked last cells leaves tops_same around_same closed objects objects_size =
@@ -51,10 +51,10 @@ leaves_with h heap mid new s stands code p r x top did marked last cells leaves 
     (cells ∙ (marked.cells ∙ ap (λ t. slice_set t code.number (marked_cell x code)) did.cells))
     (leaves ∙ (marked.leaves ∙ did.leaves))
     objects objects_size
-    (subst (λ (t : List (Option ℕ)). ViewsStand h s.classes (record { phase = put s.phases.phase p (phase_of x); running = popped s.phases.running p }) t last.around.items) (sym tops)
-    (subst (λ (t : List (Option ℕ)). ViewsStand h s.classes (record { phase = put s.phases.phase p (phase_of x); running = popped s.phases.running p }) (slice_set heap.tops.items code.whole (entry_at heap.around.items code.number)) t) (sym around)
-    (ends_stand h stands.hierarchy s.classes s.phases heap.tops.items heap.around.items stands.views code p r top (phase_of x) (whole_less h heap s stands code p r))))
-    (ap length tops ∙ length-set heap.tops.items code.whole (entry_at heap.around.items code.number))
+    (subst (λ (t : List (Option ℕ)). ViewsStand h s.classes (record { phase = put s.phases.phase p (phase_of x); running = popped s.phases.running p }) t last.parts.around) (sym tops)
+    (subst (λ (t : List (Option ℕ)). ViewsStand h s.classes (record { phase = put s.phases.phase p (phase_of x); running = popped s.phases.running p }) (slice_set heap.parts.tops code.whole (outer_at code.whole (entry_at heap.parts.around code.number))) t) (sym around)
+    (ends_stand h stands.hierarchy s.classes s.phases heap.parts.tops heap.parts.around stands.views code p r top (phase_of x) (whole_less h heap s stands code p r))))
+    (ap length tops ∙ length-set heap.parts.tops code.whole (outer_at code.whole (entry_at heap.parts.around code.number)))
     (ap length around)
 
 -- where no object is closed

@@ -1,4 +1,5 @@
 pub mod Sets
+pub mod Rows
 pub mod Finding
 pub mod Asking
 pub mod Seeing
@@ -10,3 +11,4 @@ pub mod Growing
 pub mod Adding
 pub mod Reaching
 pub mod Naming
+pub mod Layering

@@ -1,8 +1,9 @@
 -- An event: the part takes a phase, the stack of its complete object changes, and nothing else does.
-use Rattle.std.proofs.Common.{◌≡◌, ℕ, ◌+◌, ◌-◌, ◌%◌, ◌^◌, ◌≤◌, ◌<◌, ⊎_elim, Bool, true, false, Option, Some, List, length, ap, subst, sym, ◌∙◌, arith}
+use Rattle.std.proofs.Common.{◌≡◌, ℕ, ◌+◌, ◌-◌, ◌%◌, ◌^◌, ◌≤◌, ◌<◌, ⊎_elim, Bool, true, false, Option, Some, None, List, [], ◌∷◌, length, refl, ap, subst, sym, ◌∙◌, arith}
 use Rattle.std.specs.Prelude.{slice_get, slice_set}
 use Rattle.std.proofs.lemmas.List.{length-set}
 use Rattle.std.proofs.lemmas.Option.{slice_get_within}
+use Rattle.foundation.proofs.Truth.{not_both}
 use Rattle.foundation.proofs.Deciding.{decide_number}
 use Rattle.cxx_hierarchy.specs.declared.records.ClassId.{ClassId}
 use Rattle.cxx_hierarchy.specs.Classes.{Classes}
@@ -18,6 +19,7 @@ use Rattle.path_numbers.specs.Heap.{IsAt}
 use Rattle.path_numbers.proofs.Sized.{sizes_are}
 use Rattle.path_numbers.proofs.Intervals.{size_some, under_lies}
 use Rattle.path_numbers.proofs.Within.{part_at}
+use Rattle.path_numbers.proofs.Wholes.{one_whole}
 use Rattle.path_numbers.proofs.Heap.{at_good, at_range, heap_part, heap_number}
 use Rattle.path_model.specs.Values.{Objects}
 use Rattle.path_heap.specs.declared.state.Phase.{Phase}
@@ -26,12 +28,12 @@ use Rattle.path_heap.specs.declared.state.ObjectRow.{ObjectRow}
 use Rattle.path_heap.specs.declared.state.NumberedPart.{NumberedPart}
 use Rattle.path_heap.specs.declared.heap.Heap.{Heap}
 use Rattle.path_heap.specs.Points.{StandsForPart, HasOwner}
-use Rattle.path_heap.specs.Running.{entry_at, ViewsStand}
+use Rattle.path_heap.specs.Running.{entry_at, outer_at, AreRunning, StackStands, ViewsStand}
 use Rattle.path_heap.specs.Stands.{phase_of, CellStands, ObjectStands, HeapStands}
-use Rattle.path_heap.specs.invariants.Columns.{marked_cell, Marked, Entered}
+use Rattle.path_heap.specs.invariants.Columns.{back_to, marked_cell, Marked, Entered}
 use Rattle.path_heap.proofs.Reaching.{at_below}
 use Rattle.path_heap.proofs.Sets.{set_same, set_other}
-use Rattle.path_heap.proofs.Viewing.{at_less, begins_stand, stays_stand}
+use Rattle.path_heap.proofs.Viewing.{at_less, own_stack, begins_stand, stays_stand}
 
 -- the objects with one part in another phase
 abbrev pub turned : Objects → ObjectPart → Plan.Phase → (ℕ → List Step → List Subobject) → (ℕ → Bool) → Objects
@@ -40,7 +42,7 @@ turned s p x running closed = record { classes = s.classes; is_closed = closed; 
 -- a part stands near to its complete object
 record IsNear (code : NumberedPart) : Type 0 where
   low : code.whole ≤ code.number
-  high : code.number < code.whole + 2 ^ 32
+  high : code.number < code.whole + 2 ^ 16
 
 near : (h : Classes) (heap : Heap) (s : Objects) → HeapStands h heap s → (code : NumberedPart) (p : ObjectPart) → StandsForPart h s.classes code p → IsNear code
 near h heap s stands code p r =
@@ -63,27 +65,51 @@ near h heap s stands code p r =
     let whole = r.owned.is_number in
     record { low = omega arith; high = omega arith }
 
+-- the innermost part that runs stands near to its complete object too, so that how far it stands behind that tells its number
+top_kept : (h : Classes) (heap : Heap) (s : Objects) → HeapStands h heap s → (code : NumberedPart) (p : ObjectPart) → StandsForPart h s.classes code p → (n : Option ℕ) (xs : List Subobject) → AreRunning s.phases.phase p.object p.owner xs
+    → StackStands h s.classes heap.parts.around code.whole p.object p.owner n xs → outer_at code.whole (back_to code.whole n) ≡ n
+top_kept h heap s stands code p r None xs are on = refl
+top_kept h heap s stands code p r (Some n) [] are on = absurd on
+top_kept h heap s stands code p r (Some n) (x ∷ xs) are on =
+    let q = on.0 in
+    let y = q.node in
+    let d = stands.cells y q.at in
+    let own = d.owner (λ raw. let runs = ap (λ (t : ObjectPart). is_running (s.phases.phase t)) q.is_part ∙ are.0 in not_both runs (ap is_running raw)) in
+    let same = one_whole h (sizes_of h) stands.hierarchy s.classes own.node r.owned.node own.at r.owned.at own.full r.owned.full
+    (own.same_object ∙ (ap (λ (t : ObjectPart). t.object) q.is_part ∙ sym (r.owned.same_object ∙ ap (λ (t : ObjectPart). t.object) r.is_part)))
+    (own.same_owner ∙ (ap (λ (t : ObjectPart). t.owner) q.is_part ∙ sym (r.owned.same_owner ∙ ap (λ (t : ObjectPart). t.owner) r.is_part))) in
+    let whole : y.number - d.cell.back ≡ code.whole = sym own.is_number ∙ (ap (λ (t : Node). t.number) same ∙ r.owned.is_number) in
+    let by = near h heap s stands (record { number = n; whole = y.number - d.cell.back; class = y.class; owner = d.cell.owner }) (part p.object p.owner x)
+    (record { node = y; at = q.at; is_part = q.is_part; is_number = q.is_number; is_class = refl; owned = own }) in
+    let low : code.whole ≤ n = subst (λ k. k ≤ n) whole by.low in
+    let high : n < code.whole + 2 ^ 16 = subst (λ k. n < k + 2 ^ 16) whole by.high in
+    let fits = at_less h stands.hierarchy s.classes y q.at in
+    let few = stands.counts.few in
+    let is = q.is_number in
+    let same_number : (code.whole + (n - code.whole) % 2 ^ 16) % 2 ^ 64 ≡ n = omega arith in
+    ap Some same_number
+
 -- the column of cells
 cell_marked : (h : Classes) (heap : Heap) (s : Objects) → HeapStands h heap s → (code : NumberedPart) (p : ObjectPart) → StandsForPart h s.classes code p → (x : Phase) (running : ℕ → List Step → List Subobject) (closed : ℕ → Bool) (z : Node) → IsAt h (sizes_of h) s.classes z
-    → CellStands h (turned s p (phase_of x) running closed) (slice_set heap.cells.items code.number (marked_cell x code)) z
+    → CellStands h (turned s p (phase_of x) running closed) (slice_set heap.parts.cells code.number (marked_cell x code)) z
 cell_marked h heap s stands code p r x running closed z z_at =
     let old = stands.cells r.node r.at in
-    let here : slice_get heap.cells.items code.number ≡ Some old.cell = subst (λ n. slice_get heap.cells.items n ≡ Some old.cell) r.is_number old.listed in
-    let lt = slice_get_within heap.cells.items code.number old.cell here in
+    let here : slice_get heap.parts.cells code.number ≡ Some old.cell = subst (λ n. slice_get heap.parts.cells n ≡ Some old.cell) r.is_number old.listed in
+    let lt = slice_get_within heap.parts.cells code.number old.cell here in
     ⊎_elim
     (λ e.
     let same : r.node ≡ z = heap_part h (sizes_of h) (sizes_are h stands.hierarchy) s.classes r.node z r.at z_at (r.is_number ∙ e) in
     let place : z.part ≡ p = ap (λ (t : Node). t.part) (sym same) ∙ r.is_part in
     record {
       cell = marked_cell x code;
-      listed = ap (slice_get (slice_set heap.cells.items code.number (marked_cell x code))) (sym e) ∙ set_same heap.cells.items code.number (marked_cell x code) lt;
+      listed = ap (slice_get (slice_set heap.parts.cells code.number (marked_cell x code))) (sym e) ∙ set_same heap.parts.cells code.number (marked_cell x code) lt;
       phase = sym (ap (put s.phases.phase p (phase_of x)) place ∙ put_same s.phases.phase p (phase_of x));
       class = λ _. sym r.is_class ∙ ap (λ (t : Node). t.class) same;
       owner = λ _.
           let n = near h heap s stands code p r in
           let low = n.low in
           let high = n.high in
-          let back : code.whole ≡ z.number - (code.number - code.whole) % 2 ^ 32 = omega arith in
+          let back : code.whole ≡ z.number - (code.number - code.whole) % 2 ^ 16 = omega arith in
           subst (λ k. HasOwner h s.classes z k code.owner) back (subst (λ (t : Node). HasOwner h s.classes t code.whole code.owner) same r.owned);
     })
     (λ differ.
@@ -92,7 +118,7 @@ cell_marked h heap s stands code p r x running closed z z_at =
     let as_before : put s.phases.phase p (phase_of x) z.part ≡ s.phases.phase z.part = put_other s.phases.phase p (phase_of x) z.part apart in
     record {
       cell = d.cell;
-      listed = set_other heap.cells.items code.number z.number (marked_cell x code) differ ∙ d.listed;
+      listed = set_other heap.parts.cells code.number z.number (marked_cell x code) differ ∙ d.listed;
       phase = d.phase ∙ sym as_before;
       class = λ begun. d.class (λ raw. begun (as_before ∙ raw));
       owner = λ begun. d.owner (λ raw. begun (as_before ∙ raw));
@@ -101,9 +127,9 @@ cell_marked h heap s stands code p r x running closed z z_at =
 
 -- what holds of the columns of objects and views makes the whole
 pub turned_stands : (h : Classes) (heap new : Heap) (s : Objects) → HeapStands h heap s → (code : NumberedPart) (p : ObjectPart) → StandsForPart h s.classes code p → (x : Phase) (running : ℕ → List Step → List Subobject) (closed : ℕ → Bool)
-    → new.cells.items ≡ slice_set heap.cells.items code.number (marked_cell x code) → new.leaves.items ≡ heap.leaves.items
+    → new.parts.cells ≡ slice_set heap.parts.cells code.number (marked_cell x code) → new.leaves.items ≡ heap.leaves.items
     → ((k : ℕ) (c : ClassId) → slice_get s.classes k ≡ Some c → ObjectStands h (turned s p (phase_of x) running closed) new.objects.items k c) → length new.objects.items ≡ length heap.objects.items
-    → ViewsStand h s.classes (record { phase = put s.phases.phase p (phase_of x); running = running }) new.tops.items new.around.items → length new.tops.items ≡ length heap.tops.items → length new.around.items ≡ length heap.around.items
+    → ViewsStand h s.classes (record { phase = put s.phases.phase p (phase_of x); running = running }) new.parts.tops new.parts.around → length new.parts.tops ≡ length heap.parts.tops → length new.parts.around ≡ length heap.parts.around
     → HeapStands h new (turned s p (phase_of x) running closed)
 turned_stands h heap new s stands code p r x running closed cells leaves objects objects_size views tops around = record {
   hierarchy = stands.hierarchy;
@@ -113,7 +139,7 @@ turned_stands h heap new s stands code p r x running closed cells leaves objects
   views = views;
   counts = record {
     objects = objects_size ∙ stands.counts.objects;
-    cells = ap length cells ∙ (length-set heap.cells.items code.number (marked_cell x code) ∙ stands.counts.cells);
+    cells = ap length cells ∙ (length-set heap.parts.cells code.number (marked_cell x code) ∙ stands.counts.cells);
     leaves = ap length leaves ∙ stands.counts.leaves;
     tops = tops ∙ stands.counts.tops;
     around = around ∙ stands.counts.around;
@@ -127,11 +153,11 @@ pub same_rows : (h : Classes) (heap : Heap) (s : Objects) → HeapStands h heap 
     → ObjectStands h (turned s p x running s.is_closed) rows k c
 same_rows h heap s stands p x running rows e k c at = let o = stands.objects k c at in record { row = o.row; listed = ap (λ t. slice_get t k) e ∙ o.listed; class = o.class; start = o.start; closed = o.closed }
 
-pub whole_less : (h : Classes) (heap : Heap) (s : Objects) → HeapStands h heap s → (code : NumberedPart) (p : ObjectPart) → StandsForPart h s.classes code p → code.whole < length heap.tops.items
+pub whole_less : (h : Classes) (heap : Heap) (s : Objects) → HeapStands h heap s → (code : NumberedPart) (p : ObjectPart) → StandsForPart h s.classes code p → code.whole < length heap.parts.tops
 whole_less h heap s stands code p r =
     subst (λ n. code.whole < n) (sym stands.counts.tops) (subst (λ n. n < total (sizes_of h InFull) s.classes) r.owned.is_number (at_less h stands.hierarchy s.classes r.owned.node r.owned.at))
 
-number_less : (h : Classes) (heap : Heap) (s : Objects) → HeapStands h heap s → (code : NumberedPart) (p : ObjectPart) → StandsForPart h s.classes code p → code.number < length heap.around.items
+number_less : (h : Classes) (heap : Heap) (s : Objects) → HeapStands h heap s → (code : NumberedPart) (p : ObjectPart) → StandsForPart h s.classes code p → code.number < length heap.parts.around
 number_less h heap s stands code p r =
     subst (λ n. code.number < n) (sym stands.counts.around) (subst (λ n. n < total (sizes_of h InFull) s.classes) r.is_number (at_less h stands.hierarchy s.classes r.node r.at))
 
@@ -145,11 +171,11 @@ enters h heap mid new s stands code p r x idle runs did marked =
     (marked.cells ∙ ap (λ t. slice_set t code.number (marked_cell x code)) did.cells)
     (marked.leaves ∙ did.leaves)
     (same_rows h heap s stands p (phase_of x) (with_pushed_part s.phases.running p) new.objects.items (marked.objects ∙ did.objects)) (ap length (marked.objects ∙ did.objects))
-    (subst (λ (t : List (Option ℕ)). ViewsStand h s.classes (record { phase = put s.phases.phase p (phase_of x); running = with_pushed_part s.phases.running p }) t new.around.items) (sym tops)
-    (subst (λ (t : List (Option ℕ)). ViewsStand h s.classes (record { phase = put s.phases.phase p (phase_of x); running = with_pushed_part s.phases.running p }) (slice_set heap.tops.items code.whole (Some code.number)) t) (sym around)
-    (begins_stand h stands.hierarchy s.classes s.phases heap.tops.items heap.around.items stands.views code p r idle (phase_of x) runs (whole_less h heap s stands code p r) (number_less h heap s stands code p r))))
-    (ap length tops ∙ length-set heap.tops.items code.whole (Some code.number))
-    (ap length around ∙ length-set heap.around.items code.number (entry_at heap.tops.items code.whole))
+    (subst (λ (t : List (Option ℕ)). ViewsStand h s.classes (record { phase = put s.phases.phase p (phase_of x); running = with_pushed_part s.phases.running p }) t new.parts.around) (sym tops)
+    (subst (λ (t : List (Option ℕ)). ViewsStand h s.classes (record { phase = put s.phases.phase p (phase_of x); running = with_pushed_part s.phases.running p }) (slice_set heap.parts.tops code.whole (Some code.number)) t) (sym around)
+    (begins_stand h stands.hierarchy s.classes s.phases heap.parts.tops heap.parts.around stands.views code p r idle (phase_of x) runs (top_kept h heap s stands code p r (entry_at heap.parts.tops code.whole) (s.phases.running p.object p.owner) (stands.views.running p.object p.owner) (own_stack h s.classes s.phases heap.parts.tops heap.parts.around stands.views code p r)) (whole_less h heap s stands code p r) (number_less h heap s stands code p r))))
+    (ap length tops ∙ length-set heap.parts.tops code.whole (Some code.number))
+    (ap length around ∙ length-set heap.parts.around code.number (back_to code.whole (entry_at heap.parts.tops code.whole)))
 
 -- it goes on
 pub stays : (h : Classes) (heap new : Heap) (s : Objects) → HeapStands h heap s → (code : NumberedPart) (p : ObjectPart) → StandsForPart h s.classes code p → (x : Phase) → is_running (phase_of x) ≡ true
@@ -157,7 +183,7 @@ pub stays : (h : Classes) (heap new : Heap) (s : Objects) → HeapStands h heap 
 stays h heap new s stands code p r x runs marked =
     turned_stands h heap new s stands code p r x s.phases.running s.is_closed marked.cells marked.leaves
     (same_rows h heap s stands p (phase_of x) s.phases.running new.objects.items marked.objects) (ap length marked.objects)
-    (subst (λ (t : List (Option ℕ)). ViewsStand h s.classes (record { phase = put s.phases.phase p (phase_of x); running = s.phases.running }) t new.around.items) (sym marked.tops)
-    (subst (λ (t : List (Option ℕ)). ViewsStand h s.classes (record { phase = put s.phases.phase p (phase_of x); running = s.phases.running }) heap.tops.items t) (sym marked.around)
-    (stays_stand h s.classes s.phases heap.tops.items heap.around.items stands.views p (phase_of x) runs)))
+    (subst (λ (t : List (Option ℕ)). ViewsStand h s.classes (record { phase = put s.phases.phase p (phase_of x); running = s.phases.running }) t new.parts.around) (sym marked.tops)
+    (subst (λ (t : List (Option ℕ)). ViewsStand h s.classes (record { phase = put s.phases.phase p (phase_of x); running = s.phases.running }) heap.parts.tops t) (sym marked.around)
+    (stays_stand h s.classes s.phases heap.parts.tops heap.parts.around stands.views p (phase_of x) runs)))
     (ap length marked.tops) (ap length marked.around)

@@ -78,7 +78,7 @@ stored_stands h heap new s stands k value l v q means did = record {
   cells = λ y at. let old = stands.cells y at in record { cell = old.cell; listed = ap (λ t. slice_get t y.number) did.cells ∙ old.listed; phase = old.phase; class = old.class; owner = old.owner };
   leaves = λ n m r. subst (λ (t : List ValueCode). LeafStands h (leaf_set s l v) t n m) (sym did.leaves) (leaf_written h heap s stands k value l v q means n m r);
   objects = λ j c at. let o = stands.objects j c at in record { row = o.row; listed = ap (λ t. slice_get t j) did.objects ∙ o.listed; class = o.class; start = o.start; closed = o.closed };
-  views = subst (λ t. ViewsStand h s.classes s.phases t new.around.items) (sym did.tops) (subst (λ t. ViewsStand h s.classes s.phases heap.tops.items t) (sym did.around) stands.views);
+  views = subst (λ t. ViewsStand h s.classes s.phases t new.parts.around) (sym did.tops) (subst (λ t. ViewsStand h s.classes s.phases heap.parts.tops t) (sym did.around) stands.views);
   counts = record {
     objects = ap length did.objects ∙ stands.counts.objects;
     cells = ap length did.cells ∙ stands.counts.cells;

@@ -1,4 +1,5 @@
 pub mod Blanks
+pub mod PartLists
 pub mod Points
 pub mod Rooms
 pub mod Running

@@ -79,18 +79,18 @@ pub record ObjectStands (h : Classes) (s : Objects) (objects : List ObjectRow) (
 -- one number for each part and each leaf of the objects made so far, of which none has more than the limit on parts
 pub record CountsParts (h : Classes) (classes : List ClassId) (heap : Heap) : Type 0 where
   pub objects : length heap.objects.items ≡ length classes
-  pub cells : length heap.cells.items ≡ total (sizes_of h InFull) classes
+  pub cells : length heap.parts.cells ≡ total (sizes_of h InFull) classes
   pub leaves : length heap.leaves.items ≡ total (sizes_of h InFull) classes
-  pub tops : length heap.tops.items ≡ total (sizes_of h InFull) classes
-  pub around : length heap.around.items ≡ total (sizes_of h InFull) classes
+  pub tops : length heap.parts.tops ≡ total (sizes_of h InFull) classes
+  pub around : length heap.parts.around ≡ total (sizes_of h InFull) classes
   pub few : total (sizes_of h InFull) classes ≤ 2 ^ 64
   pub small : (k : ℕ) (c : ClassId) → slice_get classes k ≡ Some c → sizes_of h InFull c ≤ most_parts
 
 -- the heap stands for these objects, column by column
 pub record HeapStands (h : Classes) (heap : Heap) (s : Objects) : Type 0 where
   pub hierarchy : IsHierarchy h
-  pub cells : (y : Node) → IsAt h (sizes_of h) s.classes y → CellStands h s heap.cells.items y
+  pub cells : (y : Node) → IsAt h (sizes_of h) s.classes y → CellStands h s heap.parts.cells y
   pub leaves : (n : ℕ) (l : Leaf) → PointsLeaf h s.classes n l → LeafStands h s heap.leaves.items n l
   pub objects : (k : ℕ) (c : ClassId) → slice_get s.classes k ≡ Some c → ObjectStands h s heap.objects.items k c
-  pub views : ViewsStand h s.classes s.phases heap.tops.items heap.around.items
+  pub views : ViewsStand h s.classes s.phases heap.parts.tops heap.parts.around
   pub counts : CountsParts h s.classes heap

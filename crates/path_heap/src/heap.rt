@@ -1,33 +1,30 @@
 //! The heap, and the empty one.
 
-ghost use Rattle.std.specs.Prelude.{◌≤◌, length};
+ghost use Rattle.std.specs.Prelude.{◌≡◌, ◌≤◌, length};
 ghost use Rattle.cxx_hierarchy.specs.Classes.{Classes};
 ghost use Rattle.cxx_hierarchy.specs.Hierarchies.{IsHierarchy};
 ghost use Rattle.path_model.specs.Runs.{no_objects};
-ghost use Rattle.path_heap.specs.Blanks.{AreBlank};
+ghost use Rattle.path_heap.specs.declared.state.Value.TheVariants.{Unset};
 ghost use Rattle.path_heap.specs.Rooms.{most_objects, FitInColumns};
 
-use crate::state::{BLANK, Cell, ObjectRow, Value};
-use path_columns::Column;
+use crate::leaf_list::LeafList;
+use crate::part_rows::PartRows;
+use crate::state::ObjectRow;
 use std::alloc::Global;
 
 /// All heap objects made so far. Parts and leaves have numbers; each object's numbers stand behind those of the objects
 /// before it. Memory is taken for the parts that have begun and the leaves that were set, and a row for each object.
 #[derive(Drop)]
 pub struct Heap {
-    /// The cell of each part.
-    pub(crate) cells: Column<Cell>,
+    /// What is kept of each part: its cell, and which parts run.
+    pub(crate) parts: PartRows,
     /// The value of each leaf.
-    pub(crate) leaves: Column<Value>,
+    pub(crate) leaves: LeafList,
     /// The heap objects, in the order in which they were made.
     pub(crate) objects: Vec<ObjectRow>,
-    /// The innermost part whose constructor or destructor runs, by the number of its complete object.
-    pub(crate) tops: Column<Option<u64>>,
-    /// The part that was the innermost one of the complete object when this one began to run.
-    pub(crate) around: Column<Option<u64>>,
-    ghost blank: { AreBlank cells leaves tops around },
+    ghost blank: { leaves.blank ≡ Unset },
     ghost few: { length objects.items ≤ most_objects },
-    ghost fit: { FitInColumns objects.items cells leaves tops around },
+    ghost fit: { FitInColumns objects.items parts leaves },
 }
 
 impl Heap {
@@ -38,11 +35,9 @@ impl Heap {
         ensures { (h : Classes) → IsHierarchy h → HeapStands h result no_objects }
     {
         Heap {
-            cells: Column::new(alloc, BLANK),
-            leaves: Column::new(alloc, Value::Unset),
+            parts: PartRows::new(alloc),
+            leaves: LeafList::new(alloc),
             objects: Vec::new(alloc),
-            tops: Column::new(alloc, None),
-            around: Column::new(alloc, None),
         }
     }
 }

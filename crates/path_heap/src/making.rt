@@ -25,7 +25,7 @@ impl Heap {
         requires small { size ≤ most_parts }
         ensures { IfOk result (λ start. Made self.old self.new c size start) }
     {
-        let start = self.cells.len() as u64;
+        let start = self.parts.len() as u64;
         let row = ObjectRow {
             class: c,
             start,
@@ -33,10 +33,8 @@ impl Heap {
         };
         self.objects.push(row)?;
         let count = size as usize;
-        self.cells.lengthen(count);
+        self.parts.lengthen(count);
         self.leaves.lengthen(count);
-        self.tops.lengthen(count);
-        self.around.lengthen(count);
         Ok(start)
     }
 

@@ -6,22 +6,44 @@ ghost use Rattle.cxx_hierarchy.specs.Classes.{Classes};
 ghost use Rattle.cxx_hierarchy.specs.Hierarchies.{IsHierarchy};
 ghost use Rattle.path_plan.specs.Whole.{whole_part};
 ghost use Rattle.path_heap.specs.Points.{Points, StandsForPart};
+ghost use Rattle.path_heap.specs.Running.{outer_at};
+ghost use Rattle.path_heap.specs.invariants.Columns.{back_to};
 
 use crate::state::NumberedPart;
 use cxx_hierarchy::ClassId;
 
-/// How many numbers have 32 bits.
-const TURN: u64 = 4294967296;
+/// How many numbers have 16 bits.
+const TURN: u64 = 65536;
 
-/// How far a part stands behind its complete object, which is less than 2 ^ 32.
-pub(crate) fn back_of(part: NumberedPart) -> u32
-    ensures { result ≡ (part.number - part.whole) % 2 ^ 32 }
+/// How far a part stands behind its complete object. It is less than 2 ^ 16, since no object has more parts and leaves.
+pub(crate) fn back_of(number: u64, whole: u64) -> u16
+    ensures { result ≡ (number - whole) % 2 ^ 16 }
 {
-    (part.number.saturating_sub(part.whole) % TURN) as u32
+    (number.saturating_sub(whole) % TURN) as u16
+}
+
+/// The same of a part that may be there.
+pub(crate) fn back_to(whole: u64, part: Option<u64>) -> Option<u16>
+    ensures { result ≡ back_to whole part }
+{
+    match part {
+        None => None,
+        Some(number) => Some(back_of(number, whole)),
+    }
+}
+
+/// The number of a part that may stand so far behind its complete object.
+pub(crate) fn outer_at(whole: u64, back: Option<u16>) -> Option<u64>
+    ensures { result ≡ outer_at whole back }
+{
+    match back {
+        None => None,
+        Some(back) => Some(whole.wrapping_add(back as u64)),
+    }
 }
 
 /// The number of the complete object that a number stands so far behind.
-pub(crate) fn whole_behind(n: u64, back: u32) -> u64
+pub(crate) fn whole_behind(n: u64, back: u16) -> u64
     ensures { result ≡ n - back }
 {
     n.saturating_sub(back as u64)

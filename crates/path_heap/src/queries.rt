@@ -26,14 +26,14 @@ impl Heap {
     pub(crate) fn cell(&self, n: u64) -> Cell
         ensures { result ≡ cell_at self.now n }
     {
-        self.cells.get(n)
+        self.parts.cell(n)
     }
 
     /// The innermost part that runs in a complete object.
     pub(crate) fn top(&self, n: u64) -> Option<u64>
-        ensures { result ≡ entry_at self.now.tops.items n }
+        ensures { result ≡ entry_at self.now.parts.tops n }
     {
-        self.tops.get(n)
+        self.parts.top(n)
     }
 
     /// The number of the heap object whose part has a number.

@@ -40,21 +40,21 @@ pub struct NumberedPart {
 }
 
 /// What is kept of a part: its phase, and, once it has begun, its class, how far its number stands behind that of its complete
-/// object, and the class of that.
+/// object, and the class of that. It has 12 bytes.
 #[derive(Clone, Copy)]
 pub struct Cell {
-    pub phase: Phase,
     pub class: ClassId,
-    pub back: u32,
     pub owner: ClassId,
+    pub back: u16,
+    pub phase: Phase,
 }
 
 /// The cell of a part that has not begun.
 pub(crate) const BLANK: Cell = Cell {
-    phase: Phase::Raw,
     class: ClassId(0),
-    back: 0,
     owner: ClassId(0),
+    back: 0,
+    phase: Phase::Raw,
 };
 
 /// A heap object: its class, the number of its whole, and whether its destruction has ended.

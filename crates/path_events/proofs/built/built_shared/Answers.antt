@@ -1,4 +1,4 @@
-use Rattle.std.proofs.Common.{◌≡◌, ◌+◌, Some, true, List, ◌∷◌, length, refl, ap, subst, sym, ◌∙◌}
+use Rattle.std.proofs.Common.{◌≡◌, ◌+◌, ◌<◌, arith, Some, true, List, ◌∷◌, length, refl, ap, subst, sym, ◌∙◌}
 use Rattle.std.proofs.lemmas.Option.{slice_get_read}
 use Rattle.std.specs.Prelude.{slice_get}
 use Rattle.cxx_hierarchy.specs.declared.records.ClassId.{ClassId}
@@ -11,6 +11,7 @@ use Rattle.path_model.specs.States.{plan_bodies}
 use Rattle.path_events.specs.declared.frame.Stage.TheVariants.{Shared as SharedStage}
 use Rattle.path_events.specs.Frames.{StandsAs, left_of}
 use Rattle.path_events.proofs.Building.{shared_one}
+use Rattle.path_events.proofs.Few.{few_virtual}
 use Rattle.path_events.proofs.built.built_shared.Goals as goal
 
 pub returns-in-Some : goal.returns-in-Some
@@ -29,3 +30,11 @@ returns-in-Some c = λ program classes p is stands.
           ∙ (ap (λ (t : ClassId). Sub AsBase t (shared_part p v) ∷ left_of h (plan_bodies program) true InFull class p (SharedStage (c.args.j + 1))) (sym c.shared_kid-kid.ensures.class)
           ∙ ap (λ (f : Form). Sub AsBase c.shared_kid-kid.result.class (shared_part p v) ∷ left_of h (plan_bodies program) true f class p (SharedStage (c.args.j + 1))) (sym full)));
     }
+
+pub overflow_cast-result : goal.overflow_cast-result
+overflow_cast-result c =
+    let h = c.args.course.now.h.now in
+    let few = few_virtual h c.keeps.ensures c.args.course.now.frame.part.class in
+    let same = ap (λ (l : List ClassId). length l) c.order_of.ensures in
+    let within : c.args.j < length c.order_of.result.now = c.in-Some.ensures.lookup.3.0 in
+    omega arith

@@ -12,6 +12,7 @@ use Rattle.path_events.specs.Frames.{built_members}
 use Rattle.path_events.specs.Plans.{init_event}
 use Rattle.path_events.proofs.Giving.{named}
 use Rattle.path_events.proofs.Building.{value_none, value_set, object_one, object_none}
+use Rattle.path_events.proofs.Few.{few_elements}
 use Rattle.path_events.proofs.built.member_step.Goals as goal
 
 pub returns-then-not-has_initializer : goal.returns-then-not-has_initializer
@@ -31,3 +32,9 @@ returns-else-not-has_initializer c = λ program classes p is stands. record { e 
 
 pub returns-else-i-elements : goal.returns-else-i-elements
 returns-else-i-elements c = λ program classes p is stands. record { q = element p c.args.m c.args.i c.in-Object.d; stands = c.element_kid-kid.ensures.part classes _ p stands; is = object_one c.args.course.now.h.now (plan_bodies program) c.args.course.now.frame.part.class p c.args.m c.args.i c.args.member.now c.in-Object.d c.requires.listed c.in-Object.is (subst (λ n. c.args.i < n) c.elements.ensures c.if-i-elements.false) ∙ ap (λ (t : ClassId). Sub InFull t (element p c.args.m c.args.i c.in-Object.d) ∷ built_members c.args.course.now.h.now (plan_bodies program) c.args.course.now.frame.part.class p c.args.m (c.args.i + 1)) (sym c.element_kid-kid.ensures.class) }
+
+pub overflow_cast-result-in-Object-2 : goal.overflow_cast-result-in-Object-2
+overflow_cast-result-in-Object-2 c =
+    let few = few_elements c.args.course.now.h.now c.keeps.ensures c.args.course.now.frame.part.class c.args.m c.args.member.now c.requires.listed in
+    let within = subst (λ n. c.args.i < n) c.elements.ensures c.if-i-elements.false in
+    omega arith

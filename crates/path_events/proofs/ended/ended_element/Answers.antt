@@ -1,4 +1,4 @@
-use Rattle.std.proofs.Common.{◌∷◌, ap, sym, ◌∙◌}
+use Rattle.std.proofs.Common.{◌∷◌, ap, sym, ◌∙◌, arith}
 use Rattle.std.specs.Prelude.{option_copied, ◌-◌}
 use Rattle.cxx_hierarchy.specs.declared.records.ClassId.{ClassId}
 use Rattle.cxx_hierarchy.specs.Declarations.{elements_of}
@@ -8,6 +8,7 @@ use Rattle.path_plan.specs.Pieces.{Sub}
 use Rattle.path_events.specs.Frames.{ended_members}
 use Rattle.path_events.proofs.Ending.{member_none, value_none, object_none, object_one}
 use Rattle.path_events.proofs.Lists.{elements_front, elements_none, element_within}
+use Rattle.path_events.proofs.Few.{few_elements}
 use Rattle.path_events.proofs.ended.ended_element.Goals as goal
 
 pub returns-then-left-eq0 : goal.returns-then-left-eq0
@@ -31,3 +32,9 @@ returns-else-left-eq0 c = λ program classes p is stands. record {
       (elements_front (elements_of c.in-Some.member.now.count) c.elements.result c.args.i c.min-left.result c.min-left.ensures c.elements.ensures c.if-left-eq0.false)
       ∙ ap (λ (t : ClassId). Sub InFull t (element p c.args.m (c.min-left.result - 1) c.in-Object.d) ∷ ended_members c.args.course.now.h.now c.args.course.now.frame.form c.args.course.now.frame.part.class p c.args.m (c.min-left.result - 1)) (sym c.element_kid-kid.ensures.class);
 }
+
+pub overflow_cast-result-in-Object : goal.overflow_cast-result-in-Object
+overflow_cast-result-in-Object c =
+    let few = few_elements c.args.course.now.h.now c.keeps.ensures c.args.course.now.frame.part.class c.args.m c.in-Some.member.now (sym c.member_at.ensures ∙ ap option_copied c.in-Some.is) in
+    let within = element_within (elements_of c.in-Some.member.now.count) c.elements.result c.args.i c.min-left.result c.min-left.ensures c.elements.ensures c.if-left-eq0.false in
+    omega arith

@@ -1,4 +1,5 @@
-use Rattle.std.proofs.Common.{◌≡◌, List, ◌∷◌, ap, subst, sym, ◌∙◌}
+use Rattle.std.proofs.Common.{◌≡◌, List, ◌∷◌, length, ap, subst, sym, ◌∙◌, arith}
+use Rattle.std.proofs.lemmas.Option.{slice_get_within}
 use Rattle.std.specs.Prelude.{slice_get, ◌-◌}
 use Rattle.cxx_hierarchy.specs.declared.records.ClassId.{ClassId}
 use Rattle.path_plan.specs.Places.{shared_part}
@@ -12,6 +13,7 @@ use Rattle.path_events.specs.Plans.{end_event}
 use Rattle.path_events.proofs.Giving.{named}
 use Rattle.path_events.proofs.Ending.{shared_one, shared_none}
 use Rattle.path_events.proofs.Lists.{front_left, none_front}
+use Rattle.path_events.proofs.Few.{few_virtual}
 use Rattle.path_events.proofs.ended.ended_shared.Goals as goal
 
 pub returns-in-AsBase : goal.returns-in-AsBase
@@ -32,3 +34,10 @@ returns-else-left-eq0 c = λ program classes p is stands.
           ∙ (ap (λ (t : ClassId). Sub AsBase t (shared_part p c.class_at-v.result) ∷ ended_shared c.args.course.now.h.now InFull c.args.course.now.frame.part.class p (c.min-left.result - 1)) (sym c.shared_kid-kid.ensures.class)
           ∙ ap (λ (f : Form). Sub AsBase c.shared_kid-kid.result.class (shared_part p c.class_at-v.result) ∷ ended_shared c.args.course.now.h.now f c.args.course.now.frame.part.class p (c.min-left.result - 1)) (sym full)));
     }
+
+pub overflow_cast-result : goal.overflow_cast-result
+overflow_cast-result c =
+    let few = few_virtual c.args.course.now.h.now c.keeps.ensures c.args.course.now.frame.part.class in
+    let same = ap (λ (l : List ClassId). length l) c.order_of-order.ensures in
+    let within = slice_get_within c.order_of-order.result.now (c.min-left.result - 1) c.class_at-v.result c.class_at-v.ensures in
+    omega arith

@@ -6,4 +6,4 @@ use Rattle.path_heap.proofs.heap.Heap.value_at.Goals as goal
 pub returns : goal.returns
 returns c =
     let leaves = c.args.self.now.leaves in
-    c.get.ensures ∙ sym (blank_past value_or_unset leaves.items c.args.k leaves.blank (sym c.args.self.now.blank.leaves_are))
+    c.get.ensures ∙ sym (blank_past value_or_unset leaves.items c.args.k leaves.blank (sym c.args.self.now.blank))

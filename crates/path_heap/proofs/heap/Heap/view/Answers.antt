@@ -11,5 +11,5 @@ returns c = λ h s p stands q begun.
     let heap = c.args.self.now in
     let w : c.whole_behind-whole.result ≡ c.args.n - c.cell-own.result.back = c.whole_behind-whole.ensures in
     subst (λ (v : Option ℕ). PointsView h s.classes p v (view_of h s p))
-    (sym (c.view_of_whole.ensures ∙ (ap (λ t. view_number c.cell.result.phase c.whole_behind-whole.result t) c.top.ensures ∙ ap (λ k. view_number c.cell.result.phase k (entry_at heap.tops.items k)) w)))
+    (sym (c.view_of_whole.ensures ∙ (ap (λ t. view_number c.cell.result.phase c.whole_behind-whole.result t) c.top.ensures ∙ ap (λ k. view_number c.cell.result.phase k (entry_at heap.parts.tops k)) w)))
     (view_told h heap s stands c.args.n p q begun c.cell-own.result c.cell-own.ensures c.cell.result (c.cell.ensures ∙ ap (cell_at heap) w))
