@@ -5,4 +5,4 @@ use Rattle.path_columns.specs.Paged.{paged}
 
 -- what was set at a number, and 0 where nothing was
 abbrev pub number_at : Pages → ℕ → ℕ
-number_at pages n = paged (λ p. slice_index_or pages.table.items p 0) pages.entries.items 0 64 n
+number_at pages n = paged (λ p. slice_index_or pages.table.items p 0) pages.entries.items 0 32 n

@@ -1,7 +1,7 @@
 //! Columns: lists of items by number, of which memory holds only those pages in which an item was set.
 //!
 //! A column is a list that is made longer by a blank item, as often as is wanted, at no cost. Its pages are found in two steps, by
-//! tables that are pages themselves, so that a number that nothing was set near to takes no memory but four bytes for each 256. No
+//! tables that are pages themselves, so that a number that nothing was set near to takes no memory but four bytes for each 128. No
 //! column has more than 2 ^ 38 items, so that four bytes tell where a page of such a table stands.
 //! `Codes` has a code of few bits for each number, many side by side in a word of 64 bits.
 //! This crate owns what stands at a number (`specs/Paged.antt`), and at a number of codes (`code_at`).

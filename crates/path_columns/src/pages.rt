@@ -8,7 +8,7 @@ use foundation::NoMemory;
 use std::alloc::Global;
 
 /// How many numbers a page has.
-const WIDTH: u64 = 64;
+const WIDTH: u64 = 32;
 
 /// Makes a list longer, until it has this place.
 pub(crate) fn reach<T: Copy + Drop>(
@@ -25,17 +25,17 @@ pub(crate) fn reach<T: Copy + Drop>(
     Ok(())
 }
 
-/// A number for each number, 0 where none was set. Memory is taken for those pages of 64 numbers in which one was set.
+/// A number for each number, 0 where none was set. Memory is taken for those pages of 32 numbers in which one was set.
 #[derive(Drop)]
 pub struct Pages {
-    /// Where the page of each 64 numbers stands among the pages, counted from 1; 0 where it is not there.
+    /// Where the page of each 32 numbers stands among the pages, counted from 1; 0 where it is not there.
     table: Vec<u32>,
     /// The pages, one behind the other.
     entries: Vec<u64>,
     /// How many pages there are.
     count: u32,
-    ghost paged: { ArePages (λ p. slice_index_or table.items p 0) entries.items 0 64 count },
-    ghost counted: { count ≡ placed (λ p. slice_index_or table.items p 0) 1073741824 },
+    ghost paged: { ArePages (λ p. slice_index_or table.items p 0) entries.items 0 32 count },
+    ghost counted: { count ≡ placed (λ p. slice_index_or table.items p 0) 2147483648 },
 }
 
 impl Pages {
@@ -81,7 +81,7 @@ impl Pages {
     ///
     /// Errors: want of memory. Each number has what it had.
     fn open(&mut self, page: u64) -> Result<u32, NoMemory>
-        requires { page < 1073741824 }
+        requires { page < 2147483648 }
         ensures same { (n : ℕ) → number_at self.new n ≡ number_at self.old n }
         ensures open { IfOk result (λ place. (0 < place) × (slice_index_or self.new.table.items page 0 ≡ place)) }
     {

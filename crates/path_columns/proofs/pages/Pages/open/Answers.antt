@@ -7,7 +7,7 @@ use Rattle.path_columns.proofs.pages.Pages.open.Goals as goal
 pub invariant_of-self : goal.invariant_of-self
 invariant_of-self c = record {
   paged = pages_same _ _ _ _ _ _ c.reach.ensures.same c.args.self.now.paged;
-  counted = c.args.self.now.counted ∙ sym (placed_same _ _ 1073741824 c.reach.ensures.same);
+  counted = c.args.self.now.counted ∙ sym (placed_same _ _ 2147483648 c.reach.ensures.same);
 }
 
 pub invariant_of-self-2 : goal.invariant_of-self-2
@@ -15,14 +15,14 @@ invariant_of-self-2 c =
     let shut = c.if-place-gt0.false in
     let none : c.place-place.result ≡ 0 = search rules in
     let opened = opens c.args.self.now.table.items c.reach.new.list.items c.args.page c.args.self.now.count (sym c.place-place.ensures ∙ none) c.reach.ensures.same c.in_ok-reach.ensures.reached in
-    let more = placed_opened _ _ c.args.page c.args.self.now.count 1073741824 opened c.requires in
+    let more = placed_opened _ _ c.args.page c.args.self.now.count 2147483648 opened c.requires in
     let before = c.args.self.now.counted in
     record {
-      paged = pages_opened _ _ c.args.self.now.entries.items 0 64 c.args.page c.args.self.now.count c.args.self.now.paged opened;
+      paged = pages_opened _ _ c.args.self.now.entries.items 0 32 c.args.page c.args.self.now.count c.args.self.now.paged opened;
       counted = omega (arith, more, before);
     }
 
 pub overflow_add-count : goal.overflow_add-count
 overflow_add-count c =
-    let few = placed_few (λ p. slice_index_or c.args.self.now.table.items p 0) 1073741824 in
+    let few = placed_few (λ p. slice_index_or c.args.self.now.table.items p 0) 2147483648 in
     let count = c.args.self.now.counted in omega (arith, few, count)
