@@ -155,4 +155,26 @@ def open_bases(part):
     return f"struct C0 {{ C0() {{ X* p = new X; }} }};\n{chain}struct X : C{count - 1} {{}};\nint main() {{ X* p = new X; }}\n"
 
 
+def spread_objects(part):
+    """Objects of 250 bytes, of which nothing is set, until the heap is full: parts with many leaves between them."""
+    return f"struct A {{ bool b[{250 // part}]; }};\nint main() {{ while (true) {{ A* p = new A; }} }}\n"
+
+
+def set_leaves(part):
+    """Objects of 61,440 bytes, each set by a copy, until the heap is full."""
+    count = 4096 // part
+    each = "".join(f"a->b[{n}] = true; " for n in range(count))
+    copies = "".join(f"A* a{n} = &b->a[{n}]; *a{n} = *a; " for n in range(15))
+    classes = f"struct A {{ bool b[{count}]; }};\nstruct B {{ A a[15]; }};\n"
+    return f"{classes}int main() {{ A* a = new A; {each}B* b = new B; {copies}while (true) {{ B* c = new B; *c = *b; }} }}\n"
+
+
+def set_bits(part):
+    """Objects of 1,024 bit-fields of one bit, each set by a copy, until the heap is full: the most leaves that can be set."""
+    count = 1024 // part
+    fields = "".join(f" bool b{n} : 1;" for n in range(count))
+    each = "".join(f"a->b{n} = true; " for n in range(count))
+    return f"struct A {{{fields} }};\nint main() {{ A* a = new A; {each}while (true) {{ A* c = new A; *c = *a; }} }}\n"
+
+
 RUNS = [loop, calls, thunks, shared_thunks, casts, cross_casts, small_news, news, deep_news, shared_news, copies, many_objects, text, dump, dumps]
