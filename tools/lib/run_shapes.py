@@ -157,20 +157,34 @@ def open_bases(part):
 
 def spread_objects(part):
     """Objects of 250 bytes, of which nothing is set, until the heap is full: parts with many leaves between them."""
-    return f"struct A {{ bool b[{250 // part}]; }};\nint main() {{ while (true) {{ A* p = new A; }} }}\n"
+    return f"struct A {{ bool b[{250 * part}]; }};\nint main() {{ while (true) {{ A* p = new A; }} }}\n"
+
+
+SET_CLASSES = "struct A { bool b[4096]; };\nstruct B { A a[15]; };\n"
+
+
+def set_object():
+    """Statements that make an object of 61,440 bytes and set each leaf of it."""
+    each = "".join(f"a->b[{n}] = true; " for n in range(4096))
+    copies = "".join(f"A* a{n} = &b->a[{n}]; *a{n} = *a; " for n in range(15))
+    return f"A* a = new A; {each}B* b = new B; {copies}"
 
 
 def set_leaves(part):
     """Objects of 61,440 bytes, each set by a copy, until the heap is full."""
-    count = 4096 // part
-    each = "".join(f"a->b[{n}] = true; " for n in range(count))
-    copies = "".join(f"A* a{n} = &b->a[{n}]; *a{n} = *a; " for n in range(15))
-    classes = f"struct A {{ bool b[{count}]; }};\nstruct B {{ A a[15]; }};\n"
-    return f"{classes}int main() {{ A* a = new A; {each}B* b = new B; {copies}while (true) {{ B* c = new B; *c = *b; }} }}\n"
+    turns = f"long n = 0; bool more = true; while (more) {{ B* c = new B; *c = *b; n = n + 1; more = n < {1092 // part}; }}"
+    return f"{SET_CLASSES}int main() {{ {set_object()}{turns} }}\n"
+
+
+def set_and_open(part):
+    """A heap that is full of set leaves, and as many open bases as steps are left."""
+    turns = f"long n = 0; bool more = true; while (more) {{ B* c = new B; *c = *b; n = n + 1; more = n < {1080 // part}; }}"
+    classes, main = open_bases(part).split("int main() { ")
+    return f"{SET_CLASSES}{classes}int main() {{ {set_object()}{turns} {main}"
 
 
 def set_bits(part):
-    """Objects of 1,024 bit-fields of one bit, each set by a copy, until the heap is full: the most leaves that can be set."""
+    """Objects of 1,024 bit-fields of one bit, each set by a copy: the most leaves that can be set with so many steps."""
     count = 1024 // part
     fields = "".join(f" bool b{n} : 1;" for n in range(count))
     each = "".join(f"a->b{n} = true; " for n in range(count))

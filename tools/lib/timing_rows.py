@@ -17,7 +17,7 @@ class Row:
     words: Callable
     source: Callable
     unit: str = ""
-    limit: str = ""  # the last line of a limit that may be met
+    limits: tuple = ()  # the last lines that may be met in place of an end: limits, or that no step is left
     most: int = 0  # the megabytes that a run may have in use; 0: any
 
 
@@ -40,14 +40,15 @@ TEXTS = [shapes.comment, shapes.words, shapes.statements, shapes.blocks, shapes.
 PROGRAMS = [shapes.writes, shapes.base_writes, shapes.objects]
 MADE = [shapes.chain, shapes.overriding_chain, shapes.wide, shapes.nearly_empty, shapes.diamonds, shapes.shared, shapes.parts, shapes.pairs, shapes.construction_chain]
 WORST = [shapes.member_subobjects, shapes.silent_chain, shapes.own_functions]
-LIMITS = {"layout-chain": "limit L9", "layout-overriding-chain": "limit L9", "tables-many-entries": "limit L9", "check-silent-chain": "limit L7", "check-own-functions": "limit L7"}
+LIMITS = {"layout-chain": ("limit L9",), "layout-overriding-chain": ("limit L9",), "tables-many-entries": ("limit L9",), "check-silent-chain": ("limit L7",),
+          "check-own-functions": ("limit L7",)}
 
 
 def row(command, shape, source=None):
     """A command over a shape."""
     name = f"{command}-{spelled(shape)}"
     words = [command, "--steps", BUDGET] if command == "run" else [command]
-    return Row(name, command, spelled(shape), lambda part: words, source or shape, limit=LIMITS.get(name, ""))
+    return Row(name, command, spelled(shape), lambda part: words, source or shape, limits=LIMITS.get(name, ()))
 
 
 def made_row(shape):
@@ -55,10 +56,18 @@ def made_row(shape):
     return row("run", shape, lambda part: shapes.with_main(shape(part)))
 
 
-def room_row(shape, limit, most, command="paths"):
-    """A run that meets a limit, with the megabytes that it may have in use."""
+def room_row(shape, most, command="paths", words=("--steps", BUDGET)):
+    """A run that meets a limit, or has no step left, with the megabytes that it may have in use."""
     what = spelled(shape) if command == "paths" else f"{spelled(shape)} by {command}"
-    return Row(f"{command}-{spelled(shape)}", "paths", what, lambda part: [command, "--steps", BUDGET], shape, limit=limit, most=most)
+    limits = ("limit L8", "limit L10", "out of steps 1000000")
+    return Row(f"{command}-{spelled(shape)}", "paths", what, lambda part: [command, *words], shape, limits=limits, most=most)
+
+
+def room_rows():
+    """The worst sources that are known, by the memory that a run takes. The last two have as many steps as where the words give no budget."""
+    return [room_row(run_shapes.large_arrays, 50), room_row(run_shapes.deep_members, 50),
+            *[room_row(shape, 300, command) for shape in (run_shapes.open_bases, run_shapes.spread_objects, run_shapes.set_leaves) for command in ("paths", "run")],
+            *[room_row(shape, 300, command, ()) for shape in (run_shapes.set_bits, run_shapes.set_and_open) for command in ("paths", "run")]]
 
 
 def gen_row():
@@ -70,8 +79,7 @@ def rows():
     return [*[run_row(shape, command, unit) for shape, unit in RUNS for command in ("run", "paths")], gen_row(),
             *[row("check", shape) for shape in TEXTS + HIERARCHIES + WORST], *[row(command, shape) for command in ("layout", "tables") for shape in HIERARCHIES],
             *[row("run", shape) for shape in PROGRAMS], *[made_row(shape) for shape in MADE],
-            room_row(run_shapes.large_arrays, "limit L8", 50), room_row(run_shapes.deep_members, "limit L10", 50),
-            room_row(run_shapes.open_bases, "limit L10", 300), room_row(run_shapes.open_bases, "limit L10", 300, "run")]
+            *room_rows()]
 
 
 @dataclass
