@@ -9,11 +9,15 @@ use Rattle.byte_machine.specs.declared.turn.MachineTurn.{MachineTurn}
 use Rattle.byte_machine.specs.declared.turn.MachineTurn.TheVariants.{Went, Ended, Refused, OutOfSteps as NoSteps, Limit as LimitTurn}
 use Rattle.byte_machine.specs.declared.turn.RawOut.{RawOut}
 use Rattle.byte_machine.specs.Running.{Fixed}
-use Rattle.byte_machine.specs.Turn.{ByteState as Bytes, Turns, fixed_of, kept_answer}
+use Rattle.byte_machine.specs.Turn.{ByteState as Bytes, Turns, fixed_of, kept_answer, start_state}
 use Rattle.byte_machine.proofs.TurnLeads.{answer_kept}
 use Rattle.foundation.proofs.Members.{Has}
 use Rattle.text_bytes.specs.RawTexts.{HasText, raw_texts, raw_outs_to_show}
 use Rattle.code_ops.specs.Setups.{Setup, places}
+use Rattle.code_blocks.specs.Lowered.{IsLowered}
+use Rattle.abi_world.specs.Made.{HasImage}
+use Rattle.byte_memory.specs.Store.{Store, empty}
+use Rattle.cxx_subobject.specs.Parts.{most_subobjects}
 use Rattle.abi_slots.specs.declared.code_numbers.CodeRow.{CodeRow}
 use Rattle.text_told.specs.declared.ending.End.{End}
 use Rattle.text_told.specs.declared.ending.End.TheVariants.{Done, Undefined, OutOfSteps, Limit}
@@ -21,7 +25,7 @@ use Rattle.text_told.specs.Told.{IsRun, text_limit}
 use Rattle.text_told.proofs.Lines.{AreLinesOf, IsTextOf, lines_pass, lines_stand}
 use Rattle.abi_refine.specs.Agreed.{Agreed, move_after}
 use Rattle.abi_refine.specs.Endings.{counted_by, turn_of}
-use Rattle.abi_refine.specs.Executions.{text_of_turn}
+use Rattle.abi_refine.specs.Executions.{text_of_turn, IsExecution}
 use Rattle.abi_refine.specs.Reaches.{ReachesWith, further, by_answer, by_length, Executes}
 use Rattle.abi_refine.specs.Standing.{StandsInSomeWorld, state_after}
 use Rattle.abi_refine.proofs.EndNumbers.{same_end}
@@ -159,3 +163,23 @@ module _ {x : Setup} {numbers : List CodeRow} {trace : Bool} {code : Code} {f : 
 
     pub texts_told : (raw : RawOut) → Has told raw → HasText x.h b'.objects raw
     texts_told raw has = turn_texts x code numbers f b.taken went.new went.outs went.moves b' told went.went raw has
+
+-- an execution, by what its program was built into, what its machine was made with, and what that has in the end
+pub is_execution : (x : Setup) (steps : ℕ) (trace : Bool) (numbers : List CodeRow) (built first last : Code) (made given left : ImageBytes) (room : ℕ) (memory : Store) (start b : Bytes) (text shown : List ℕ) (end_is : End)
+    → IsLowered x built numbers → HasImage x.h (places x) numbers made → first ≡ built → last ≡ first → given ≡ made → left ≡ given → room ≡ most_subobjects
+    → start ≡ start_state memory built steps → memory ≡ empty → shown ≡ text
+    → Executes (fixed_of given first room) first (text_of_turn x numbers given trace) start b text end_is
+    → ((end_is ≡ Limit L9 → ⊥) → b.answer ≡ Some (turn_of end_is))
+    → IsExecution x steps trace numbers last left b shown end_is
+is_execution x steps trace numbers built first last made given left room memory start b text shown end_is lowered image first_is last_is given_is left_is room_is start_is memory_is shown_is executes ended =
+    let begun : start ≡ start_state empty last steps = start_is ∙ (ap (λ m. start_state m built steps) memory_is ∙ ap (λ k. start_state empty k steps) (sym (last_is ∙ first_is))) in
+    let in_room : Executes (fixed_of given first most_subobjects) first (text_of_turn x numbers given trace) start b text end_is = subst (λ (n : ℕ). Executes (fixed_of given first n) first (text_of_turn x numbers given trace) start b text end_is) room_is executes in
+    let by_image : Executes (fixed_of left first most_subobjects) first (text_of_turn x numbers left trace) start b text end_is = subst (λ (i : ImageBytes). Executes (fixed_of i first most_subobjects) first (text_of_turn x numbers i trace) start b text end_is) (sym left_is) in_room in
+    let by_code : Executes (fixed_of left last most_subobjects) last (text_of_turn x numbers left trace) start b text end_is = subst (λ (k : Code). Executes (fixed_of left k most_subobjects) k (text_of_turn x numbers left trace) start b text end_is) (sym last_is) by_image in
+    let from_start : Executes (fixed_of left last most_subobjects) last (text_of_turn x numbers left trace) (start_state empty last steps) b text end_is = subst (λ (s : Bytes). Executes (fixed_of left last most_subobjects) last (text_of_turn x numbers left trace) s b text end_is) begun by_code in
+    record {
+      lowered = subst (λ (k : Code). IsLowered x k numbers) (sym (last_is ∙ first_is)) lowered;
+      image_is = subst (λ (i : ImageBytes). HasImage x.h (places x) numbers i) (sym (left_is ∙ given_is)) image;
+      executes = subst (λ (t : List ℕ). Executes (fixed_of left last most_subobjects) last (text_of_turn x numbers left trace) (start_state empty last steps) b t end_is) (sym shown_is) from_start;
+      ended = ended;
+    }
