@@ -3,7 +3,7 @@
 ghost use Rattle.std.specs.Prelude.{◌≡◌, ◌<◌, ℕ, IfOk, nat_eq, if◌then◌else◌};
 ghost use Rattle.path_columns.specs.Columns.{most_items};
 
-use crate::leaf_codes::{number_code, number_value};
+use crate::leaf_codes::{number_by_code, number_code};
 use crate::state::Value;
 use crate::word_layer::WordLayer;
 use foundation::NoMemory;
@@ -23,7 +23,7 @@ pub(crate) struct ByteLayer {
 }
 
 impl ByteLayer {
-    ghost use Rattle.path_heap.specs.invariants.Layers.{in_bytes};
+    ghost use Rattle.path_heap.specs.invariants.Layers.{in_byte_layer};
 
     /// No value is set. It takes no memory.
     pub(crate) fn new(alloc: Global) -> ByteLayer {
@@ -35,9 +35,9 @@ impl ByteLayer {
 
     /// The value of a leaf.
     pub(crate) fn get(&self, n: u64) -> Value
-        ensures { result ≡ in_bytes self.now n }
+        ensures { result ≡ in_byte_layer self.now n }
     {
-        match number_value(HALF, self.codes.get(n)) {
+        match number_by_code(HALF, self.codes.get(n)) {
             Some(value) => value,
             None => self.rest.get(n),
         }
@@ -48,8 +48,8 @@ impl ByteLayer {
     /// Errors: want of memory. Each other leaf then has what it had.
     pub(crate) fn set(&mut self, n: u64, value: Value) -> Result<(), NoMemory>
         requires { n < most_items }
-        ensures set { IfOk result (λ _. (m : ℕ) → in_bytes self.new m ≡ (if nat_eq m n then value else in_bytes self.old m)) }
-        ensures others { (m : ℕ) → (m ≡ n → ⊥) → in_bytes self.new m ≡ in_bytes self.old m }
+        ensures set { IfOk result (λ _. (m : ℕ) → in_byte_layer self.new m ≡ (if nat_eq m n then value else in_byte_layer self.old m)) }
+        ensures others { (m : ℕ) → (m ≡ n → ⊥) → in_byte_layer self.new m ≡ in_byte_layer self.old m }
     {
         match number_code(HALF, value) {
             Some(code) => {

@@ -26,13 +26,13 @@ impl Model for LeafList {
     ghost use Rattle.path_columns.specs.Columns.{Column as ColumnOf};
     ghost use Rattle.path_heap.specs.declared.state.Value.{Value as ValueOf};
     ghost use Rattle.path_heap.specs.declared.state.Value.TheVariants.{Unset};
-    ghost use Rattle.path_heap.specs.invariants.Layers.{in_pairs};
+    ghost use Rattle.path_heap.specs.invariants.Layers.{in_pair_layer};
 
     ghost Value = { ColumnOf ValueOf };
 
-    ghost view = { λ l. record { blank = Unset; items = listed (in_pairs l.layers) l.len } };
+    ghost view = { λ l. record { blank = Unset; items = listed (in_pair_layer l.layers) l.len } };
 
-    ghost invariant = { λ l. (n : ℕ) → l.len ≤ n → in_pairs l.layers n ≡ Unset };
+    ghost invariant = { λ l. (n : ℕ) → l.len ≤ n → in_pair_layer l.layers n ≡ Unset };
 }
 
 impl LeafList {

@@ -4,7 +4,7 @@ ghost use Rattle.std.specs.Prelude.{◌≡◌, ◌<◌, ℕ, IfOk, OnErr, nat_eq
 ghost use Rattle.path_columns.specs.Columns.{most_items};
 ghost use Rattle.path_columns.specs.Slots.{item_at};
 
-use crate::leaf_codes::{long_code, long_value};
+use crate::leaf_codes::{long_by_code, long_code};
 use crate::state::Value;
 use foundation::NoMemory;
 use path_columns::Slots;
@@ -20,7 +20,7 @@ pub(crate) struct LongLayer {
 }
 
 impl LongLayer {
-    ghost use Rattle.path_heap.specs.invariants.Layers.{in_longs};
+    ghost use Rattle.path_heap.specs.invariants.Layers.{in_long_layer};
 
     /// No value is set. It takes no memory.
     pub(crate) fn new(alloc: Global) -> LongLayer {
@@ -32,9 +32,9 @@ impl LongLayer {
 
     /// The value of a leaf.
     pub(crate) fn get(&self, n: u64) -> Value
-        ensures { result ≡ in_longs self.now n }
+        ensures { result ≡ in_long_layer self.now n }
     {
-        match long_value(self.codes.get(n)) {
+        match long_by_code(self.codes.get(n)) {
             Some(value) => value,
             None => self.rest.get(n),
         }
@@ -45,8 +45,8 @@ impl LongLayer {
     /// Errors: want of memory. Each other leaf then has what it had.
     pub(crate) fn set(&mut self, n: u64, value: Value) -> Result<(), NoMemory>
         requires { n < most_items }
-        ensures set { IfOk result (λ _. (m : ℕ) → in_longs self.new m ≡ (if nat_eq m n then value else in_longs self.old m)) }
-        ensures others { (m : ℕ) → (m ≡ n → ⊥) → in_longs self.new m ≡ in_longs self.old m }
+        ensures set { IfOk result (λ _. (m : ℕ) → in_long_layer self.new m ≡ (if nat_eq m n then value else in_long_layer self.old m)) }
+        ensures others { (m : ℕ) → (m ≡ n → ⊥) → in_long_layer self.new m ≡ in_long_layer self.old m }
     {
         match long_code(value) {
             Some(code) => {

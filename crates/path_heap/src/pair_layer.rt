@@ -5,7 +5,7 @@ ghost use Rattle.path_columns.specs.Columns.{most_items};
 ghost use Rattle.path_heap.specs.declared.state.Value.TheVariants.{Unset};
 
 use crate::byte_layer::ByteLayer;
-use crate::leaf_codes::{pair_code, pair_value};
+use crate::leaf_codes::{pair_by_code, pair_code};
 use crate::state::Value;
 use foundation::NoMemory;
 use path_columns::Codes;
@@ -24,11 +24,11 @@ pub(crate) struct PairLayer {
 }
 
 impl PairLayer {
-    ghost use Rattle.path_heap.specs.invariants.Layers.{in_pairs};
+    ghost use Rattle.path_heap.specs.invariants.Layers.{in_pair_layer};
 
     /// No value is set. It takes no memory.
     pub(crate) fn new(alloc: Global) -> PairLayer
-        ensures { (n : ℕ) → in_pairs result n ≡ Unset }
+        ensures { (n : ℕ) → in_pair_layer result n ≡ Unset }
     {
         PairLayer {
             codes: Codes::new(alloc),
@@ -38,9 +38,9 @@ impl PairLayer {
 
     /// The value of a leaf.
     pub(crate) fn get(&self, n: u64) -> Value
-        ensures { result ≡ in_pairs self.now n }
+        ensures { result ≡ in_pair_layer self.now n }
     {
-        match pair_value(self.codes.get(n)) {
+        match pair_by_code(self.codes.get(n)) {
             Some(value) => value,
             None => self.rest.get(n),
         }
@@ -51,8 +51,8 @@ impl PairLayer {
     /// Errors: want of memory. Each other leaf then has what it had.
     pub(crate) fn set(&mut self, n: u64, value: Value) -> Result<(), NoMemory>
         requires { n < most_items }
-        ensures set { IfOk result (λ _. (m : ℕ) → in_pairs self.new m ≡ (if nat_eq m n then value else in_pairs self.old m)) }
-        ensures others { (m : ℕ) → (m ≡ n → ⊥) → in_pairs self.new m ≡ in_pairs self.old m }
+        ensures set { IfOk result (λ _. (m : ℕ) → in_pair_layer self.new m ≡ (if nat_eq m n then value else in_pair_layer self.old m)) }
+        ensures others { (m : ℕ) → (m ≡ n → ⊥) → in_pair_layer self.new m ≡ in_pair_layer self.old m }
     {
         match pair_code(value) {
             Some(code) => {

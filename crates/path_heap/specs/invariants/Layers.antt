@@ -7,16 +7,16 @@ use Rattle.path_heap.specs.declared.long_layer.LongLayer.{LongLayer}
 use Rattle.path_heap.specs.declared.word_layer.WordLayer.{WordLayer}
 use Rattle.path_heap.specs.declared.byte_layer.ByteLayer.{ByteLayer}
 use Rattle.path_heap.specs.declared.pair_layer.PairLayer.{PairLayer}
-use Rattle.path_heap.specs.invariants.LeafCodes.{pair_value, number_value, long_value, held}
+use Rattle.path_heap.specs.invariants.LeafCodes.{pair_by_code, number_by_code, long_by_code, held}
 
-abbrev pub in_longs : LongLayer → ℕ → Value
-in_longs layer n = held (long_value (item_at layer.codes n)) (item_at layer.rest n)
+abbrev pub in_long_layer : LongLayer → ℕ → Value
+in_long_layer layer n = held (long_by_code (item_at layer.codes n)) (item_at layer.rest n)
 
-abbrev pub in_words : WordLayer → ℕ → Value
-in_words layer n = held (number_value 2147483648 (code_at layer.codes n)) (in_longs layer.rest n)
+abbrev pub in_word_layer : WordLayer → ℕ → Value
+in_word_layer layer n = held (number_by_code 2147483648 (code_at layer.codes n)) (in_long_layer layer.rest n)
 
-abbrev pub in_bytes : ByteLayer → ℕ → Value
-in_bytes layer n = held (number_value 128 (code_at layer.codes n)) (in_words layer.rest n)
+abbrev pub in_byte_layer : ByteLayer → ℕ → Value
+in_byte_layer layer n = held (number_by_code 128 (code_at layer.codes n)) (in_word_layer layer.rest n)
 
-abbrev pub in_pairs : PairLayer → ℕ → Value
-in_pairs layer n = held (pair_value (code_at layer.codes n)) (in_bytes layer.rest n)
+abbrev pub in_pair_layer : PairLayer → ℕ → Value
+in_pair_layer layer n = held (pair_by_code (code_at layer.codes n)) (in_byte_layer layer.rest n)

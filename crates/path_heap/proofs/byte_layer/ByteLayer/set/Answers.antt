@@ -1,26 +1,26 @@
 use Rattle.std.proofs.Common.{refl}
 use Rattle.path_columns.specs.Codes.{code_at}
-use Rattle.path_heap.specs.invariants.LeafCodes.{number_value}
-use Rattle.path_heap.specs.invariants.Layers.{in_words}
+use Rattle.path_heap.specs.invariants.LeafCodes.{number_by_code}
+use Rattle.path_heap.specs.invariants.Layers.{in_word_layer}
 use Rattle.path_heap.proofs.Layering.{others_held, next_held}
 use Rattle.path_heap.proofs.byte_layer.ByteLayer.set.Goals as goal
 
 pub returns-in_err-set-in-None-2-clause-others : goal.returns-in_err-set-in-None-2-clause-others
 returns-in_err-set-in-None-2-clause-others c =
-    others_held (number_value 128) (code_at c.args.self.now.codes) (code_at c.set-in-None.new.self) (in_words c.args.self.now.rest) (in_words c.set-in-None-2.new.self) c.args.n 0
+    others_held (number_by_code 128) (code_at c.args.self.now.codes) (code_at c.set-in-None.new.self) (in_word_layer c.args.self.now.rest) (in_word_layer c.set-in-None-2.new.self) c.args.n 0
     c.in_ok-set-in-None.ensures.set c.set-in-None-2.ensures.others
 
 pub returns-in_ok-set-in-Some-clause-others : goal.returns-in_ok-set-in-Some-clause-others
 returns-in_ok-set-in-Some-clause-others c =
-    others_held (number_value 128) (code_at c.args.self.now.codes) (code_at c.set.new.self) (in_words c.args.self.now.rest) (in_words c.args.self.now.rest) c.args.n c.in-Some.code
+    others_held (number_by_code 128) (code_at c.args.self.now.codes) (code_at c.set.new.self) (in_word_layer c.args.self.now.rest) (in_word_layer c.args.self.now.rest) c.args.n c.in-Some.code
     c.in_ok-set-in-Some.ensures.set (λ m differ. refl)
 
 pub returns-in_ok-set-in-None-2-clause-set : goal.returns-in_ok-set-in-None-2-clause-set
 returns-in_ok-set-in-None-2-clause-set c =
-    next_held (number_value 128) (code_at c.args.self.now.codes) (code_at c.set-in-None.new.self) (in_words c.args.self.now.rest) (in_words c.set-in-None-2.new.self) c.args.n 0 c.args.value refl
+    next_held (number_by_code 128) (code_at c.args.self.now.codes) (code_at c.set-in-None.new.self) (in_word_layer c.args.self.now.rest) (in_word_layer c.set-in-None-2.new.self) c.args.n 0 c.args.value refl
     c.in_ok-set-in-None.ensures.set c.in_ok-set-in-None-2.ensures.set
 
 pub returns-in_ok-set-in-None-2-clause-others : goal.returns-in_ok-set-in-None-2-clause-others
 returns-in_ok-set-in-None-2-clause-others c =
-    others_held (number_value 128) (code_at c.args.self.now.codes) (code_at c.set-in-None.new.self) (in_words c.args.self.now.rest) (in_words c.set-in-None-2.new.self) c.args.n 0
+    others_held (number_by_code 128) (code_at c.args.self.now.codes) (code_at c.set-in-None.new.self) (in_word_layer c.args.self.now.rest) (in_word_layer c.set-in-None-2.new.self) c.args.n 0
     c.in_ok-set-in-None.ensures.set c.set-in-None-2.ensures.others
