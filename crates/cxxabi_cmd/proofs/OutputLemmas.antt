@@ -9,10 +9,10 @@ use Rattle.cxxabi_words.specs.declared.command.Command.{Command}
 use Rattle.cxxabi_words.specs.Commands.{Says, IsCommand}
 use Rattle.cxxabi_words.proofs.CommandLaws.{one_command}
 use Rattle.cxxabi_cmd.specs.declared.status.Status.{Status}
-use Rattle.cxxabi_cmd.specs.declared.status.Status.TheVariants.{Usage, Limit, WriteFault}
+use Rattle.cxxabi_cmd.specs.declared.status.Status.TheVariants.{Done, Refused, BadInput, Usage, Undefined, OutOfSteps, Limit, ReadFault, WriteFault, NoMemory}
 use Rattle.cxxabi_streams.specs.Streams.{AddsFrontOf}
 use Rattle.cxxabi_cmd.specs.Commands.{input_of}
-use Rattle.cxxabi_cmd.specs.Output.{Output, usage, too_long, Answer, line_alone, WritesAnswer, BreaksOff, IsAnswerWritten}
+use Rattle.cxxabi_cmd.specs.Output.{Output, usage, too_long, Answer, line_alone, WritesAnswer, BreaksOff, IsAnswerWritten, IsSilent}
 use Rattle.cxxabi_cmd.specs.Handed.{SeenMachine, HandsOut}
 use Rattle.cxxabi_cmd.specs.invariants.Replies.{as_answer, machine_of, IsReadToLimit}
 
@@ -72,3 +72,20 @@ no_command found P Q is same = subst (λ o. MatchOption o P Q) same is
 
 pub the_command : {X : Type 0} (found : Option X) (x : X) (P : Type 0) (Q : X → Type 0) → MatchOption found P Q → found ≡ Some x → Q x
 the_command found x P Q is same = subst (λ o. MatchOption o P Q) same is
+
+-- an answer that is written is not silent
+written_is_told : (status : Status) → IsAnswerWritten status → IsSilent status → ⊥
+written_is_told Done written silent = silent
+written_is_told (Refused rule at) written silent = silent
+written_is_told (BadInput rule line) written silent = silent
+written_is_told Usage written silent = silent
+written_is_told (Undefined number line) written silent = silent
+written_is_told OutOfSteps written silent = silent
+written_is_told (Limit limit) written silent = silent
+written_is_told ReadFault written silent = written
+written_is_told WriteFault written silent = written
+written_is_told NoMemory written silent = written
+
+-- and neither is a fault of the sink
+pub written_or_broken_off : (result status : Status) → IsAnswerWritten status → (result ≡ status) ⊎ (result ≡ WriteFault) → IsSilent result → ⊥
+written_or_broken_off result status written either silent = ⊎_elim (λ same. written_is_told status written (subst IsSilent same silent)) (λ fault. subst IsSilent fault silent) either

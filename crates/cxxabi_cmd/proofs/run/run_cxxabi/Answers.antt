@@ -1,6 +1,6 @@
 use Rattle.std.proofs.Common.{string_bytes, map}
 use Rattle.cxxabi_cmd.specs.invariants.Replies.{as_answer}
-use Rattle.cxxabi_cmd.proofs.OutputLemmas.{answers, broken_off}
+use Rattle.cxxabi_cmd.proofs.OutputLemmas.{answers, broken_off, written_or_broken_off}
 use Rattle.cxxabi_cmd.proofs.run.run_cxxabi.Goals as goal
 
 pub returns-clause-answered : goal.returns-clause-answered
@@ -13,3 +13,9 @@ returns-clause-breaks_off g c = λ bytes told fault.
 
 pub returns-clause-last : goal.returns-clause-last
 returns-clause-last g c = λ bytes told loud. c.in-Ok.ensures.machine bytes told
+
+pub returns-clause-silent : goal.returns-clause-silent
+returns-clause-silent g c = λ silent. absurd (written_or_broken_off c.deliver-status.result c.in-Ok.reply.status c.in-Ok.ensures.answered c.deliver-status.ensures.either silent)
+
+pub returns-clause-no_machine : goal.returns-clause-no_machine
+returns-clause-no_machine g c = λ silent. absurd (written_or_broken_off c.deliver-status.result c.in-Ok.reply.status c.in-Ok.ensures.answered c.deliver-status.ensures.either silent)
