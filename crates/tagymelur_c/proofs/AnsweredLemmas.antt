@@ -1,6 +1,6 @@
 -- From what the program's call says of a sink to what stands in a buffer.
-use Rattle.std.proofs.Common.{◌≡◌, ℕ, ◌<◌, ◌⊎◌, inl, inr, Option, Some, None, List, [], ◌++◌, take, drop, length, refl, sym, ◌∙◌, ap, subst, arith}
-use Rattle.std.proofs.lemmas.List.{append_assoc, take-append-drop}
+use Rattle.std.proofs.Common.{◌≡◌, ℕ, ◌<◌, ◌≤◌, ◌⊎◌, inl, inr, Option, Some, None, List, [], ◌++◌, take, drop, length, refl, sym, ◌∙◌, ap, subst, arith}
+use Rattle.std.proofs.lemmas.List.{append_assoc, length-take, take-append-drop}
 use Rattle.cxxabi_cmd.specs.declared.status.Status.{Status}
 use Rattle.cxxabi_cmd.specs.declared.status.Status.TheVariants.{Done, Refused, BadInput, Usage, Undefined, OutOfSteps, Limit, ReadFault, WriteFault, NoMemory}
 use Rattle.cxxabi_streams.specs.Streams.{Rose}
@@ -119,3 +119,24 @@ code_of_no_fault NoMemory other = inr (omega arith)
 pub never_rose : Rose 0 0 → ⊥
 never_rose (inl more) = omega (arith, more)
 never_rose (inr last) = omega (arith, last)
+
+-- a code above 7 is that of a call without an answer
+silent_of : (status : Status) → 7 < exit_status status → IsSilent status
+silent_of Done high = absurd (omega (arith, high))
+silent_of (Refused rule at) high = absurd (omega (arith, high))
+silent_of (BadInput rule line) high = absurd (omega (arith, high))
+silent_of (Undefined number line) high = absurd (omega (arith, high))
+silent_of OutOfSteps high = absurd (omega (arith, high))
+silent_of (Limit limit) high = absurd (omega (arith, high))
+silent_of Usage high = absurd (omega (arith, high))
+silent_of ReadFault high = tt
+silent_of WriteFault high = absurd (omega (arith, high))
+silent_of NoMemory high = tt
+
+-- then the sink took nothing, and neither did the buffer
+pub nothing_written : (taken text : List ℕ) (before after : Option (List ℕ)) (status : Status) (written room : ℕ) → before ≡ Some [] → after ≡ Some taken → (IsSilent status → after ≡ before) → take written text ≡ taken → written ≤ room → length text ≡ room → 7 < exit_status status → written ≡ 0
+nothing_written taken text before after status written room b a silent whole fits long high =
+    let none : length taken ≡ 0 = ap length (same_list taken [] (sym a ∙ silent (silent_of status high) ∙ b)) in
+    let short : length (take written text) ≡ 0 = ap length whole ∙ none in
+    let many = length-take written text in
+    omega (arith, short, many, fits, long)

@@ -4,7 +4,7 @@ use Rattle.cxxabi_streams.specs.BytesStreams.{bytes_taken}
 use Rattle.cxxabi_cmd.specs.Statuses.{exit_status}
 use Rattle.tagymelur_c.specs.Words.{words_in}
 use Rattle.tagymelur_c.specs.Answered.{IsWhole, IsAnswerFront}
-use Rattle.tagymelur_c.proofs.AnsweredLemmas.{whole_of, front_of, front_of_fault, code_of_no_fault, never_rose}
+use Rattle.tagymelur_c.proofs.AnsweredLemmas.{whole_of, front_of, front_of_fault, code_of_no_fault, never_rose, nothing_written}
 use Rattle.tagymelur_c.proofs.tagymelur_answer.Goals as goal
 
 pub returns-then-put_front-clause-whole : goal.returns-then-put_front-clause-whole
@@ -38,3 +38,9 @@ pub returns-then-put_front-clause-no_fault : goal.returns-then-put_front-clause-
 returns-then-put_front-clause-no_fault c =
     subst (λ (code : ℕ). (code < 6) ⊎ (6 < code)) (sym c.code-then-put_front.ensures)
     (code_of_no_fault c.run_cxxabi-status.result (λ e. never_rose (c.run_cxxabi-status.ensures.read_fault e)))
+
+pub returns-then-put_front-clause-none : goal.returns-then-put_front-clause-none
+returns-then-put_front-clause-none g c =
+    nothing_written g.taken.result.now g.put_front.new.text _ _ g.run_cxxabi-status.result g.put_front.new.written _ (g.in-Ok-reserve.ensures.contents ∙ g.new-sink.ensures.contents) g.taken.ensures
+    (λ silent. ap (λ (sink : BytesSink). Some (bytes_taken sink)) (g.run_cxxabi-status.ensures.silent silent))
+    (g.if-put_front.ensures.whole refl) g.put_front.ensures.fits g.put_front.ensures.same_room (subst (λ (code : ℕ). 7 < code) g.code-then-put_front.ensures c)
