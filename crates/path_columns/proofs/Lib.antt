@@ -2,3 +2,4 @@ pub mod Paging
 pub mod Placing
 pub mod Listing
 pub mod Putting
+pub mod Halving

@@ -7,6 +7,7 @@ use Rattle.path_columns.proofs.pages.Pages.open.Goals as goal
 pub invariant_of-self : goal.invariant_of-self
 invariant_of-self c = record {
   paged = pages_same _ _ _ _ _ _ c.reach.ensures.same c.args.self.now.paged;
+  raised = pages_same _ _ _ _ _ _ c.reach.ensures.same c.args.self.now.raised;
   counted = c.args.self.now.counted ∙ sym (placed_same _ _ 2147483648 c.reach.ensures.same);
 }
 
@@ -18,7 +19,8 @@ invariant_of-self-2 c =
     let more = placed_opened _ _ c.args.page c.args.self.now.count 2147483648 opened c.requires in
     let before = c.args.self.now.counted in
     record {
-      paged = pages_opened _ _ c.args.self.now.entries.items 0 32 c.args.page c.args.self.now.count c.args.self.now.paged opened;
+      paged = pages_opened _ _ c.args.self.now.low.items 0 32 c.args.page c.args.self.now.count c.args.self.now.paged opened;
+      raised = pages_opened _ _ c.args.self.now.high.items 0 32 c.args.page c.args.self.now.count c.args.self.now.raised opened;
       counted = omega (arith, more, before);
     }
 
