@@ -26,7 +26,7 @@ use Rattle.path_heap.specs.declared.state.Value.TheVariants.{Unset as UnsetCode}
 use Rattle.path_heap.specs.declared.heap.Heap.{Heap}
 use Rattle.path_heap.specs.Blanks.{no_cell}
 use Rattle.path_heap.specs.Points.{Points, PointsLeaf}
-use Rattle.path_heap.specs.Running.{entry_in, entry_at, AreRunning, StackStands, ViewsStand}
+use Rattle.path_heap.specs.Running.{entry_in, entry_at, outer_at, AreRunning, StackStands, ViewsStand}
 use Rattle.path_heap.specs.Stands.{Means, CellStands, LeafStands, ObjectStands, HeapStands}
 use Rattle.path_heap.specs.invariants.Columns.{Made}
 use Rattle.path_heap.proofs.Sets.{get_longer}
@@ -146,16 +146,16 @@ views_made h heap new s stands c size start is did = record {
       (λ e. tt)
       (λ e. running_renewed s.phases.phase (length s.classes) k o (s.phases.running k o) e (stands.views.running k o));
   stacks = λ w at full.
-      subst (λ (t : List (Option ℕ)). StackStands h (s.classes ++ c ∷ []) t w.number w.part.object w.part.owner (entry_at new.parts.tops w.number) ((with_new_object s c).phases.running w.part.object w.part.owner)) (sym did.around)
-      (subst (λ (t : List (Option ℕ)). StackStands h (s.classes ++ c ∷ []) (heap.parts.around ++ replicate size None) w.number w.part.object w.part.owner (entry_at t w.number) ((with_new_object s c).phases.running w.part.object w.part.owner)) (sym did.tops)
+      subst (λ (t : List (Option ℕ)). StackStands h (s.classes ++ c ∷ []) t w.number w.part.object w.part.owner (outer_at w.number (entry_at new.parts.tops w.number)) ((with_new_object s c).phases.running w.part.object w.part.owner)) (sym did.around)
+      (subst (λ (t : List (Option ℕ)). StackStands h (s.classes ++ c ∷ []) (heap.parts.around ++ replicate size None) w.number w.part.object w.part.owner (outer_at w.number (entry_at t w.number)) ((with_new_object s c).phases.running w.part.object w.part.owner)) (sym did.tops)
       (⊎_elim
       (λ before.
       let lt : w.number < length heap.parts.tops = subst (λ m. w.number < m) (sym stands.counts.tops) (at_less h stands.hierarchy s.classes w before) in
-      subst (λ n. StackStands h (s.classes ++ c ∷ []) (heap.parts.around ++ replicate size None) w.number w.part.object w.part.owner n ((with_new_object s c).phases.running w.part.object w.part.owner)) (sym (ap entry_in (get_kept heap.parts.tops (replicate size None) w.number lt)))
-      (subst (λ (b : Bool). StackStands h (s.classes ++ c ∷ []) (heap.parts.around ++ replicate size None) w.number w.part.object w.part.owner (entry_at heap.parts.tops w.number) (if b then [] else s.phases.running w.part.object w.part.owner)) (sym (part_before h s.classes w before))
-      (stack_more h stands.hierarchy s.classes c heap.parts.around (replicate size None) stands.counts.around w.number w.part.object w.part.owner (entry_at heap.parts.tops w.number) (s.phases.running w.part.object w.part.owner) (stands.views.stacks w before full))))
+      subst (λ n. StackStands h (s.classes ++ c ∷ []) (heap.parts.around ++ replicate size None) w.number w.part.object w.part.owner (outer_at w.number n) ((with_new_object s c).phases.running w.part.object w.part.owner)) (sym (ap entry_in (get_kept heap.parts.tops (replicate size None) w.number lt)))
+      (subst (λ (b : Bool). StackStands h (s.classes ++ c ∷ []) (heap.parts.around ++ replicate size None) w.number w.part.object w.part.owner (outer_at w.number (entry_at heap.parts.tops w.number)) (if b then [] else s.phases.running w.part.object w.part.owner)) (sym (part_before h s.classes w before))
+      (stack_more h stands.hierarchy s.classes c heap.parts.around (replicate size None) stands.counts.around w.number w.part.object w.part.owner (outer_at w.number (entry_at heap.parts.tops w.number)) (s.phases.running w.part.object w.part.owner) (stands.views.stacks w before full))))
       (λ object.
-      subst (λ n. StackStands h (s.classes ++ c ∷ []) (heap.parts.around ++ replicate size None) w.number w.part.object w.part.owner n ((with_new_object s c).phases.running w.part.object w.part.owner)) (sym (ap entry_in (item_new h s.classes c heap.parts.tops None size w.number stands.counts.tops is (number_new h stands.hierarchy s.classes c w at object))))
+      subst (λ n. StackStands h (s.classes ++ c ∷ []) (heap.parts.around ++ replicate size None) w.number w.part.object w.part.owner (outer_at w.number n) ((with_new_object s c).phases.running w.part.object w.part.owner)) (sym (ap entry_in (item_new h s.classes c heap.parts.tops None size w.number stands.counts.tops is (number_new h stands.hierarchy s.classes c w at object))))
       (subst (λ (b : Bool). StackStands h (s.classes ++ c ∷ []) (heap.parts.around ++ replicate size None) w.number w.part.object w.part.owner None (if b then [] else s.phases.running w.part.object w.part.owner)) (sym (is_new_object w.part.object (length s.classes) object)) tt))
       (old_or_new h s.classes c w at)));
 }

@@ -29,7 +29,7 @@ use Rattle.path_heap.specs.declared.state.ObjectRow.{ObjectRow}
 use Rattle.path_heap.specs.declared.state.NumberedPart.{NumberedPart}
 use Rattle.path_heap.specs.declared.heap.Heap.{Heap}
 use Rattle.path_heap.specs.Points.{StandsForPart}
-use Rattle.path_heap.specs.Running.{entry_at, outer_at, ViewsStand}
+use Rattle.path_heap.specs.Running.{entry_at, ViewsStand}
 use Rattle.path_heap.specs.Stands.{phase_of, ObjectStands, HeapStands}
 use Rattle.path_heap.specs.invariants.Columns.{row_or, row_at, marked_cell, closed_row, Marked, Left, Closed}
 use Rattle.path_heap.specs.invariants.Cuts.{IsObjectAt}
@@ -52,9 +52,9 @@ leaves_with h heap mid new s stands code p r x top did marked last cells leaves 
     (leaves ∙ (marked.leaves ∙ did.leaves))
     objects objects_size
     (subst (λ (t : List (Option ℕ)). ViewsStand h s.classes (record { phase = put s.phases.phase p (phase_of x); running = popped s.phases.running p }) t last.parts.around) (sym tops)
-    (subst (λ (t : List (Option ℕ)). ViewsStand h s.classes (record { phase = put s.phases.phase p (phase_of x); running = popped s.phases.running p }) (slice_set heap.parts.tops code.whole (outer_at code.whole (entry_at heap.parts.around code.number))) t) (sym around)
+    (subst (λ (t : List (Option ℕ)). ViewsStand h s.classes (record { phase = put s.phases.phase p (phase_of x); running = popped s.phases.running p }) (slice_set heap.parts.tops code.whole (entry_at heap.parts.around code.number)) t) (sym around)
     (ends_stand h stands.hierarchy s.classes s.phases heap.parts.tops heap.parts.around stands.views code p r top (phase_of x) (whole_less h heap s stands code p r))))
-    (ap length tops ∙ length-set heap.parts.tops code.whole (outer_at code.whole (entry_at heap.parts.around code.number)))
+    (ap length tops ∙ length-set heap.parts.tops code.whole (entry_at heap.parts.around code.number))
     (ap length around)
 
 -- where no object is closed

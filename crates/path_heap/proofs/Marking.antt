@@ -1,9 +1,8 @@
 -- An event: the part takes a phase, the stack of its complete object changes, and nothing else does.
-use Rattle.std.proofs.Common.{◌≡◌, ℕ, ◌+◌, ◌-◌, ◌%◌, ◌^◌, ◌≤◌, ◌<◌, ⊎_elim, Bool, true, false, Option, Some, None, List, [], ◌∷◌, length, refl, ap, subst, sym, ◌∙◌, arith}
+use Rattle.std.proofs.Common.{◌≡◌, ℕ, ◌+◌, ◌-◌, ◌%◌, ◌^◌, ◌≤◌, ◌<◌, ⊎_elim, Bool, true, false, Option, Some, List, length, refl, ap, subst, sym, ◌∙◌, arith}
 use Rattle.std.specs.Prelude.{slice_get, slice_set}
 use Rattle.std.proofs.lemmas.List.{length-set}
 use Rattle.std.proofs.lemmas.Option.{slice_get_within}
-use Rattle.foundation.proofs.Truth.{not_both}
 use Rattle.foundation.proofs.Deciding.{decide_number}
 use Rattle.cxx_hierarchy.specs.declared.records.ClassId.{ClassId}
 use Rattle.cxx_hierarchy.specs.Classes.{Classes}
@@ -19,7 +18,6 @@ use Rattle.path_numbers.specs.Heap.{IsAt}
 use Rattle.path_numbers.proofs.Sized.{sizes_are}
 use Rattle.path_numbers.proofs.Intervals.{size_some, under_lies}
 use Rattle.path_numbers.proofs.Within.{part_at}
-use Rattle.path_numbers.proofs.Wholes.{one_whole}
 use Rattle.path_numbers.proofs.Heap.{at_good, at_range, heap_part, heap_number}
 use Rattle.path_model.specs.Values.{Objects}
 use Rattle.path_heap.specs.declared.state.Phase.{Phase}
@@ -28,12 +26,12 @@ use Rattle.path_heap.specs.declared.state.ObjectRow.{ObjectRow}
 use Rattle.path_heap.specs.declared.state.NumberedPart.{NumberedPart}
 use Rattle.path_heap.specs.declared.heap.Heap.{Heap}
 use Rattle.path_heap.specs.Points.{StandsForPart, HasOwner}
-use Rattle.path_heap.specs.Running.{entry_at, outer_at, AreRunning, StackStands, ViewsStand}
+use Rattle.path_heap.specs.Running.{entry_at, outer_at, ViewsStand}
 use Rattle.path_heap.specs.Stands.{phase_of, CellStands, ObjectStands, HeapStands}
-use Rattle.path_heap.specs.invariants.Columns.{back_to, marked_cell, Marked, Entered}
+use Rattle.path_heap.specs.invariants.Columns.{marked_cell, Marked, Entered}
 use Rattle.path_heap.proofs.Reaching.{at_below}
 use Rattle.path_heap.proofs.Sets.{set_same, set_other}
-use Rattle.path_heap.proofs.Viewing.{at_less, own_stack, begins_stand, stays_stand}
+use Rattle.path_heap.proofs.Viewing.{at_less, begins_stand, stays_stand}
 
 -- the objects with one part in another phase
 abbrev pub turned : Objects → ObjectPart → Plan.Phase → (ℕ → List Step → List Subobject) → (ℕ → Bool) → Objects
@@ -65,28 +63,16 @@ near h heap s stands code p r =
     let whole = r.owned.is_number in
     record { low = omega arith; high = omega arith }
 
--- the innermost part that runs stands near to its complete object too, so that how far it stands behind that tells its number
-top_kept : (h : Classes) (heap : Heap) (s : Objects) → HeapStands h heap s → (code : NumberedPart) (p : ObjectPart) → StandsForPart h s.classes code p → (n : Option ℕ) (xs : List Subobject) → AreRunning s.phases.phase p.object p.owner xs
-    → StackStands h s.classes heap.parts.around code.whole p.object p.owner n xs → outer_at code.whole (back_to code.whole n) ≡ n
-top_kept h heap s stands code p r None xs are on = refl
-top_kept h heap s stands code p r (Some n) [] are on = absurd on
-top_kept h heap s stands code p r (Some n) (x ∷ xs) are on =
-    let q = on.0 in
-    let y = q.node in
-    let d = stands.cells y q.at in
-    let own = d.owner (λ raw. let runs = ap (λ (t : ObjectPart). is_running (s.phases.phase t)) q.is_part ∙ are.0 in not_both runs (ap is_running raw)) in
-    let same = one_whole h (sizes_of h) stands.hierarchy s.classes own.node r.owned.node own.at r.owned.at own.full r.owned.full
-    (own.same_object ∙ (ap (λ (t : ObjectPart). t.object) q.is_part ∙ sym (r.owned.same_object ∙ ap (λ (t : ObjectPart). t.object) r.is_part)))
-    (own.same_owner ∙ (ap (λ (t : ObjectPart). t.owner) q.is_part ∙ sym (r.owned.same_owner ∙ ap (λ (t : ObjectPart). t.owner) r.is_part))) in
-    let whole : y.number - d.cell.back ≡ code.whole = sym own.is_number ∙ (ap (λ (t : Node). t.number) same ∙ r.owned.is_number) in
-    let by = near h heap s stands (record { number = n; whole = y.number - d.cell.back; class = y.class; owner = d.cell.owner }) (part p.object p.owner x)
-    (record { node = y; at = q.at; is_part = q.is_part; is_number = q.is_number; is_class = refl; owned = own }) in
-    let low : code.whole ≤ n = subst (λ k. k ≤ n) whole by.low in
-    let high : n < code.whole + 2 ^ 16 = subst (λ k. n < k + 2 ^ 16) whole by.high in
-    let fits = at_less h stands.hierarchy s.classes y q.at in
+-- how far a part stands behind its complete object tells its number
+number_kept : (h : Classes) (heap : Heap) (s : Objects) → HeapStands h heap s → (code : NumberedPart) (p : ObjectPart) → StandsForPart h s.classes code p → outer_at code.whole (Some ((code.number - code.whole) % 2 ^ 16)) ≡ Some code.number
+number_kept h heap s stands code p r =
+    let by = near h heap s stands code p r in
+    let low = by.low in
+    let high = by.high in
+    let fits = at_less h stands.hierarchy s.classes r.node r.at in
     let few = stands.counts.few in
-    let is = q.is_number in
-    let same_number : (code.whole + (n - code.whole) % 2 ^ 16) % 2 ^ 64 ≡ n = omega arith in
+    let is = r.is_number in
+    let same_number : (code.whole + (code.number - code.whole) % 2 ^ 16) % 2 ^ 64 ≡ code.number = omega arith in
     ap Some same_number
 
 -- the column of cells
@@ -172,10 +158,10 @@ enters h heap mid new s stands code p r x idle runs did marked =
     (marked.leaves ∙ did.leaves)
     (same_rows h heap s stands p (phase_of x) (with_pushed_part s.phases.running p) new.objects.items (marked.objects ∙ did.objects)) (ap length (marked.objects ∙ did.objects))
     (subst (λ (t : List (Option ℕ)). ViewsStand h s.classes (record { phase = put s.phases.phase p (phase_of x); running = with_pushed_part s.phases.running p }) t new.parts.around) (sym tops)
-    (subst (λ (t : List (Option ℕ)). ViewsStand h s.classes (record { phase = put s.phases.phase p (phase_of x); running = with_pushed_part s.phases.running p }) (slice_set heap.parts.tops code.whole (Some code.number)) t) (sym around)
-    (begins_stand h stands.hierarchy s.classes s.phases heap.parts.tops heap.parts.around stands.views code p r idle (phase_of x) runs (top_kept h heap s stands code p r (entry_at heap.parts.tops code.whole) (s.phases.running p.object p.owner) (stands.views.running p.object p.owner) (own_stack h s.classes s.phases heap.parts.tops heap.parts.around stands.views code p r)) (whole_less h heap s stands code p r) (number_less h heap s stands code p r))))
-    (ap length tops ∙ length-set heap.parts.tops code.whole (Some code.number))
-    (ap length around ∙ length-set heap.parts.around code.number (back_to code.whole (entry_at heap.parts.tops code.whole)))
+    (subst (λ (t : List (Option ℕ)). ViewsStand h s.classes (record { phase = put s.phases.phase p (phase_of x); running = with_pushed_part s.phases.running p }) (slice_set heap.parts.tops code.whole (Some ((code.number - code.whole) % 2 ^ 16))) t) (sym around)
+    (begins_stand h stands.hierarchy s.classes s.phases heap.parts.tops heap.parts.around stands.views code p r idle (phase_of x) runs (number_kept h heap s stands code p r) (whole_less h heap s stands code p r) (number_less h heap s stands code p r))))
+    (ap length tops ∙ length-set heap.parts.tops code.whole (Some ((code.number - code.whole) % 2 ^ 16)))
+    (ap length around ∙ length-set heap.parts.around code.number (entry_at heap.parts.tops code.whole))
 
 -- it goes on
 pub stays : (h : Classes) (heap new : Heap) (s : Objects) → HeapStands h heap s → (code : NumberedPart) (p : ObjectPart) → StandsForPart h s.classes code p → (x : Phase) → is_running (phase_of x) ≡ true

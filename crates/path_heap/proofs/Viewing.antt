@@ -1,5 +1,5 @@
 -- What begins to run is the innermost part of its complete object, and what ends gives back the one around it.
-use Rattle.std.proofs.Common.{◌≡◌, ℕ, ◌<◌, ◌≤◌, ◌+◌, ◌⊎◌, inl, inr, ⊎_elim, true, false, Option, Some, None, List, [], ◌∷◌, length, refl, ap, subst, sym, ◌∙◌, arith}
+use Rattle.std.proofs.Common.{◌≡◌, ℕ, ◌<◌, ◌≤◌, ◌+◌, ◌⊎◌, inl, inr, ⊎_elim, true, false, Option, Some, None, List, [], ◌∷◌, length, refl, ap, subst, sym, ◌∙◌, arith, ◌-◌, ◌%◌, ◌^◌}
 use Rattle.std.specs.Prelude.{slice_set}
 use Rattle.foundation.proofs.Truth.{not_both}
 use Rattle.foundation.proofs.Members.{Has, has_from_contains, contains_from_has}
@@ -22,7 +22,6 @@ use Rattle.path_numbers.proofs.Wholes.{one_whole}
 use Rattle.path_heap.specs.declared.state.NumberedPart.{NumberedPart}
 use Rattle.path_heap.specs.Points.{Points, StandsForPart}
 use Rattle.path_heap.specs.Running.{entry_in, entry_at, outer_at, AreRunning, StackStands, ViewsStand}
-use Rattle.path_heap.specs.invariants.Columns.{back_to}
 use Rattle.path_heap.proofs.Sets.{set_same, set_other}
 
 -- what is listed as running runs
@@ -115,24 +114,24 @@ at_less h keeps classes y at =
 
 -- the old stack of the part's complete object
 pub own_stack : (h : Classes) (classes : List ClassId) (phases : Phases) (tops around : List (Option ℕ)) → ViewsStand h classes phases tops around → (code : NumberedPart) (p : ObjectPart) → StandsForPart h classes code p
-    → StackStands h classes around code.whole p.object p.owner (entry_at tops code.whole) (phases.running p.object p.owner)
+    → StackStands h classes around code.whole p.object p.owner (outer_at code.whole (entry_at tops code.whole)) (phases.running p.object p.owner)
 own_stack h classes phases tops around v code p r =
-    subst (λ n. StackStands h classes around n p.object p.owner (entry_at tops n) (phases.running p.object p.owner)) r.owned.is_number
-    (subst (λ o. StackStands h classes around r.owned.node.number p.object o (entry_at tops r.owned.node.number) (phases.running p.object o)) (owner_of h classes code p r)
-    (subst (λ k. StackStands h classes around r.owned.node.number k r.owned.node.part.owner (entry_at tops r.owned.node.number) (phases.running k r.owned.node.part.owner)) (object_of h classes code p r)
+    subst (λ n. StackStands h classes around n p.object p.owner (outer_at n (entry_at tops n)) (phases.running p.object p.owner)) r.owned.is_number
+    (subst (λ o. StackStands h classes around r.owned.node.number p.object o (outer_at r.owned.node.number (entry_at tops r.owned.node.number)) (phases.running p.object o)) (owner_of h classes code p r)
+    (subst (λ k. StackStands h classes around r.owned.node.number k r.owned.node.part.owner (outer_at r.owned.node.number (entry_at tops r.owned.node.number)) (phases.running k r.owned.node.part.owner)) (object_of h classes code p r)
     (v.stacks r.owned.node r.owned.at r.owned.full)))
 
 -- the new one, as one of the node
 own_back : (h : Classes) (classes : List ClassId) (running : ℕ → List Step → List Subobject) (tops around : List (Option ℕ)) (code : NumberedPart) (p : ObjectPart) → (r : StandsForPart h classes code p)
-    → StackStands h classes around code.whole p.object p.owner (entry_at tops code.whole) (running p.object p.owner) → StackStands h classes around r.owned.node.number r.owned.node.part.object r.owned.node.part.owner (entry_at tops r.owned.node.number) (running r.owned.node.part.object r.owned.node.part.owner)
+    → StackStands h classes around code.whole p.object p.owner (outer_at code.whole (entry_at tops code.whole)) (running p.object p.owner) → StackStands h classes around r.owned.node.number r.owned.node.part.object r.owned.node.part.owner (outer_at r.owned.node.number (entry_at tops r.owned.node.number)) (running r.owned.node.part.object r.owned.node.part.owner)
 own_back h classes running tops around code p r s =
-    subst (λ k. StackStands h classes around r.owned.node.number k r.owned.node.part.owner (entry_at tops r.owned.node.number) (running k r.owned.node.part.owner)) (sym (object_of h classes code p r))
-    (subst (λ o. StackStands h classes around r.owned.node.number p.object o (entry_at tops r.owned.node.number) (running p.object o)) (sym (owner_of h classes code p r))
-    (subst (λ n. StackStands h classes around n p.object p.owner (entry_at tops n) (running p.object p.owner)) (sym r.owned.is_number) s))
+    subst (λ k. StackStands h classes around r.owned.node.number k r.owned.node.part.owner (outer_at r.owned.node.number (entry_at tops r.owned.node.number)) (running k r.owned.node.part.owner)) (sym (object_of h classes code p r))
+    (subst (λ o. StackStands h classes around r.owned.node.number p.object o (outer_at r.owned.node.number (entry_at tops r.owned.node.number)) (running p.object o)) (sym (owner_of h classes code p r))
+    (subst (λ n. StackStands h classes around n p.object p.owner (outer_at n (entry_at tops n)) (running p.object p.owner)) (sym r.owned.is_number) s))
 
 pub begins_stand : (h : Classes) → IsHierarchy h → (classes : List ClassId) (phases : Phases) (tops around : List (Option ℕ)) → ViewsStand h classes phases tops around → (code : NumberedPart) (p : ObjectPart) → StandsForPart h classes code p
-    → is_running (phases.phase p) ≡ false → (v : Phase) → is_running v ≡ true → outer_at code.whole (back_to code.whole (entry_at tops code.whole)) ≡ entry_at tops code.whole → code.whole < length tops → code.number < length around
-    → ViewsStand h classes (record { phase = put phases.phase p v; running = with_pushed_part phases.running p }) (slice_set tops code.whole (Some code.number)) (slice_set around code.number (back_to code.whole (entry_at tops code.whole)))
+    → is_running (phases.phase p) ≡ false → (v : Phase) → is_running v ≡ true → outer_at code.whole (Some ((code.number - code.whole) % 2 ^ 16)) ≡ Some code.number → code.whole < length tops → code.number < length around
+    → ViewsStand h classes (record { phase = put phases.phase p v; running = with_pushed_part phases.running p }) (slice_set tops code.whole (Some ((code.number - code.whole) % 2 ^ 16))) (slice_set around code.number (entry_at tops code.whole))
 begins_stand h keeps classes phases tops around views code p r idle v runs kept lt less = record {
   running = λ k o. ⊎_elim
       (λ own. subst (λ j. AreRunning (put phases.phase p v) j o (with_pushed_part phases.running p j o)) own.object
@@ -146,24 +145,24 @@ begins_stand h keeps classes phases tops around views code p r idle v runs kept 
       (running_other phases.phase p v k o (phases.running k o) (λ x has e. other (part_owns p k o x e)) (views.running k o)))
       (owner_cases p k o);
   stacks = λ w at full. ⊎_elim
-      (λ e. subst (λ (t : Node). StackStands h classes (slice_set around code.number (back_to code.whole (entry_at tops code.whole))) t.number t.part.object t.part.owner (entry_at (slice_set tops code.whole (Some code.number)) t.number) (with_pushed_part phases.running p t.part.object t.part.owner)) e
-      (own_back h classes (with_pushed_part phases.running p) (slice_set tops code.whole (Some code.number)) (slice_set around code.number (back_to code.whole (entry_at tops code.whole))) code p r
-      (subst (λ n. StackStands h classes (slice_set around code.number (back_to code.whole (entry_at tops code.whole))) code.whole p.object p.owner n (with_pushed_part phases.running p p.object p.owner)) (sym (ap entry_in (set_same tops code.whole (Some code.number) lt)))
-      (subst (λ (t : List Subobject). StackStands h classes (slice_set around code.number (back_to code.whole (entry_at tops code.whole))) code.whole p.object p.owner (Some code.number) t) (sym (pushed_same phases.running p)) (
+      (λ e. subst (λ (t : Node). StackStands h classes (slice_set around code.number (entry_at tops code.whole)) t.number t.part.object t.part.owner (outer_at t.number (entry_at (slice_set tops code.whole (Some ((code.number - code.whole) % 2 ^ 16))) t.number)) (with_pushed_part phases.running p t.part.object t.part.owner)) e
+      (own_back h classes (with_pushed_part phases.running p) (slice_set tops code.whole (Some ((code.number - code.whole) % 2 ^ 16))) (slice_set around code.number (entry_at tops code.whole)) code p r
+      (subst (λ n. StackStands h classes (slice_set around code.number (entry_at tops code.whole)) code.whole p.object p.owner (outer_at code.whole n) (with_pushed_part phases.running p p.object p.owner)) (sym (ap entry_in (set_same tops code.whole (Some ((code.number - code.whole) % 2 ^ 16)) lt)))
+      (subst (λ n. StackStands h classes (slice_set around code.number (entry_at tops code.whole)) code.whole p.object p.owner n (with_pushed_part phases.running p p.object p.owner)) (sym kept)
+      (subst (λ (t : List Subobject). StackStands h classes (slice_set around code.number (entry_at tops code.whole)) code.whole p.object p.owner (Some code.number) t) (sym (pushed_same phases.running p)) (
         points_of h classes code p r,
-        subst (λ n. StackStands h classes (slice_set around code.number (back_to code.whole (entry_at tops code.whole))) code.whole p.object p.owner (outer_at code.whole n) (phases.running p.object p.owner)) (sym (ap entry_in (set_same around code.number (back_to code.whole (entry_at tops code.whole)) less)))
-            (subst (λ n. StackStands h classes (slice_set around code.number (back_to code.whole (entry_at tops code.whole))) code.whole p.object p.owner n (phases.running p.object p.owner)) (sym kept)
-            (stack_other h keeps classes around code.number (back_to code.whole (entry_at tops code.whole)) p (points_of h classes code p r) code.whole p.object p.owner (entry_at tops code.whole) (phases.running p.object p.owner) (unlisted phases.phase p (phases.running p.object p.owner) (views.running p.object p.owner) idle) (own_stack h classes phases tops around views code p r))),
-      )))))
-      (λ a. subst (λ n. StackStands h classes (slice_set around code.number (back_to code.whole (entry_at tops code.whole))) w.number w.part.object w.part.owner n (with_pushed_part phases.running p w.part.object w.part.owner)) (sym (ap entry_in (set_other tops code.whole w.number (Some code.number) a.1)))
-      (subst (λ (t : List Subobject). StackStands h classes (slice_set around code.number (back_to code.whole (entry_at tops code.whole))) w.number w.part.object w.part.owner (entry_at tops w.number) t) (sym (pushed_other phases.running p w.part.object w.part.owner a.0))
-      (stack_other h keeps classes around code.number (back_to code.whole (entry_at tops code.whole)) p (points_of h classes code p r) w.number w.part.object w.part.owner (entry_at tops w.number) (phases.running w.part.object w.part.owner) (λ x has e. a.0 (part_owns p w.part.object w.part.owner x e)) (views.stacks w at full))))
+        subst (λ n. StackStands h classes (slice_set around code.number (entry_at tops code.whole)) code.whole p.object p.owner (outer_at code.whole n) (phases.running p.object p.owner)) (sym (ap entry_in (set_same around code.number (entry_at tops code.whole) less)))
+            (stack_other h keeps classes around code.number (entry_at tops code.whole) p (points_of h classes code p r) code.whole p.object p.owner (outer_at code.whole (entry_at tops code.whole)) (phases.running p.object p.owner) (unlisted phases.phase p (phases.running p.object p.owner) (views.running p.object p.owner) idle) (own_stack h classes phases tops around views code p r)),
+      ))))))
+      (λ a. subst (λ n. StackStands h classes (slice_set around code.number (entry_at tops code.whole)) w.number w.part.object w.part.owner (outer_at w.number n) (with_pushed_part phases.running p w.part.object w.part.owner)) (sym (ap entry_in (set_other tops code.whole w.number (Some ((code.number - code.whole) % 2 ^ 16)) a.1)))
+      (subst (λ (t : List Subobject). StackStands h classes (slice_set around code.number (entry_at tops code.whole)) w.number w.part.object w.part.owner (outer_at w.number (entry_at tops w.number)) t) (sym (pushed_other phases.running p w.part.object w.part.owner a.0))
+      (stack_other h keeps classes around code.number (entry_at tops code.whole) p (points_of h classes code p r) w.number w.part.object w.part.owner (outer_at w.number (entry_at tops w.number)) (phases.running w.part.object w.part.owner) (λ x has e. a.0 (part_owns p w.part.object w.part.owner x e)) (views.stacks w at full))))
       (whole_cases h keeps classes code p r w at full);
 }
 
 pub ends_stand : (h : Classes) → IsHierarchy h → (classes : List ClassId) (phases : Phases) (tops around : List (Option ℕ)) → ViewsStand h classes phases tops around → (code : NumberedPart) (p : ObjectPart) → StandsForPart h classes code p
     → IsOnTop phases p → (v : Phase) → code.whole < length tops
-    → ViewsStand h classes (record { phase = put phases.phase p v; running = popped phases.running p }) (slice_set tops code.whole (outer_at code.whole (entry_at around code.number))) around
+    → ViewsStand h classes (record { phase = put phases.phase p v; running = popped phases.running p }) (slice_set tops code.whole (entry_at around code.number)) around
 ends_stand h keeps classes phases tops around views code p r top v lt = record {
   running = λ k o. ⊎_elim
       (λ own. subst (λ j. AreRunning (put phases.phase p v) j o (popped phases.running p j o)) own.object
@@ -175,13 +174,13 @@ ends_stand h keeps classes phases tops around views code p r top v lt = record {
       (running_other phases.phase p v k o (phases.running k o) (λ x has e. other (part_owns p k o x e)) (views.running k o)))
       (owner_cases p k o);
   stacks = λ w at full. ⊎_elim
-      (λ e. subst (λ (t : Node). StackStands h classes around t.number t.part.object t.part.owner (entry_at (slice_set tops code.whole (outer_at code.whole (entry_at around code.number))) t.number) (popped phases.running p t.part.object t.part.owner)) e
-      (own_back h classes (popped phases.running p) (slice_set tops code.whole (outer_at code.whole (entry_at around code.number))) around code p r
-      (subst (λ n. StackStands h classes around code.whole p.object p.owner n (popped phases.running p p.object p.owner)) (sym (ap entry_in (set_same tops code.whole (outer_at code.whole (entry_at around code.number)) lt)))
+      (λ e. subst (λ (t : Node). StackStands h classes around t.number t.part.object t.part.owner (outer_at t.number (entry_at (slice_set tops code.whole (entry_at around code.number)) t.number)) (popped phases.running p t.part.object t.part.owner)) e
+      (own_back h classes (popped phases.running p) (slice_set tops code.whole (entry_at around code.number)) around code p r
+      (subst (λ n. StackStands h classes around code.whole p.object p.owner (outer_at code.whole n) (popped phases.running p p.object p.owner)) (sym (ap entry_in (set_same tops code.whole (entry_at around code.number) lt)))
       (subst (λ (t : List Subobject). StackStands h classes around code.whole p.object p.owner (outer_at code.whole (entry_at around code.number)) t) (sym (popped_same phases.running p))
-      (stack_rest h keeps classes around code.number p (points_of h classes code p r) code.whole (entry_at tops code.whole) (phases.running p.object p.owner) top (own_stack h classes phases tops around views code p r))))))
-      (λ a. subst (λ n. StackStands h classes around w.number w.part.object w.part.owner n (popped phases.running p w.part.object w.part.owner)) (sym (ap entry_in (set_other tops code.whole w.number (outer_at code.whole (entry_at around code.number)) a.1)))
-      (subst (λ (t : List Subobject). StackStands h classes around w.number w.part.object w.part.owner (entry_at tops w.number) t) (sym (popped_other phases.running p w.part.object w.part.owner a.0))
+      (stack_rest h keeps classes around code.number p (points_of h classes code p r) code.whole (outer_at code.whole (entry_at tops code.whole)) (phases.running p.object p.owner) top (own_stack h classes phases tops around views code p r))))))
+      (λ a. subst (λ n. StackStands h classes around w.number w.part.object w.part.owner (outer_at w.number n) (popped phases.running p w.part.object w.part.owner)) (sym (ap entry_in (set_other tops code.whole w.number (entry_at around code.number) a.1)))
+      (subst (λ (t : List Subobject). StackStands h classes around w.number w.part.object w.part.owner (outer_at w.number (entry_at tops w.number)) t) (sym (popped_other phases.running p w.part.object w.part.owner a.0))
       (views.stacks w at full)))
       (whole_cases h keeps classes code p r w at full);
 }

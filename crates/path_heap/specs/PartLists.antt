@@ -2,7 +2,7 @@
 use Rattle.std.specs.Prelude.{◌≡◌, ℕ, Option, List, length}
 use Rattle.path_heap.specs.declared.state.Cell.{Cell}
 
--- the cell of each part, of a complete object the innermost part that runs, and of a part that runs how far behind its complete object the one around it stands
+-- the cell of each part, and how far parts stand behind their complete object: of a complete object its innermost part that runs, and of a part that runs the one around it
 pub record PartLists : Type 0 where
   pub cells : List Cell
   pub tops : List (Option ℕ)

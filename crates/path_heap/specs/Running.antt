@@ -36,8 +36,8 @@ StackStands h classes around whole k o None (x ∷ xs) = ⊥
 StackStands h classes around whole k o (Some n) [] = ⊥
 StackStands h classes around whole k o (Some n) (x ∷ xs) = Points h classes n (part k o x) × StackStands h classes around whole k o (outer_at whole (entry_at around n)) xs
 
--- the innermost running part by the number of its complete object, and of each running part the one that ran when it began
+-- how far the innermost running part stands behind its complete object, and of each running part how far the one that ran when it began
 pub record ViewsStand (h : Classes) (classes : List ClassId) (phases : Phases) (tops around : List (Option ℕ)) : Type 0 where
   pub running : (k : ℕ) (o : List Step) → AreRunning phases.phase k o (phases.running k o)
   pub stacks : (w : Node) → IsAt h (sizes_of h) classes w → w.form ≡ InFull
-      → StackStands h classes around w.number w.part.object w.part.owner (entry_at tops w.number) (phases.running w.part.object w.part.owner)
+      → StackStands h classes around w.number w.part.object w.part.owner (outer_at w.number (entry_at tops w.number)) (phases.running w.part.object w.part.owner)

@@ -9,13 +9,13 @@ ghost use Rattle.path_plan.specs.Views.{Fits};
 ghost use Rattle.path_model.specs.Values.{Objects};
 ghost use Rattle.path_model.specs.Steps.{objects_after};
 ghost use Rattle.path_heap.specs.Points.{StandsForPart};
-ghost use Rattle.path_heap.specs.Running.{entry_at, outer_at};
+ghost use Rattle.path_heap.specs.Running.{entry_at};
 ghost use Rattle.path_heap.specs.Stands.{HeapStands};
 ghost use Rattle.path_heap.specs.invariants.Columns.{Marked, Entered, Left, Closed};
 
 use crate::heap::Heap;
 use crate::lists::set;
-use crate::parts::{back_of, back_to, outer_at};
+use crate::parts::back_of;
 use crate::state::{Cell, NumberedPart, ObjectRow, Phase};
 use foundation::NoMemory;
 
@@ -39,9 +39,9 @@ impl Heap {
         ensures { IfOk result (λ _. Entered self.old self.new part) }
     {
         let outer = self.top(part.whole);
-        self.parts
-            .set_around(part.number, back_to(part.whole, outer))?;
-        self.parts.set_top(part.whole, Some(part.number))?;
+        let back = back_of(part.number, part.whole);
+        self.parts.set_around(part.number, outer)?;
+        self.parts.set_top(part.whole, Some(back))?;
         Ok(())
     }
 
@@ -52,18 +52,11 @@ impl Heap {
         self.parts.around(n)
     }
 
-    /// The part that was the innermost one when this one began.
-    fn outer(&self, part: NumberedPart) -> Option<u64>
-        ensures { result ≡ outer_at part.whole (entry_at self.now.parts.around part.number) }
-    {
-        outer_at(part.whole, self.back_around(part.number))
-    }
-
     /// The one around it is.
     fn leave(&mut self, part: NumberedPart) -> Result<(), NoMemory>
         ensures { IfOk result (λ _. Left self.old self.new part) }
     {
-        let outer = self.outer(part);
+        let outer = self.back_around(part.number);
         self.parts.set_top(part.whole, outer)?;
         Ok(())
     }

@@ -14,14 +14,14 @@ use path_columns::Column;
 use std::alloc::Global;
 use std::marker::Model;
 
-/// What is kept of a part. It has 32 bytes.
+/// What is kept of a part. It has 20 bytes.
 #[derive(Clone, Copy)]
 pub struct PartRow {
     pub cell: Cell,
     /// Of a part that runs, how far behind its complete object the part stands that was the innermost one of it before.
     pub around: Option<u16>,
-    /// Of a complete object, the innermost part that runs.
-    pub top: Option<u64>,
+    /// Of a complete object, how far behind it the innermost part stands that runs.
+    pub top: Option<u16>,
 }
 
 /// The row of a part that has not begun.
@@ -72,8 +72,8 @@ impl PartRows {
         self.rows.get(n).cell
     }
 
-    /// The innermost part that runs in a complete object.
-    pub fn top(&self, n: u64) -> Option<u64>
+    /// How far behind a complete object the innermost part of it stands that runs.
+    pub fn top(&self, n: u64) -> Option<u16>
         ensures { result ≡ entry_at self.now.tops n }
     {
         self.rows.get(n).top
@@ -103,8 +103,8 @@ impl PartRows {
         Ok(())
     }
 
-    /// Sets the innermost part; past the end nothing changes. Errors: want of memory.
-    pub fn set_top(&mut self, n: u64, top: Option<u64>) -> Result<(), NoMemory>
+    /// Sets how far the innermost part stands; past the end nothing changes. Errors: want of memory.
+    pub fn set_top(&mut self, n: u64, top: Option<u16>) -> Result<(), NoMemory>
         ensures long { AreAsLong self.old self.new }
         ensures cells { IfOk result (λ _. self.new.cells ≡ self.old.cells) }
         ensures tops { IfOk result (λ _. self.new.tops ≡ slice_set self.old.tops n top) }

@@ -7,7 +7,6 @@ ghost use Rattle.cxx_hierarchy.specs.Hierarchies.{IsHierarchy};
 ghost use Rattle.path_plan.specs.Whole.{whole_part};
 ghost use Rattle.path_heap.specs.Points.{Points, StandsForPart};
 ghost use Rattle.path_heap.specs.Running.{outer_at};
-ghost use Rattle.path_heap.specs.invariants.Columns.{back_to};
 
 use crate::state::NumberedPart;
 use cxx_hierarchy::ClassId;
@@ -20,16 +19,6 @@ pub(crate) fn back_of(number: u64, whole: u64) -> u16
     ensures { result ≡ (number - whole) % 2 ^ 16 }
 {
     (number.saturating_sub(whole) % TURN) as u16
-}
-
-/// The same of a part that may be there.
-pub(crate) fn back_to(whole: u64, part: Option<u64>) -> Option<u16>
-    ensures { result ≡ back_to whole part }
-{
-    match part {
-        None => None,
-        Some(number) => Some(back_of(number, whole)),
-    }
 }
 
 /// The number of a part that may stand so far behind its complete object.

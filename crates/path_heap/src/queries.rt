@@ -17,7 +17,7 @@ ghost use Rattle.path_heap.specs.invariants.Cuts.{IsObjectAt};
 
 use crate::heap::Heap;
 use crate::lists::object_at;
-use crate::parts::whole_behind;
+use crate::parts::{outer_at, whole_behind};
 use crate::state::{Cell, NumberedPart, ObjectRow, Phase};
 use cxx_hierarchy::ClassId;
 
@@ -29,8 +29,8 @@ impl Heap {
         self.parts.cell(n)
     }
 
-    /// The innermost part that runs in a complete object.
-    pub(crate) fn top(&self, n: u64) -> Option<u64>
+    /// How far behind a complete object the innermost part of it stands that runs.
+    pub(crate) fn top(&self, n: u64) -> Option<u16>
         ensures { result ≡ entry_at self.now.parts.tops n }
     {
         self.parts.top(n)
@@ -148,7 +148,11 @@ impl Heap {
     {
         let own = self.cell(n);
         let whole = whole_behind(n, own.back);
-        view_of_whole(self.cell(whole).phase, whole, self.top(whole))
+        view_of_whole(
+            self.cell(whole).phase,
+            whole,
+            outer_at(whole, self.top(whole)),
+        )
     }
 }
 

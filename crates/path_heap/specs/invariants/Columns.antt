@@ -11,7 +11,7 @@ use Rattle.path_heap.specs.declared.state.ObjectRow.{ObjectRow}
 use Rattle.path_heap.specs.declared.state.NumberedPart.{NumberedPart}
 use Rattle.path_heap.specs.declared.heap.Heap.{Heap}
 use Rattle.path_heap.specs.Blanks.{no_cell}
-use Rattle.path_heap.specs.Running.{entry_at, outer_at}
+use Rattle.path_heap.specs.Running.{entry_at}
 use Rattle.path_heap.specs.invariants.Cuts.{IsObjectAt}
 
 abbrev pub cell_or : Option Cell → Cell
@@ -56,25 +56,20 @@ pub record Marked (old new : Heap) (part : NumberedPart) (phase : Phase) : Type 
   pub tops : new.parts.tops ≡ old.parts.tops
   pub around : new.parts.around ≡ old.parts.around
 
--- how far behind its complete object a part stands that may be there
-abbrev pub back_to : (whole : ℕ) → Option ℕ → Option ℕ
-back_to whole None = None
-back_to whole (Some n) = Some ((n - whole) % 2 ^ 16)
-
 -- the part is the innermost one of its complete object
 pub record Entered (old new : Heap) (part : NumberedPart) : Type 0 where
   pub cells : new.parts.cells ≡ old.parts.cells
   pub leaves : new.leaves.items ≡ old.leaves.items
   pub objects : new.objects.items ≡ old.objects.items
-  pub tops : new.parts.tops ≡ slice_set old.parts.tops part.whole (Some part.number)
-  pub around : new.parts.around ≡ slice_set old.parts.around part.number (back_to part.whole (entry_at old.parts.tops part.whole))
+  pub tops : new.parts.tops ≡ slice_set old.parts.tops part.whole (Some ((part.number - part.whole) % 2 ^ 16))
+  pub around : new.parts.around ≡ slice_set old.parts.around part.number (entry_at old.parts.tops part.whole)
 
 -- the one around it is
 pub record Left (old new : Heap) (part : NumberedPart) : Type 0 where
   pub cells : new.parts.cells ≡ old.parts.cells
   pub leaves : new.leaves.items ≡ old.leaves.items
   pub objects : new.objects.items ≡ old.objects.items
-  pub tops : new.parts.tops ≡ slice_set old.parts.tops part.whole (outer_at part.whole (entry_at old.parts.around part.number))
+  pub tops : new.parts.tops ≡ slice_set old.parts.tops part.whole (entry_at old.parts.around part.number)
   pub around : new.parts.around ≡ old.parts.around
 
 -- one leaf has another value, and nothing else has changed
