@@ -1,4 +1,5 @@
 pub mod Changed
-mod ObjectLemmas
-mod ShortLemmas
+mod ListLemmas
+mod MapLemmas
 mod NoteLemmas
+mod ViewLemmas

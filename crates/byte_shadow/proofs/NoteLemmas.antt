@@ -1,21 +1,15 @@
--- How the notes go along with the entries of the maps.
-use Rattle.std.proofs.Common.{◌≡◌, ℕ, Bool, true, false, Option, Some, None, List, [], ◌∷◌, ◌++◌, refl, ap, ◌∙◌, sym}
+-- How what a shadow notes goes along with its notes and its views.
+use Rattle.std.proofs.Common.{◌≡◌, ℕ, Bool, true, false, Option, Some, None, refl, ap, ◌∙◌, sym}
 use Rattle.std.specs.Prelude.{nat_eq, ◌&&◌, if◌then◌else◌, is_some}
-use Rattle.std.specs.List.{find}
 use Rattle.byte_code.specs.declared.op.Phase.{Phase}
 use Rattle.byte_code.specs.declared.op.Phase.TheVariants.{Raw}
 use Rattle.byte_shadow.specs.declared.note.Note.{Note}
-use Rattle.foundation.proofs.Chosen.{find_passes}
-use Rattle.indexmap.specs.IndexMap.{get_by}
-use Rattle.byte_shadow.specs.declared.objects.CompleteObject.{CompleteObject}
 use Rattle.byte_shadow.specs.declared.note.Place.{Place}
 use Rattle.byte_shadow.specs.declared.shadow.Viewed.{Viewed}
 use Rattle.byte_shadow.specs.declared.shadow.Shadow.{Shadow}
 use Rattle.byte_shadow.specs.Shadows.{Notes, put_at, noted_raw, phased, viewed}
-use Rattle.byte_shadow.specs.Meaning.{same_place, shadow_place, object_note, note_beside, note_of, view_beside, mapped_view, noted_view, note_phase, note_owner, is_own_view, kept_view, shadow_view, mapped_note, marked_note, phased_note, IsNoteChanged, IsMarked, IsLastKept, notes_of}
-use Rattle.byte_shadow.specs.Objects.{is_object_of, IsObjectChanged}
+use Rattle.byte_shadow.specs.Meaning.{shadow_place, view_found, note_of, view_beside, mapped_view, noted_view, note_phase, note_owner, is_own_view, kept_view, shadow_view, marked_note, phased_note, IsNoteChanged, IsMarked, IsLastKept, notes_of}
 use Rattle.byte_shadow.proofs.Changed.{one_pair, same_pair}
-use Rattle.byte_shadow.proofs.ObjectLemmas.{found-push}
 
 notes_alike : (n m : Notes) → ((a c : ℕ) → n.phase a c ≡ m.phase a c) → ((a c : ℕ) → n.owner a c ≡ m.owner a c) → ((a c : ℕ) → n.view a c ≡ m.view a c) → n ≡ m
 notes_alike n m phases owners views i = record { phase = λ a c. phases a c i; owner = λ a c. owners a c i; view = λ a c. views a c i }
@@ -39,35 +33,6 @@ unchanged {X} {Y} read old new at class x put same a c = ap read (put.each a c) 
     chosen : (b : Bool) → (nat_eq at a && nat_eq class c) ≡ b → read (if b then Some x else old a c) ≡ read (old a c)
     chosen true e = let pair = one_pair at class a c e in same ∙ (λ i. read (old (pair.0 i) (pair.1 i)))
     chosen false e = refl
-
--- of a subobject of which nothing is noted no object is listed
-pub unlisted : (found : Option CompleteObject) (mapped : Option Note) → note_phase (note_beside found mapped) ≡ None → found ≡ None
-unlisted None mapped e = refl
-unlisted (Some object) mapped e = cc
-
--- an object is put behind the others
-pub put-pushed : (objects : List CompleteObject) (mapped : ℕ → ℕ → Option Note) (new : CompleteObject) → find (is_object_of new.at new.class) objects ≡ None →
-    IsPut (λ a c. note_beside (find (is_object_of a c) objects) (mapped a c)) (λ a c. note_beside (find (is_object_of a c) (objects ++ new ∷ [])) (mapped a c)) new.at new.class (object_note new)
-put-pushed objects mapped new none = record { each = λ a c. ap (λ found. note_beside found (mapped a c)) (found-push objects new a c none) ∙ chosen a c (nat_eq new.at a && nat_eq new.class c) }
-  where
-    chosen : (a c : ℕ) (b : Bool) → note_beside (if b then Some new else find (is_object_of a c) objects) (mapped a c) ≡ (if b then Some (object_note new) else note_beside (find (is_object_of a c) objects) (mapped a c))
-    chosen a c true = refl
-    chosen a c false = refl
-
--- an object that is listed is changed
-pub put-changed : (objects new : List CompleteObject) (mapped : ℕ → ℕ → Option Note) (object : CompleteObject) (at class : ℕ) (phase : Phase) (own : Bool) → is_object_of at class object ≡ true → IsObjectChanged objects new object phase own →
-    IsPut (λ a c. note_beside (find (is_object_of a c) objects) (mapped a c)) (λ a c. note_beside (find (is_object_of a c) new) (mapped a c)) at class (record { owner = object.at; owner_class = object.class; phase = phase; is_own_view = own })
-put-changed objects new mapped object at class phase own pass changed_to =
-    let pair = one_pair object.at object.class at class pass in
-    let note : Note = record { owner = object.at; owner_class = object.class; phase = phase; is_own_view = own } in
-    record {
-      each = λ a c. ap (λ found. note_beside found (mapped a c)) (changed_to a c) ∙ (chosen a c (nat_eq object.at a && nat_eq object.class c)
-          ∙ (λ i. if nat_eq (pair.0 i) a && nat_eq (pair.1 i) c then Some note else note_beside (find (is_object_of a c) objects) (mapped a c)));
-    }
-  where
-    chosen : (a c : ℕ) (b : Bool) → note_beside (if b then Some (record object { phase = phase; is_own_view = own }) else find (is_object_of a c) objects) (mapped a c) ≡ (if b then Some (record { owner = object.at; owner_class = object.class; phase = phase; is_own_view = own }) else note_beside (find (is_object_of a c) objects) (mapped a c))
-    chosen a c true = refl
-    chosen a c false = refl
 
 marked_phase : (own : Bool) (note : Option Note) → note_phase (marked_note own note) ≡ note_phase note
 marked_phase own None = refl
@@ -100,70 +65,25 @@ phased_notes old new at class before phase there put views =
     (unchanged note_owner (note_of old) (note_of new) at class note put (ap note_owner (sym there)))
     (λ a c i. kept_view a c (unchanged is_own_view (note_of old) (note_of new) at class note put (ap is_own_view (sym there)) a c i) (views a c i))
 
--- what the maps have of a subobject is changed, and the objects stay
-note-changed : (change : Option Note → Option Note) (old new : Shadow) (at class : ℕ) → find (is_object_of at class) old.objects.items.items ≡ None → IsNoteChanged change old.notes new.notes at class → new.objects ≡ old.objects →
-    (a c : ℕ) → note_of new a c ≡ (if nat_eq at a && nat_eq class c then change (note_of old at class) else note_of old a c)
-note-changed change old new at class none changed_to objects a c =
-    (λ i. note_beside (find (is_object_of a c) (objects i).items.items) (changed_to a c i)) ∙ chosen (nat_eq at a && nat_eq class c) refl
-  where
-    chosen : (b : Bool) → (nat_eq at a && nat_eq class c) ≡ b →
-        note_beside (find (is_object_of a c) old.objects.items.items) (if b then change (mapped_note old.notes at class) else mapped_note old.notes a c) ≡ (if b then change (note_of old at class) else note_of old a c)
-    chosen true e =
-        let pair = one_pair at class a c e in
-        let here : find (is_object_of a c) old.objects.items.items ≡ None = (λ i. find (is_object_of (sym pair.0 i) (sym pair.1 i)) old.objects.items.items) ∙ none in
-        ap (λ found. note_beside found (change (mapped_note old.notes at class))) here ∙ ap (λ found. change (note_beside found (mapped_note old.notes at class))) (sym none)
-    chosen false e = refl
-
--- an object is changed, and the map stays
-put-object : (old new : Shadow) (at class : ℕ) (object : CompleteObject) (phase : Phase) (own : Bool) → find (is_object_of at class) old.objects.items.items ≡ Some object → IsObjectChanged old.objects.items.items new.objects.items.items object phase own → new.notes ≡ old.notes →
-    IsPut (note_of old) (note_of new) at class (record { owner = object.at; owner_class = object.class; phase = phase; is_own_view = own })
-put-object old new at class object phase own found changed_to notes =
-    let pass : is_object_of at class object ≡ true = (find_passes (is_object_of at class) old.objects.items.items object found).1 in
-    let put = put-changed old.objects.items.items new.objects.items.items (mapped_note old.notes) object at class phase own pass changed_to in
-    record { each = λ a c. (λ i. note_beside (find (is_object_of a c) new.objects.items.items) (mapped_note (notes i) a c)) ∙ put.each a c }
-
 -- the view that is noted stays
 views_alike : (old new : Shadow) → new.last ≡ old.last → new.views ≡ old.views → (a c : ℕ) → noted_view new a c ≡ noted_view old a c
-views_alike old new last views a c i = view_beside (last i) a c (get_by (same_place (shadow_place a c)) (views i))
-
-pub begun-pushed : (old new : Shadow) (at class owner owner_class : ℕ) → (notes_of old).phase at class ≡ None → at ≡ owner → class ≡ owner_class →
-    new.objects.items.items ≡ old.objects.items.items ++ (record { at = at; class = class; phase = Raw; is_own_view = false }) ∷ [] → new.notes ≡ old.notes → new.last ≡ old.last → new.views ≡ old.views →
-    notes_of new ≡ noted_raw (notes_of old) at class owner owner_class
-unfolding notes_of
-begun-pushed old new at class owner owner_class none e f pushed notes last views =
-    let objects : List CompleteObject = old.objects.items.items in
-    let object : CompleteObject = record { at = at; class = class; phase = Raw; is_own_view = false } in
-    let unheard : find (is_object_of at class) objects ≡ None = unlisted (find (is_object_of at class) objects) (mapped_note old.notes at class) none in
-    let put = put-pushed objects (mapped_note old.notes) object unheard in
-    let now : (a c : ℕ) → note_of new a c ≡ note_beside (find (is_object_of a c) (objects ++ object ∷ [])) (mapped_note old.notes a c) = λ a c i. note_beside (find (is_object_of a c) (pushed i)) (mapped_note (notes i) a c) in
-    let own : object_note object ≡ record { owner = owner; owner_class = owner_class; phase = Raw; is_own_view = false } = λ i. record { owner = e i; owner_class = f i; phase = Raw; is_own_view = false } in
-    begun_notes old new at class owner owner_class none
-    (record { each = λ a c. now a c ∙ (put.each a c ∙ ap (λ (x : Note). if nat_eq at a && nat_eq class c then Some x else note_of old a c) own) })
-    (views_alike old new last views)
+views_alike old new last views a c i = view_beside (last i) a c (view_found (views i) a c)
 
 pub begun-mapped : (old new : Shadow) (at class owner owner_class : ℕ) → (notes_of old).phase at class ≡ None → IsNoteChanged (λ before. Some (record { owner = owner; owner_class = owner_class; phase = Raw; is_own_view = false })) old.notes new.notes at class →
-    new.objects ≡ old.objects → new.last ≡ old.last → new.views ≡ old.views → notes_of new ≡ noted_raw (notes_of old) at class owner owner_class
+    new.last ≡ old.last → new.views ≡ old.views → notes_of new ≡ noted_raw (notes_of old) at class owner owner_class
 unfolding notes_of
-begun-mapped old new at class owner owner_class none put objects last views =
-    let unheard : find (is_object_of at class) old.objects.items.items ≡ None = unlisted (find (is_object_of at class) old.objects.items.items) (mapped_note old.notes at class) none in
-    let note : Note = record { owner = owner; owner_class = owner_class; phase = Raw; is_own_view = false } in
-    begun_notes old new at class owner owner_class none (record { each = note-changed (λ before. Some note) old new at class unheard put objects }) (views_alike old new last views)
+begun-mapped old new at class owner owner_class none put last views = begun_notes old new at class owner owner_class none (record { each = put }) (views_alike old new last views)
 
-pub phased-changed : (old new : Shadow) (at class : ℕ) (object : CompleteObject) (phase : Phase) → find (is_object_of at class) old.objects.items.items ≡ Some object → IsObjectChanged old.objects.items.items new.objects.items.items object phase object.is_own_view →
-    new.notes ≡ old.notes → new.last ≡ old.last → new.views ≡ old.views → notes_of new ≡ phased (notes_of old) at class phase
-phased-changed old new at class object phase found changed_to notes last views =
-    phased_notes old new at class (object_note object) phase (ap (λ f. note_beside f (mapped_note old.notes at class)) found) (put-object old new at class object phase object.is_own_view found changed_to notes) (views_alike old new last views)
-
-pub phased-mapped : (old new : Shadow) (at class : ℕ) (phase : Phase) → ((notes_of old).phase at class ≡ None → ⊥) → find (is_object_of at class) old.objects.items.items ≡ None → IsNoteChanged (phased_note phase) old.notes new.notes at class →
-    new.objects ≡ old.objects → new.last ≡ old.last → new.views ≡ old.views → notes_of new ≡ phased (notes_of old) at class phase
+pub phased-mapped : (old new : Shadow) (at class : ℕ) (phase : Phase) → ((notes_of old).phase at class ≡ None → ⊥) → IsNoteChanged (phased_note phase) old.notes new.notes at class →
+    new.last ≡ old.last → new.views ≡ old.views → notes_of new ≡ phased (notes_of old) at class phase
 unfolding notes_of
-phased-mapped old new at class phase some none changed_to objects last views = by_note (note_of old at class) refl
+phased-mapped old new at class phase some changed_to last views = by_note (note_of old at class) refl
   where
     by_note : (note : Option Note) → note_of old at class ≡ note → notes_of new ≡ phased (notes_of old) at class phase
     by_note None there = absurd (some (ap note_phase there))
     by_note (Some before) there =
         phased_notes old new at class before phase there
-        (record { each = λ a c. note-changed (phased_note phase) old new at class none changed_to objects a c ∙ ap (λ (n : Option Note). if nat_eq at a && nat_eq class c then phased_note phase n else note_of old a c) there })
+        (record { each = λ a c. changed_to a c ∙ ap (λ (n : Option Note). if nat_eq at a && nat_eq class c then phased_note phase n else note_of old a c) there })
         (views_alike old new last views)
 
 -- the notes after one was marked_note, where other complete objects keep their view
@@ -190,34 +110,17 @@ viewed_notes old new owner owner_class at class own notes others there =
         let view : noted_view new a c ≡ noted_view old a c = others a c e in
         rw (note, view) refl
 
--- a note that was there is marked_note
-pub marked_note-put : (old new : Shadow) (at class : ℕ) (before : Note) (own : Bool) → note_of old at class ≡ Some before → IsPut (note_of old) (note_of new) at class (record before { is_own_view = own }) → new.last ≡ old.last → new.views ≡ old.views → IsMarked old new at class own
-marked_note-put old new at class before own there put last views = record {
-  notes = λ a c. put.each a c ∙ ap (λ (n : Option Note). if nat_eq at a && nat_eq class c then n else note_of old a c) (sym (ap (marked_note own) there));
-  last = last;
-  views = views;
-}
-
-pub marked-changed : (old new : Shadow) (at class : ℕ) (object : CompleteObject) (own : Bool) → find (is_object_of at class) old.objects.items.items ≡ Some object → IsObjectChanged old.objects.items.items new.objects.items.items object object.phase own →
-    new.notes ≡ old.notes → new.last ≡ old.last → new.views ≡ old.views → IsMarked old new at class own
-marked-changed old new at class object own found changed_to notes last views =
-    marked_note-put old new at class (object_note object) own (ap (λ f. note_beside f (mapped_note old.notes at class)) found) (put-object old new at class object object.phase own found changed_to notes) last views
-
-pub marked-mapped : (old new : Shadow) (at class : ℕ) (own : Bool) → find (is_object_of at class) old.objects.items.items ≡ None → IsNoteChanged (marked_note own) old.notes new.notes at class →
-    new.objects ≡ old.objects → new.last ≡ old.last → new.views ≡ old.views → IsMarked old new at class own
-marked-mapped old new at class own none changed_to objects last views = record { notes = note-changed (marked_note own) old new at class none changed_to objects; last = last; views = views }
-
 not_own : (note : Option Note) → is_own_view (marked_note false note) ≡ false
 not_own None = refl
 not_own (Some note) = refl
 
 -- the view that was set last, of another complete object, is put into the map
-pub last-put : (old new : Shadow) (last : Viewed) (owner : Place) → old.last ≡ Some last → new.objects ≡ old.objects → new.notes ≡ old.notes → IsPut (mapped_view old) (mapped_view new) last.owner.at last.owner.class last.view → IsLastKept old new owner
-last-put old new last owner there objects notes put = record { objects = objects; notes = notes; views = λ a c e. put.each a c ∙ ap (λ l. view_beside l a c (mapped_view old a c)) (sym there) }
+pub last-put : (old new : Shadow) (last : Viewed) (owner : Place) → old.last ≡ Some last → new.notes ≡ old.notes → IsPut (mapped_view old) (mapped_view new) last.owner.at last.owner.class last.view → IsLastKept old new owner
+last-put old new last owner there notes put = record { notes = notes; views = λ a c e. put.each a c ∙ ap (λ l. view_beside l a c (mapped_view old a c)) (sym there) }
 
 -- it is that of the complete object
 pub last-same : (old : Shadow) (last : Viewed) (owner : Place) → old.last ≡ Some last → (nat_eq last.owner.at owner.at && nat_eq last.owner.class owner.class) ≡ true → IsLastKept old old owner
-last-same old last owner there same = record { objects = refl; notes = refl; views = λ a c e. sym (ap (λ l. view_beside l a c (mapped_view old a c)) there ∙ other a c e) }
+last-same old last owner there same = record { notes = refl; views = λ a c e. sym (ap (λ l. view_beside l a c (mapped_view old a c)) there ∙ other a c e) }
   where
     other : (a c : ℕ) → (nat_eq owner.at a && nat_eq owner.class c) ≡ false → view_beside (Some last) a c (mapped_view old a c) ≡ mapped_view old a c
     other a c e =
@@ -227,16 +130,16 @@ last-same old last owner there same = record { objects = refl; notes = refl; vie
 
 -- none was set
 pub last-none : (old : Shadow) (owner : Place) → old.last ≡ None → IsLastKept old old owner
-last-none old owner there = record { objects = refl; notes = refl; views = λ a c e. sym (ap (λ l. view_beside l a c (mapped_view old a c)) there) }
+last-none old owner there = record { notes = refl; views = λ a c e. sym (ap (λ l. view_beside l a c (mapped_view old a c)) there) }
 
 -- a view that is noted beside
-pub viewed-beside : (old kept mid new : Shadow) (owner owner_class at class : ℕ) → IsLastKept old kept (shadow_place owner owner_class) → mid.objects ≡ kept.objects → mid.notes ≡ kept.notes → mid.views ≡ kept.views →
+pub viewed-beside : (old kept mid new : Shadow) (owner owner_class at class : ℕ) → IsLastKept old kept (shadow_place owner owner_class) → mid.notes ≡ kept.notes → mid.views ≡ kept.views →
     mid.last ≡ Some (record { owner = shadow_place owner owner_class; view = shadow_place at class }) → IsMarked mid new owner owner_class false →
     notes_of new ≡ viewed (notes_of old) owner owner_class at class
-viewed-beside old kept mid new owner owner_class at class is objects mapped views last mark = viewed_notes old new owner owner_class at class false notes others there
+viewed-beside old kept mid new owner owner_class at class is mapped views last mark = viewed_notes old new owner owner_class at class false notes others there
   where
     before : (a c : ℕ) → note_of mid a c ≡ note_of old a c
-    before a c = rw (objects, mapped, is.objects, is.notes) refl
+    before a c = rw (mapped, is.notes) refl
 
     notes : (a c : ℕ) → note_of new a c ≡ (if nat_eq owner a && nat_eq owner_class c then marked_note false (note_of old owner owner_class) else note_of old a c)
     notes a c = mark.notes a c ∙ (λ i. if nat_eq owner a && nat_eq owner_class c then marked_note false (before owner owner_class i) else before a c i)

@@ -1,3 +1,3 @@
 pub mod Shadows
-pub mod Objects
+pub mod NearLists
 pub mod Meaning

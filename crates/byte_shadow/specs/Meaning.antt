@@ -1,17 +1,18 @@
 -- What a shadow notes.
-use Rattle.std.specs.Prelude.{◌≡◌, ℕ, ◌^◌, Bool, true, false, nat_eq, nat_lt, ◌&&◌, if◌then◌else◌, Option, Some, None, option_map, option_and_then}
+use Rattle.std.specs.Prelude.{◌≡◌, ℕ, ◌+◌, ◌-◌, ◌^◌, ◌<◌, ◌≤◌, Bool, true, false, nat_eq, ◌&&◌, if◌then◌else◌, Option, Some, None, option_map, ⊤}
 use Rattle.std.specs.List.{find}
+use Rattle.std.specs.Option.{option_or}
 use Rattle.indexmap.specs.IndexMap.{get_by}
 use Rattle.byte_code.specs.declared.op.Phase.{Phase}
-use Rattle.byte_shadow.specs.declared.objects.CompleteObject.{CompleteObject}
 use Rattle.byte_shadow.specs.declared.note.Place.{Place}
-use Rattle.byte_shadow.specs.declared.short.ShortPlace.{ShortPlace}
-use Rattle.byte_shadow.specs.declared.short.ShortNote.{ShortNote}
+use Rattle.byte_shadow.specs.declared.near_list.NearPlace.{NearPlace}
 use Rattle.byte_shadow.specs.declared.note_map.NoteMap.{NoteMap}
 use Rattle.byte_shadow.specs.declared.shadow.Viewed.{Viewed}
 use Rattle.byte_shadow.specs.declared.note.Note.{Note}
+use Rattle.byte_shadow.specs.declared.note.NoteState.{NoteState}
+use Rattle.byte_shadow.specs.declared.view_map.ViewMap.{ViewMap}
 use Rattle.byte_shadow.specs.declared.shadow.Shadow.{Shadow}
-use Rattle.byte_shadow.specs.Objects.{is_object_of}
+use Rattle.byte_shadow.specs.NearLists.{is_near_at}
 use Rattle.byte_shadow.specs.Shadows.{Notes}
 
 abbrev pub shadow_place : ℕ → ℕ → Place
@@ -20,40 +21,29 @@ shadow_place at class = record { at = at; class = class }
 abbrev pub same_place : Place → Place → Bool
 same_place p q = nat_eq p.at q.at && nat_eq p.class q.class
 
--- a complete object is its own
-abbrev pub object_note : CompleteObject → Note
-object_note object = record { owner = object.at; owner_class = object.class; phase = object.phase; is_own_view = object.is_own_view }
-
--- the short place of an address and a class, where the address has at most 32 bits
-abbrev pub short_place : ℕ → ℕ → Option ShortPlace
-short_place at class = if nat_lt at (2 ^ 32) then Some (record { at = at; class = class }) else None
-
-abbrev pub same_short_place : ShortPlace → ShortPlace → Bool
-same_short_place p q = nat_eq p.at q.at && nat_eq p.class q.class
-
 -- the note that a short one stands for
-abbrev pub wide_note : ShortNote → Note
-wide_note short = record { owner = short.owner; owner_class = short.owner_class; phase = short.phase; is_own_view = short.is_own_view }
+abbrev pub wide_note : NearPlace NoteState → Note
+wide_note short = record { owner = short.at - short.distance; owner_class = short.other_class; phase = short.what.phase; is_own_view = short.what.is_own_view }
 
-abbrev pub short_found : NoteMap → ℕ → ℕ → Option ShortNote
-short_found map at class = option_and_then (λ place. get_by (same_short_place place) map.short) (short_place at class)
+-- a note for 12 bytes: its address has at most 32 bits, and the numbers of both classes and the way back to its complete object 16
+pub record FitsShort (at class : ℕ) (note : Note) : Type 0 where
+  pub address : at < 2 ^ 32
+  pub number : class < 2 ^ 16
+  pub owner_class : note.owner_class < 2 ^ 16
+  pub owner : note.owner ≤ at
+  pub behind : at - note.owner < 2 ^ 16
 
--- what a short note stands for, or else what stands in the map of the others
-abbrev pub short_beside : Option ShortNote → Option Note → Option Note
-short_beside None wide = wide
-short_beside (Some short) wide = Some (wide_note short)
+-- what a note that is listed stands for, or else what stands in the map of the others
+abbrev pub note_beside : Option (NearPlace NoteState) → Option Note → Option Note
+note_beside None wide = wide
+note_beside (Some short) wide = Some (wide_note short)
 
--- what stands in the maps of a subobject
+-- what is noted of a subobject: what the list has of it, or else the map
 abbrev pub mapped_note : NoteMap → ℕ → ℕ → Option Note
-mapped_note map at class = short_beside (short_found map at class) (get_by (same_place (shadow_place at class)) map.wide)
-
--- what is noted of an object that is listed, or else what stands in the maps
-abbrev pub note_beside : Option CompleteObject → Option Note → Option Note
-note_beside None mapped = mapped
-note_beside (Some object) mapped = Some (object_note object)
+mapped_note map at class = note_beside (find (is_near_at at class) map.list.items.items) (get_by (same_place (shadow_place at class)) map.wide)
 
 abbrev pub note_of : Shadow → ℕ → ℕ → Option Note
-note_of shadow at class = note_beside (find (is_object_of at class) shadow.objects.items.items) (mapped_note shadow.notes at class)
+note_of shadow at class = mapped_note shadow.notes at class
 
 abbrev pub place_pair : Place → ℕ × ℕ
 place_pair p = (p.at, p.class)
@@ -71,8 +61,24 @@ abbrev pub view_beside : Option Viewed → ℕ → ℕ → Option Place → Opti
 view_beside None at class view = view
 view_beside (Some last) at class view = if nat_eq last.owner.at at && nat_eq last.owner.class class then Some last.view else view
 
+-- the view that a short one stands for
+abbrev pub wide_view : NearPlace ⊤ → Place
+wide_view short = record { at = short.at + short.distance; class = short.other_class }
+
+-- the view that is listed of a complete object
+abbrev pub short_found : ViewMap → ℕ → ℕ → Option Place
+short_found map at class = option_map wide_view (find (is_near_at at class) map.list.items.items)
+
+-- the view of a complete object: what the map has of it, or else the list
+abbrev pub view_found : ViewMap → ℕ → ℕ → Option Place
+view_found map at class = option_or (get_by (same_place (shadow_place at class)) map.wide) (short_found map at class)
+
+-- a complete object has this view, and each other one has the view that it had
+abbrev pub IsViewPut : (old new : ViewMap) (owner view : Place) → Type 0
+IsViewPut old new owner view = (a c : ℕ) → view_found new a c ≡ (if nat_eq owner.at a && nat_eq owner.class c then Some view else view_found old a c)
+
 abbrev pub mapped_view : Shadow → ℕ → ℕ → Option Place
-mapped_view shadow at class = get_by (same_place (shadow_place at class)) shadow.views
+mapped_view shadow at class = view_found shadow.views at class
 
 abbrev pub noted_view : Shadow → ℕ → ℕ → Option Place
 noted_view shadow at class = view_beside shadow.last at class (mapped_view shadow at class)
@@ -103,7 +109,7 @@ abbrev pub phased_note : Phase → Option Note → Option Note
 phased_note phase None = None
 phased_note phase (Some note) = Some (record note { phase = phase })
 
--- what the maps have of one subobject was changed, and all else is as it was
+-- what is noted of one subobject was changed, and all else is as it was
 abbrev pub IsNoteChanged : (Option Note → Option Note) → (old new : NoteMap) (at class : ℕ) → Type 0
 IsNoteChanged change old new at class = (a c : ℕ) → mapped_note new a c ≡ (if nat_eq at a && nat_eq class c then change (mapped_note old at class) else mapped_note old a c)
 
@@ -115,7 +121,6 @@ pub record IsMarked (old new : Shadow) (at class : ℕ) (own : Bool) : Type 0 wh
 
 -- the view that was set last stands in the map too, but where it is that of a complete object; all else is as it was
 pub record IsLastKept (old new : Shadow) (owner : Place) : Type 0 where
-  pub objects : new.objects ≡ old.objects
   pub notes : new.notes ≡ old.notes
   pub views : (a c : ℕ) → (nat_eq owner.at a && nat_eq owner.class c) ≡ false → mapped_view new a c ≡ noted_view old a c
 

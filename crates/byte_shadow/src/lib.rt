@@ -5,19 +5,19 @@
 //! the phase of the subobject, the complete object that it belongs to, and of a complete object its view (ISO C++03 3.8 p1, 12.7
 //! say what a program may do in which phase). Nothing here knows a declaration or reads a byte.
 //!
-//! Complete objects stand in a list by address (`objects`), and other subobjects in a map of what is noted of them (`note_map`),
-//! in half the bytes where the numbers are small (`short`).
+//! Most notes stand in a sorted list of 12 bytes each (`near_list`), and those of large numbers, or that come long after their
+//! neighbours, in a map (`note_map`). Views of complete objects stand in a list and a map of the same kind (`view_map`).
 //!
 //! The layer above may rely on the contracts of the calls, each one equation over `notes_of`, and on the lemmas of
 //! `proofs/Changed.antt`, which say what a changed function gives at the pair that was changed and at any other. `begin` and
 //! `set_view` take memory.
 #![tactic(auto, unfolding(crate::specs::Meaning::notes_of))]
 
+mod near_list;
 mod note;
 mod note_map;
-mod objects;
 mod shadow;
-mod short;
+mod view_map;
 
 pub use crate::shadow::Shadow;
 pub use byte_code::Phase;

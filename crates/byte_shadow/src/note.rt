@@ -18,3 +18,10 @@ pub struct Note {
     pub phase: Phase,
     pub is_own_view: bool,
 }
+
+/// The phase of a subobject, and whether it is a complete object that is the view of itself.
+#[derive(Clone, Copy)]
+pub struct NoteState {
+    pub phase: Phase,
+    pub is_own_view: bool,
+}

@@ -2,14 +2,13 @@
 
 ghost use Rattle.std.specs.Prelude.{◌≡◌, ◌≢◌, None, OnOk, OnErr};
 ghost use Rattle.byte_shadow.specs.Shadows.{no_notes, noted_raw, phased, viewed, is_ready_phase, ready_at};
-ghost use Rattle.byte_shadow.specs.Meaning.{same_place, shadow_place, object_note, note_of, place_pair, note_phase, note_owner, view_pair, is_own_view, noted_view, IsMarked, IsLastKept, notes_of};
+ghost use Rattle.byte_shadow.specs.Meaning.{same_place, note_of, place_pair, is_own_view, noted_view, IsMarked, IsLastKept, notes_of};
 
 use crate::note::{Note, Place};
 use crate::note_map::NoteMap;
-use crate::objects::{CompleteObject, ObjectList};
+use crate::view_map::ViewMap;
 use byte_code::Phase;
 use foundation::NoMemory;
-use indexmap::IndexMap;
 use std::alloc::Global;
 
 fn pair_of(place: Place) -> (u64, u32)
@@ -38,27 +37,13 @@ pub struct Viewed {
 /// What is noted of class subobjects, by their address and the number of their class: the phase of each, the complete object
 /// that it belongs to, and of a complete object its view. Addresses are in bytes.
 ///
-/// A complete object that is noted behind all others, by its address, stands in a list, and all other subobjects in maps. That a
-/// complete object is the view of itself stands in its note. Other views have a map of their own, since few subobjects are
+/// That a complete object is the view of itself stands in its note. Other views have a map of their own, since few subobjects are
 /// complete objects; the one that was set last stands beside it, since the view of one object changes many times in a row.
 #[derive(Drop)]
 pub struct Shadow {
-    objects: ObjectList,
     notes: NoteMap,
     last: Option<Viewed>,
-    views: IndexMap<Place, Place>,
-}
-
-/// What is noted of a complete object as a subobject of itself.
-fn note_from(object: CompleteObject) -> Note
-    ensures { result ≡ object_note object }
-{
-    Note {
-        owner: object.at,
-        owner_class: object.class,
-        phase: object.phase,
-        is_own_view: object.is_own_view,
-    }
+    views: ViewMap,
 }
 
 fn is_same(place: Place, other: Place) -> bool
@@ -73,20 +58,16 @@ impl Shadow {
         ensures { notes_of result ≡ no_notes }
     {
         Shadow {
-            objects: ObjectList::new(alloc),
             notes: NoteMap::new(alloc),
             last: None,
-            views: IndexMap::new(alloc),
+            views: ViewMap::new(alloc),
         }
     }
 
     fn note(&self, at: u64, class: u32) -> Option<Note>
         ensures { result ≡ note_of self.now at class }
     {
-        match self.objects.index_of(at, class) {
-            Some(index) => Some(note_from(self.objects.items[index])),
-            None => self.notes.get(at, class),
-        }
+        self.notes.get(at, class)
     }
 
     /// Whether a subobject is noted as the view of itself.
@@ -113,15 +94,6 @@ impl Shadow {
         ensures ok { OnOk result (notes_of self.new ≡ noted_raw (notes_of self.old) at class owner owner_class) }
         ensures err { OnErr result (notes_of self.new ≡ notes_of self.old) }
     {
-        if at == owner && class == owner_class && self.objects.are_below(at) {
-            self.objects.push(CompleteObject {
-                at,
-                class,
-                phase: Phase::Raw,
-                is_own_view: false,
-            })?;
-            return Ok(());
-        }
         let note = Note {
             owner,
             owner_class,
@@ -137,13 +109,7 @@ impl Shadow {
         requires { (notes_of self.old).phase at class ≢ None }
         ensures { notes_of self.new ≡ phased (notes_of self.old) at class phase }
     {
-        match self.objects.index_of(at, class) {
-            Some(index) => {
-                let is_own_view = self.objects.items[index].is_own_view;
-                self.objects.change(index, phase, is_own_view);
-            }
-            None => self.notes.set_phase(at, class, phase),
-        }
+        self.notes.set_phase(at, class, phase);
     }
 
     /// The phase of a subobject, if it is noted.
@@ -167,13 +133,7 @@ impl Shadow {
     fn mark(&mut self, at: u64, class: u32, is_own_view: bool)
         ensures { IsMarked self.old self.new at class is_own_view }
     {
-        match self.objects.index_of(at, class) {
-            Some(index) => {
-                let phase = self.objects.items[index].phase;
-                self.objects.change(index, phase, is_own_view);
-            }
-            None => self.notes.mark(at, class, is_own_view),
-        }
+        self.notes.mark(at, class, is_own_view);
     }
 
     /// Puts the view that was set last into the map, unless it is that of the complete object.
@@ -189,7 +149,7 @@ impl Shadow {
                 if is_same(last.owner, owner) {
                     return Ok(());
                 }
-                self.views.insert(last.owner, last.view)?;
+                self.views.set(last.owner, last.view)?;
                 Ok(())
             }
         }
@@ -230,12 +190,12 @@ impl Shadow {
         ensures { result ≡ noted_view self.now owner.at owner.class }
     {
         match self.last {
-            None => self.views.get(&owner).copied(),
+            None => self.views.get(owner),
             Some(last) => {
                 if is_same(last.owner, owner) {
                     Some(last.view)
                 } else {
-                    self.views.get(&owner).copied()
+                    self.views.get(owner)
                 }
             }
         }

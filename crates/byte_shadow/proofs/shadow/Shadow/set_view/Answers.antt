@@ -12,5 +12,5 @@ pub returns-clause-ok : goal.returns-clause-ok
 returns-clause-ok c =
     let kept = c.keep_last.new.self in
     viewed-beside c.args.self.now kept
-    (record { objects = kept.objects; notes = kept.notes; last = Some (record { owner = shadow_place c.args.owner c.args.owner_class; view = shadow_place c.args.at c.args.class }); views = kept.views })
-    c.mark-2.new.self c.args.owner c.args.owner_class c.args.at c.args.class c.in_ok-keep_last.ensures.ok refl refl refl refl c.mark-2.ensures
+    (record { notes = kept.notes; last = Some (record { owner = shadow_place c.args.owner c.args.owner_class; view = shadow_place c.args.at c.args.class }); views = kept.views })
+    c.mark-2.new.self c.args.owner c.args.owner_class c.args.at c.args.class c.in_ok-keep_last.ensures.ok refl refl refl c.mark-2.ensures
