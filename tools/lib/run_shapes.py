@@ -155,6 +155,20 @@ def open_bases(part):
     return f"struct C0 {{ C0() {{ X* p = new X; }} }};\n{chain}struct X : C{count - 1} {{}};\nint main() {{ X* p = new X; }}\n"
 
 
+def open_members(part):
+    """Objects of 480 classes, by turns one that is a member of the next and one that is its base, each made by the constructor of the innermost of the one before."""
+    pairs = "".join(f"struct B{n} {{ bool b; M{n - 1} m; }};\nstruct M{n} : B{n} {{}};\n" for n in range(1, 480 // part))
+    return f"struct M0 {{ M0() {{ X* p = new X; }} }};\n{pairs}struct X : M{480 // part - 1} {{}};\nint main() {{ X* p = new X; }}\n"
+
+
+def open_behind_others(part):
+    """The objects of open_bases with 30 virtual bases, which are constructed first and lie behind all others."""
+    virtual = [f"V{n}" for n in range(30)]
+    held = "".join(f"struct {name} {{ bool v; }};\n" for name in virtual)
+    classes, main = open_bases(part).split("struct X : ")
+    return held + f"{classes}struct X : {', '.join(f'virtual {name}' for name in virtual)}, {main}"
+
+
 def spread_objects(part):
     """Objects of 250 bytes, of which nothing is set, until the heap is full: parts with many leaves between them."""
     return f"struct A {{ bool b[{250 * part}]; }};\nint main() {{ while (true) {{ A* p = new A; }} }}\n"
@@ -176,11 +190,21 @@ def set_leaves(part):
     return f"{SET_CLASSES}int main() {{ {set_object()}{turns} }}\n"
 
 
+def fill_and_open(opened, part):
+    """A heap that is full of set leaves, and then the objects of another shape with as many steps as are left."""
+    turns = f"long n = 0; bool more = true; while (more) {{ B* c = new B; *c = *b; n = n + 1; more = n < {1060 // part}; }}"
+    classes, main = opened(part).split("int main() { ")
+    return f"{SET_CLASSES}{classes}int main() {{ {set_object()}{turns} {main}"
+
+
 def set_and_open(part):
     """A heap that is full of set leaves, and as many open bases as steps are left."""
-    turns = f"long n = 0; bool more = true; while (more) {{ B* c = new B; *c = *b; n = n + 1; more = n < {1080 // part}; }}"
-    classes, main = open_bases(part).split("int main() { ")
-    return f"{SET_CLASSES}{classes}int main() {{ {set_object()}{turns} {main}"
+    return fill_and_open(open_bases, part)
+
+
+def set_and_open_members(part):
+    """The same with the objects of open_members."""
+    return fill_and_open(open_members, part)
 
 
 def set_bits(part):
@@ -191,4 +215,5 @@ def set_bits(part):
     return f"struct A {{{fields} }};\nint main() {{ A* a = new A; {each}while (true) {{ A* c = new A; *c = *a; }} }}\n"
 
 
+WORST = [open_bases, open_members, open_behind_others, spread_objects, set_leaves, set_bits, set_and_open, set_and_open_members]
 RUNS = [loop, calls, thunks, shared_thunks, casts, cross_casts, small_news, news, deep_news, shared_news, copies, many_objects, text, dump, dumps]

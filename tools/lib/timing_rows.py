@@ -56,18 +56,17 @@ def made_row(shape):
     return row("run", shape, lambda part: shapes.with_main(shape(part)))
 
 
-def room_row(shape, most, command="paths", words=("--steps", BUDGET)):
+def room_row(shape, most, command="paths"):
     """A run that meets a limit, or has no step left, with the megabytes that it may have in use."""
     what = spelled(shape) if command == "paths" else f"{spelled(shape)} by {command}"
-    limits = ("limit L8", "limit L10", "out of steps 1000000")
-    return Row(f"{command}-{spelled(shape)}", "paths", what, lambda part: [command, *words], shape, limits=limits, most=most)
+    limits = ("limit L8", "limit L10", f"out of steps {BUDGET}")
+    return Row(f"{command}-{spelled(shape)}", "paths", what, lambda part: [command, "--steps", BUDGET], shape, limits=limits, most=most)
 
 
 def room_rows():
-    """The worst sources that are known, by the memory that a run takes. The last two have as many steps as where the words give no budget."""
+    """The worst sources that are known, by the memory that a run takes."""
     return [room_row(run_shapes.large_arrays, 50), room_row(run_shapes.deep_members, 50),
-            *[room_row(shape, 300, command) for shape in (run_shapes.open_bases, run_shapes.spread_objects, run_shapes.set_leaves) for command in ("paths", "run")],
-            *[room_row(shape, 300, command, ()) for shape in (run_shapes.set_bits, run_shapes.set_and_open) for command in ("paths", "run")]]
+            *[room_row(shape, 300, command) for shape in run_shapes.WORST for command in ("paths", "run")]]
 
 
 def gen_row():
