@@ -3,6 +3,7 @@ use Rattle.std.proofs.Common.{◌≡◌, ℕ, zero, suc, ◌<◌, ◌≤◌, ◌
 use Rattle.std.specs.Prelude.{IfSome, IfOk, MatchOption}
 use Rattle.std.proofs.lemmas.List.{length-take}
 use Rattle.foundation.specs.declared.memory.NoMemory.{NoMemory as Want}
+use Rattle.foundation.specs.Limits.{source_limit}
 use Rattle.cxx_hierarchy.specs.declared.stop.LimitNo.TheVariants.{L1}
 use Rattle.cxxabi_cmd.specs.declared.reply.Reply.{Reply}
 use Rattle.cxxabi_words.specs.declared.command.Command.{Command}
@@ -17,13 +18,13 @@ use Rattle.cxxabi_cmd.specs.Handed.{SeenMachine, HandsOut}
 use Rattle.cxxabi_cmd.specs.invariants.Replies.{as_answer, machine_of, IsReadToLimit}
 
 -- more than the limit was read
-pub limit_output : (r : Result Reply Want) (bytes : List ℕ) (command : Command) → IfOk r (λ reply. as_answer reply ≡ line_alone (Limit L1)) → 262144 < length bytes →
+pub limit_output : (r : Result Reply Want) (bytes : List ℕ) (command : Command) → IfOk r (λ reply. as_answer reply ≡ line_alone (Limit L1)) → source_limit < length bytes →
     IfOk r (λ reply. (words : List (List ℕ)) (given : List ℕ) → Says words command → IsReadToLimit bytes (input_of command given) → Output words given (as_answer reply))
 limit_output (Ok reply) bytes command alone long = λ words given says read. subst (λ a. Output words given a) (sym alone) (too_long command says (read.more long))
 limit_output (Err e) bytes command alone long = alone
 
 -- all was read
-pub read_output : (r : Result Reply Want) (bytes : List ℕ) (command : Command) → IfOk r (λ reply. (words : List (List ℕ)) (given : List ℕ) → Says words command → bytes ≡ input_of command given → Output words given (as_answer reply)) → length bytes ≤ 262144 →
+pub read_output : (r : Result Reply Want) (bytes : List ℕ) (command : Command) → IfOk r (λ reply. (words : List (List ℕ)) (given : List ℕ) → Says words command → bytes ≡ input_of command given → Output words given (as_answer reply)) → length bytes ≤ source_limit →
     IfOk r (λ reply. (words : List (List ℕ)) (given : List ℕ) → Says words command → IsReadToLimit bytes (input_of command given) → Output words given (as_answer reply))
 read_output (Ok reply) bytes command output short = λ words given says read. output words given says (read.whole short)
 read_output (Err e) bytes command output short = output
@@ -46,18 +47,18 @@ broken_off words bytes before after answer written output is part =
     record { answer = answer; output = output; part = subst (λ (t : List ℕ). IfSome before (λ taken. AddsFrontOf taken t after)) is part }
 
 -- no machine for a text that is too long
-pub limit_machine : (r : Result Reply Want) (bytes : List ℕ) (command : Command) → IfOk r (λ reply. machine_of reply ≡ None) → 262144 < length bytes →
+pub limit_machine : (r : Result Reply Want) (bytes : List ℕ) (command : Command) → IfOk r (λ reply. machine_of reply ≡ None) → source_limit < length bytes →
     IfOk r (λ reply. (words : List (List ℕ)) (given : List ℕ) → Says words command → IsReadToLimit bytes (input_of command given) → HandsOut words given (machine_of reply))
 limit_machine (Ok reply) bytes command none long =
     λ words given says read. subst (λ (m : Option SeenMachine). HandsOut words given m) (sym none)
     (λ h rows program trace steps has.
     let one : has.command ≡ command = one_command words has.command command has.asked says in
-    let short : length (input_of command given) ≤ 262144 = subst (λ (c : Command). length (input_of c given) ≤ 262144) one has.short in
+    let short : length (input_of command given) ≤ source_limit = subst (λ (c : Command). length (input_of c given) ≤ source_limit) one has.short in
     let more = read.more long in omega (arith, short, more))
 limit_machine (Err e) bytes command none long = none
 
 -- the machine for a text that was read whole
-pub read_machine : (r : Result Reply Want) (bytes : List ℕ) (command : Command) → IfOk r (λ reply. (words : List (List ℕ)) (given : List ℕ) → Says words command → bytes ≡ input_of command given → HandsOut words given (machine_of reply)) → length bytes ≤ 262144 →
+pub read_machine : (r : Result Reply Want) (bytes : List ℕ) (command : Command) → IfOk r (λ reply. (words : List (List ℕ)) (given : List ℕ) → Says words command → bytes ≡ input_of command given → HandsOut words given (machine_of reply)) → length bytes ≤ source_limit →
     IfOk r (λ reply. (words : List (List ℕ)) (given : List ℕ) → Says words command → IsReadToLimit bytes (input_of command given) → HandsOut words given (machine_of reply))
 read_machine (Ok reply) bytes command hands short = λ words given says read. hands words given says (read.whole short)
 read_machine (Err e) bytes command hands short = hands

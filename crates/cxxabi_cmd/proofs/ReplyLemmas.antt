@@ -3,6 +3,7 @@ use Rattle.std.proofs.Common.{◌≡◌, ℕ, suc, ◌≤◌, ◌⊎◌, ⊎_eli
 use Rattle.std.specs.Prelude.{IfOk, slice_get, nat_le, if◌then◌else◌}
 use Rattle.std.specs.Option.{is_some}
 use Rattle.foundation.specs.declared.memory.NoMemory.{NoMemory as Want}
+use Rattle.foundation.specs.Limits.{source_limit}
 use Rattle.cxx_hierarchy.specs.declared.records.ClassId.{ClassId}
 use Rattle.cxx_hierarchy.specs.declared.stop.Stop.{Stop}
 use Rattle.cxx_hierarchy.specs.declared.stop.Stop.TheVariants as stop
@@ -119,7 +120,7 @@ reply_answered (Err w) front size source h typed command is = is
 
 -- what is known of the input of an accepted source or of one that stops: its length, and its parts
 pub record IsDivided (command : Command) (bytes front text : List ℕ) : Type 0 where
-  pub short : length bytes ≤ 262144
+  pub short : length bytes ≤ source_limit
   pub parts : divided_input command bytes ≡ Some (front, text)
 
 -- the output for an accepted source
@@ -199,14 +200,14 @@ stopped_machine (Ok reply) bytes front text command s is same either divided =
 stopped_machine (Err w) bytes front text command s is same either divided = is
 
 -- the output for an input that no line divides
-pub undivided_output : (r : Result Reply Want) (bytes : List ℕ) (command : Command) (rule : InputRule) (line : ℕ) → IfOk r (λ reply. as_answer reply ≡ line_alone (BadInput rule line)) → rule ≡ undivided_rule command → line ≡ suc (line_count bytes) → divided_input command bytes ≡ None → length bytes ≤ 262144 →
+pub undivided_output : (r : Result Reply Want) (bytes : List ℕ) (command : Command) (rule : InputRule) (line : ℕ) → IfOk r (λ reply. as_answer reply ≡ line_alone (BadInput rule line)) → rule ≡ undivided_rule command → line ≡ suc (line_count bytes) → divided_input command bytes ≡ None → length bytes ≤ source_limit →
     IfOk r (λ reply. (words : List (List ℕ)) (given : List ℕ) → Says words command → bytes ≡ input_of command given → Output words given (as_answer reply))
 undivided_output (Ok reply) bytes command rule line is rule_is line_is none short =
     λ words given says treats.
     let same : as_answer reply ≡ line_alone (BadInput (undivided_rule command) (suc (line_count (input_of command given)))) =
     is ∙ (ap (λ (x : InputRule). line_alone (BadInput x line)) rule_is ∙ (ap (λ (n : ℕ). line_alone (BadInput (undivided_rule command) n)) line_is ∙ ap (λ (b : List ℕ). line_alone (BadInput (undivided_rule command) (suc (line_count b)))) treats)) in
     subst (λ (a : Answer). Output words given a) (sym same)
-    (undivided command says (subst (λ (b : List ℕ). length b ≤ 262144) treats short) (subst (λ (b : List ℕ). divided_input command b ≡ None) treats none))
+    (undivided command says (subst (λ (b : List ℕ). length b ≤ source_limit) treats short) (subst (λ (b : List ℕ). divided_input command b ≡ None) treats none))
 undivided_output (Err w) bytes command rule line is rule_is line_is none short = is
 
 undivided_hands : (words : List (List ℕ)) (given : List ℕ) (command : Command) (m : Option SeenMachine) → m ≡ None → Says words command → divided_input command (input_of command given) ≡ None → HandsOut words given m

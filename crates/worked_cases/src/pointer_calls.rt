@@ -1,6 +1,7 @@
 //! The bytes of pointers to data members, as text.
 
 ghost use Rattle.std.specs.Prelude.{◌≤◌, ◌<◌, length};
+ghost use Rattle.foundation.specs.Limits.{source_limit};
 ghost use Rattle.abi_slots.specs.Slots.{AreSlots};
 ghost use Rattle.abi_sound.specs.Places.{places_of};
 ghost use Rattle.cxx_overrider.specs.Overriders.{AreOverriders};
@@ -60,7 +61,7 @@ pub fn pointer_text(
     class: &[u8],
     member: &[u8],
 ) -> Result<String, Stop>
-    requires { length source.now ≤ 262144 }
+    requires { length source.now ≤ source_limit }
 {
     let list = tokens(alloc, source)?;
     let source = parse_source(alloc, source, &list)?;
